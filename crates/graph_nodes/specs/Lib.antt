@@ -1,0 +1,6 @@
+pub mod Graph
+pub mod Checked
+pub mod Cut
+pub mod Out
+pub mod Inside
+pub mod Whole

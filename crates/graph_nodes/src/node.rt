@@ -1,0 +1,107 @@
+use std::alloc::{AllocError, Global};
+use std::marker::Model;
+
+/// A place of a graph that an edge leaves or enters.
+#[derive(Clone, Copy, Debug, PartialEq, Eq)]
+pub enum Place {
+    /// The root, which all files share.
+    Root,
+    /// The place that goes on at the scope in front of the scope stack; all files share it.
+    Jump,
+    /// A node of the file, by its position from 0.
+    At(u32),
+}
+
+/// A part of a text: lines from 0, columns in bytes from 0.
+#[derive(Clone, Copy, Debug, PartialEq, Eq)]
+pub struct Span {
+    pub from_line: u32,
+    pub from_column: u32,
+    pub to_line: u32,
+    pub to_column: u32,
+}
+
+/// An edge of a file's graph. A path by an edge of higher precedence shadows one by an edge of lower.
+#[derive(Clone, Copy, Debug, PartialEq, Eq)]
+pub struct Edge {
+    pub source: Place,
+    pub sink: Place,
+    pub precedence: u16,
+}
+
+/// A symbol's text. A contract sees its bytes, which are UTF-8.
+#[derive(Debug, Drop)]
+pub struct Name {
+    text: String,
+}
+
+impl Model for Name {
+    ghost use Rattle.std.specs.Prelude.{ℕ, List};
+    ghost use Rattle.std.specs.String.{string_bytes};
+
+    ghost Value = { List ℕ };
+
+    ghost view = { λ n. string_bytes n.text };
+}
+
+impl Name {
+    ghost use Rattle.std.specs.Prelude.{◌≡◌, IfOk};
+    ghost use Rattle.std.specs.Str.{IsUtf8};
+
+    /// A name of this text; the one error is want of memory.
+    pub fn of(alloc: Global, text: &str) -> Result<Name, AllocError>
+        ensures { IfOk result (λ name. name ≡ text.now) }
+    {
+        Ok(Name {
+            text: String::from_str(alloc, text)?,
+        })
+    }
+
+    /// The name as text.
+    pub fn as_str(&self) -> &str
+        ensures value { result.now ≡ self.now }
+        ensures utf8 { IsUtf8 self.now }
+    {
+        self.text.as_str()
+    }
+}
+
+/// What a node does to the stacks when it is entered.
+#[derive(Debug, Drop)]
+pub enum NodeKind {
+    /// Leaves the stacks as they are. Where it is exported, a push_scoped node may attach it.
+    Scope {
+        exported: bool,
+    },
+    /// Puts the plain symbol on the symbol stack.
+    Push {
+        symbol: Name,
+        reference: bool,
+    },
+    /// Puts the symbol on the symbol stack with attached scopes: the exported scope at position
+    /// `scope`, followed by the scope stack.
+    PushScoped {
+        symbol: Name,
+        scope: u32,
+        reference: bool,
+    },
+    /// Takes the plain symbol off the symbol stack.
+    Pop {
+        symbol: Name,
+        definition: bool,
+    },
+    /// Takes the symbol off the symbol stack; its attached scopes become the scope stack.
+    PopScoped {
+        symbol: Name,
+        definition: bool,
+    },
+    /// Empties the scope stack.
+    Drops,
+}
+
+/// A node of a file's graph, with the part of the file that it stands for where it has one.
+#[derive(Debug, Drop)]
+pub struct Node {
+    pub kind: NodeKind,
+    pub span: Option<Span>,
+}
