@@ -1,0 +1,5 @@
+pub mod Written
+pub mod Cuts
+pub mod CutLaws
+pub mod ReadingLaws
+pub mod CallerLemmas

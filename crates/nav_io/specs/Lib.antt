@@ -1,0 +1,9 @@
+pub mod Faults
+pub mod Lines
+pub mod Write
+pub mod Search
+pub mod Told
+pub mod Mem
+pub mod Lending
+pub mod Doors
+pub mod Reading

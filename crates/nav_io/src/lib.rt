@@ -1,0 +1,23 @@
+//! The outside of the server as traits, with the bytes and the faults that each tells of, and lines over them.
+#![tactic(auto)]
+
+mod gate;
+mod house;
+mod lines;
+mod mem;
+mod sink;
+mod source;
+mod std_io;
+mod write;
+
+pub use gate::{Gate, Unguarded};
+pub use house::{Door, House, HouseFault};
+pub use lines::{LINE_MAX, LineError, LineReader, NoMemory};
+pub use mem::{MemDoor, MemHouse, MemSink, MemSource};
+pub use sink::{Sink, SinkError};
+pub use source::{Failed, Source};
+pub use std_io::{StdSink, StdSource};
+pub use write::{WriteError, write_all};
+
+#[cfg(test)]
+mod tests;

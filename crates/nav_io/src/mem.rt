@@ -1,0 +1,19 @@
+//! Sources, sinks, doors and houses in memory, which fail as they are told to.
+ghost use Rattle.std.specs.Prelude.{◌≡◌};
+ghost use Rattle.nav_io.specs.Mem.{fails_now};
+
+mod doors;
+mod lent;
+mod sink;
+mod source;
+
+pub use doors::{MemDoor, MemHouse};
+pub use sink::MemSink;
+pub use source::MemSource;
+
+// Whether the call with this number is one of those that fail.
+fn is_failing(failing: &[u32], call: u64) -> bool
+    ensures { result ≡ fails_now failing.now call }
+{
+    failing.iter().any(|number| u64::from(*number) == call)
+}

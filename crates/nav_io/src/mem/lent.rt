@@ -1,0 +1,121 @@
+//! Things that are given out in order and come back.
+ghost use Rattle.std.specs.Prelude.{◌≡◌, ◌+◌, ◌-◌, ◌<◌, ◌≤◌, [], ◌++◌, length, vec_len, vec_capacity, take, drop, None, IfSome, OnSome, ◌∷◌, IfOk, OnOk, OnErr};
+ghost use Rattle.nav_io.specs.Lending.{Lending, IsLending};
+
+use std::alloc::{AllocError, Global};
+use std::marker::Model;
+use std::snapshot::Snapshot;
+
+// A list of things to give out. It needs no memory to take them back, since they stand in their old vector.
+#[derive(Drop)]
+pub(super) struct Lent<T> {
+    // Those to be given out, and behind them those that came back.
+    kept: Vec<T>,
+    // How many are to be given out.
+    waiting: usize,
+    // What it was made with.
+    all: Snapshot<Vec<T>>,
+}
+
+impl<T> Model for Lent<T> {
+    ghost Value = { Lending T };
+
+    ghost view = { λ lent. record {
+      waiting = take lent.waiting lent.kept.items;
+      gave = take (length lent.all.value.items - lent.waiting) lent.all.value.items;
+      back = drop lent.waiting lent.kept.items;
+    } };
+
+    ghost invariant = { λ lent. IsLending lent.all.value.items lent.kept.items lent.waiting (vec_capacity lent.kept) };
+}
+
+impl<T> Lent<T> {
+    pub(super) fn new(things: Vec<T>) -> Lent<T>
+        ensures { result ≡ record { waiting = things.items; gave = []; back = [] } }
+    {
+        Lent {
+            waiting: things.len(),
+            all: Snapshot::of(&things),
+            kept: things,
+        }
+    }
+
+    // How many are to be given out.
+    pub(super) fn waiting(&self) -> usize
+        ensures count { result ≡ length self.now.waiting }
+        ensures no_more { length self.now.back ≤ length self.now.gave }
+    {
+        self.waiting
+    }
+
+    // Gives out the next one, if there is one.
+    pub(super) fn next(&mut self) -> Option<T>
+        ensures none { result ≡ None → (self.old.waiting ≡ []) × (self.new ≡ self.old) }
+        ensures waits { IfSome result (λ thing. self.old.waiting ≡ thing ∷ self.new.waiting) }
+        ensures given { IfSome result (λ thing. self.new.gave ≡ self.old.gave ++ thing ∷ []) }
+        ensures back { self.new.back ≡ self.old.back }
+        ensures out { OnSome result (length self.new.back < length self.new.gave) }
+        ensures no_more { length self.new.back ≤ length self.new.gave }
+    {
+        if self.waiting == 0 {
+            return None;
+        }
+        self.waiting -= 1;
+        Some(self.kept.remove(0))
+    }
+
+    // Gives out the next n.
+    pub(super) fn next_ones(&mut self, alloc: Global, n: usize) -> Result<Vec<T>, AllocError>
+        requires wait { n ≤ length self.old.waiting }
+        requires no_more { length self.old.back ≤ length self.old.gave }
+        ensures waits { IfOk result (λ things. self.old.waiting ≡ things.items ++ self.new.waiting) }
+        ensures given { IfOk result (λ things. self.new.gave ≡ self.old.gave ++ things.items) }
+        ensures all { IfOk result (λ things. vec_len things ≡ n) }
+        ensures back { self.new.back ≡ self.old.back }
+        ensures out { OnOk result (length self.new.back + n ≤ length self.new.gave) }
+        ensures err { OnErr result (self.new ≡ self.old) }
+        ensures no_more { length self.new.back ≤ length self.new.gave }
+    {
+        let mut things = Vec::with_capacity(alloc, n)?;
+        while things.len() < n {
+            things.push(self.next().unwrap()).unwrap();
+        }
+        Ok(things)
+    }
+
+    // Takes one back.
+    pub(super) fn put_back(&mut self, thing: T)
+        requires { length self.old.back < length self.old.gave }
+        ensures back { self.new ≡ record self.old { back = self.old.back ++ thing ∷ [] } }
+    {
+        self.kept.push(thing).unwrap();
+    }
+
+    // Takes these back.
+    pub(super) fn put_all_back(&mut self, things: Vec<T>)
+    where
+        T: Drop,
+        requires { length self.old.back + vec_len things ≤ length self.old.gave }
+        ensures back { self.new ≡ record self.old { back = self.old.back ++ things.items } }
+    {
+        for thing in things {
+            self.put_back(thing);
+        }
+    }
+
+    // The things that came back.
+    pub(super) fn into_back(self) -> Vec<T>
+    where
+        T: Drop,
+        ensures { result.items ≡ self.back }
+    {
+        let Lent {
+            mut kept,
+            waiting,
+            all,
+        } = self;
+        drop(all);
+        kept.drain(..waiting);
+        kept
+    }
+}
