@@ -1,0 +1,2 @@
+pub mod Enter
+pub mod Same

@@ -1,0 +1,172 @@
+use crate::scopes::ScopeStack;
+use crate::symbol::Symbol;
+use std::alloc::{AllocError, Global};
+use std::marker::Model;
+
+/// A symbol on a stack: plain, or with an attached scope stack.
+#[derive(Debug, Drop)]
+pub struct SymbolItem {
+    pub symbol: Symbol,
+    pub scopes: Option<ScopeStack>,
+}
+
+impl SymbolItem {
+    ghost use Rattle.std.specs.Prelude.{◌≡◌, ◌↔◌, IfOk, IsTrue};
+    ghost use Rattle.stacks_vars.specs.Same.{item_eq};
+
+    /// The same symbol and scopes once more, at the cost of their length; the one error is want of memory.
+    pub fn copy(&self, alloc: Global) -> Result<SymbolItem, AllocError>
+        ensures { IfOk result (λ copy. copy ≡ self.now) }
+    {
+        let scopes = match &self.scopes {
+            Some(scopes) => Some(scopes.copy(alloc)?),
+            None => None,
+        };
+        Ok(SymbolItem {
+            symbol: self.symbol.copy(alloc)?,
+            scopes,
+        })
+    }
+
+    /// Whether both have the same symbol, and both are plain or have the same scopes attached.
+    pub fn same(&self, other: &SymbolItem) -> bool
+        ensures eq { result ≡ item_eq self.now other.now }
+        ensures exact { IsTrue result ↔ (self.now ≡ other.now) }
+    {
+        self.symbol.same(&other.symbol) && same_scopes(&self.scopes, &other.scopes)
+    }
+}
+
+ghost use Rattle.std.specs.Prelude.{◌≡◌, ◌↔◌, IsTrue};
+ghost use Rattle.stacks_vars.specs.Same.{attached_eq};
+
+/// Whether both are plain, or both have the same scopes attached.
+fn same_scopes(left: &Option<ScopeStack>, right: &Option<ScopeStack>) -> bool
+    ensures { result ≡ attached_eq left.now right.now }
+{
+    match (left, right) {
+        (Some(left), Some(right)) => left.same(right),
+        (None, None) => true,
+        _ => false,
+    }
+}
+
+/// A stack of symbols. A contract sees it as a list, its front first.
+#[derive(Debug, Drop)]
+pub struct SymbolStack {
+    /// The front is last, so that it comes and goes at no cost.
+    items: Vec<SymbolItem>,
+}
+
+impl Model for SymbolStack {
+    ghost use Rattle.std.specs.Prelude.{List, reverse};
+    ghost use Rattle.stacks_vars.specs.declared.items.SymbolItem.{SymbolItem};
+
+    ghost Value = { List SymbolItem };
+
+    ghost view = { λ s. reverse s.items.items };
+}
+
+impl SymbolStack {
+    ghost use Rattle.std.specs.Prelude.{◌≡◌, ◌↔◌, List, [], ◌∷◌, drop, length, reverse, IfOk, MatchOption, OnErr, IsTrue};
+    ghost use Rattle.std.specs.Cmp.Lexicographic.{pointwise};
+    ghost use Rattle.stacks_vars.specs.Same.{item_eq};
+
+    /// The empty stack. It takes no memory.
+    pub fn new(alloc: Global) -> SymbolStack
+        ensures { result ≡ [] }
+    {
+        SymbolStack {
+            items: Vec::new(alloc),
+        }
+    }
+
+    /// The stack whose front is the last of these. It takes no memory.
+    pub fn of(items: Vec<SymbolItem>) -> SymbolStack
+        ensures { result ≡ reverse items.items }
+    {
+        SymbolStack { items }
+    }
+
+    /// Its symbols, the front last.
+    pub fn items(&self) -> &[SymbolItem]
+        ensures { result.now ≡ reverse self.now }
+    {
+        self.items.as_slice()
+    }
+
+    /// The vector of its symbols, the front last.
+    pub fn into_items(self) -> Vec<SymbolItem>
+        ensures { result.items ≡ reverse self }
+    {
+        self.items
+    }
+
+    /// How many symbols it has.
+    pub fn len(&self) -> usize
+        ensures { result ≡ length self.now }
+    {
+        self.items.len()
+    }
+
+    /// Whether it has no symbols.
+    pub fn is_empty(&self) -> bool
+        ensures { IsTrue result ↔ (self.now ≡ []) }
+    {
+        self.items.is_empty()
+    }
+
+    /// Puts the symbol in front; the one error is want of memory, and leaves the stack as it was.
+    pub fn push(&mut self, item: SymbolItem) -> Result<(), AllocError>
+        ensures ok { IfOk result (λ _. self.new ≡ item ∷ self.old) }
+        ensures err { OnErr result (self.new ≡ self.old) }
+    {
+        self.items.push(item)?;
+        Ok(())
+    }
+
+    /// Takes the front off; None where the stack is empty.
+    pub fn pop(&mut self) -> Option<SymbolItem>
+        ensures cases { MatchOption result (self.old ≡ []) (λ front. self.old ≡ front ∷ self.new) }
+        ensures rest { self.new ≡ drop 1 self.old }
+    {
+        self.items.pop()
+    }
+
+    /// The same stack once more, at the cost of all that it holds; the one error is want of memory.
+    pub fn copy(&self, alloc: Global) -> Result<SymbolStack, AllocError>
+        ensures { IfOk result (λ copy. copy ≡ self.now) }
+    {
+        let mut copies = Vec::with_capacity(alloc, self.items.len())?;
+        for item in &self.items {
+            copies.push(item.copy(alloc)?)?;
+        }
+        Ok(SymbolStack { items: copies })
+    }
+
+    /// Whether both have the same symbols, with the same scopes, in the same order. It begins at the
+    /// front, where two stacks of one search differ first.
+    pub fn same(&self, other: &SymbolStack) -> bool
+        ensures eq { result ≡ pointwise item_eq self.now other.now }
+        ensures exact { IsTrue result ↔ (self.now ≡ other.now) }
+    {
+        same_items(self.items(), other.items())
+    }
+}
+
+/// Whether both are the same symbols in the same order, begun at the last.
+fn same_items(left: &[SymbolItem], right: &[SymbolItem]) -> bool
+    ensures { IsTrue result ↔ (left.now ≡ right.now) }
+{
+    if left.len() != right.len() {
+        return false;
+    }
+    let mut rest = left.len();
+    while rest > 0 {
+        rest -= 1;
+        if !left[rest].same(&right[rest]) {
+            return false;
+        }
+    }
+    true
+}

@@ -1,0 +1,19 @@
+//! Symbol stacks and scope stacks, and what entering a node does to them.
+#![tactic(auto)]
+
+mod action;
+mod entering;
+mod items;
+mod scopes;
+mod stacks;
+mod symbol;
+
+pub use action::Action;
+pub use entering::{drop_scopes, enter, jump, pop, pop_scoped, push, push_scoped};
+pub use items::{SymbolItem, SymbolStack};
+pub use scopes::{NodeAt, ScopeStack};
+pub use stacks::Stacks;
+pub use symbol::Symbol;
+
+#[cfg(test)]
+mod tests;

@@ -1,0 +1,108 @@
+use std::alloc::{AllocError, Global};
+use std::marker::Model;
+
+/// A node of the whole graph: its file's place in the list of files, and its position in that file.
+#[derive(Clone, Copy, Debug, PartialEq, Eq)]
+pub struct NodeAt {
+    pub file: u32,
+    pub node: u32,
+}
+
+/// A stack of scopes. A contract sees it as a list, its front first.
+#[derive(Debug, Drop)]
+pub struct ScopeStack {
+    /// The front is last, so that it comes and goes at no cost.
+    items: Vec<NodeAt>,
+}
+
+impl Model for ScopeStack {
+    ghost use Rattle.std.specs.Prelude.{List, reverse};
+    ghost use Rattle.stacks_vars.specs.declared.scopes.NodeAt.{NodeAt};
+
+    ghost Value = { List NodeAt };
+
+    ghost view = { λ s. reverse s.items.items };
+}
+
+impl ScopeStack {
+    ghost use Rattle.std.specs.Prelude.{◌≡◌, ◌↔◌, List, [], ◌∷◌, drop, reverse, IfOk, MatchOption, OnErr, IsTrue};
+    ghost use Rattle.stacks_vars.specs.Same.{scopes_eq};
+
+    /// The empty stack. It takes no memory.
+    pub fn new(alloc: Global) -> ScopeStack
+        ensures { result ≡ [] }
+    {
+        ScopeStack {
+            items: Vec::new(alloc),
+        }
+    }
+
+    /// The stack whose front is the last of these. It takes no memory.
+    pub fn of(items: Vec<NodeAt>) -> ScopeStack
+        ensures { result ≡ reverse items.items }
+    {
+        ScopeStack { items }
+    }
+
+    /// Its scopes, the front last.
+    pub fn items(&self) -> &[NodeAt]
+        ensures { result.now ≡ reverse self.now }
+    {
+        self.items.as_slice()
+    }
+
+    /// The vector of its scopes, the front last.
+    pub fn into_items(self) -> Vec<NodeAt>
+        ensures { result.items ≡ reverse self }
+    {
+        self.items
+    }
+
+    /// Whether it has no scopes.
+    pub fn is_empty(&self) -> bool
+        ensures { IsTrue result ↔ (self.now ≡ []) }
+    {
+        self.items.is_empty()
+    }
+
+    /// Puts the scope in front; the one error is want of memory, and leaves the stack as it was.
+    pub fn push(&mut self, scope: NodeAt) -> Result<(), AllocError>
+        ensures ok { IfOk result (λ _. self.new ≡ scope ∷ self.old) }
+        ensures err { OnErr result (self.new ≡ self.old) }
+    {
+        self.items.push(scope)?;
+        Ok(())
+    }
+
+    /// Takes the front off; None where the stack is empty.
+    pub fn pop(&mut self) -> Option<NodeAt>
+        ensures cases { MatchOption result (self.old ≡ []) (λ front. self.old ≡ front ∷ self.new) }
+        ensures rest { self.new ≡ drop 1 self.old }
+    {
+        self.items.pop()
+    }
+
+    /// Takes all scopes off.
+    pub fn clear(&mut self)
+        ensures { self.new ≡ [] }
+    {
+        self.items.clear();
+    }
+
+    /// The same stack once more, at the cost of its length; the one error is want of memory.
+    pub fn copy(&self, alloc: Global) -> Result<ScopeStack, AllocError>
+        ensures { IfOk result (λ copy. copy ≡ self.now) }
+    {
+        Ok(ScopeStack {
+            items: Vec::from_slice(alloc, self.items.as_slice())?,
+        })
+    }
+
+    /// Whether both have the same scopes in the same order.
+    pub fn same(&self, other: &ScopeStack) -> bool
+        ensures eq { result ≡ scopes_eq self.now other.now }
+        ensures exact { IsTrue result ↔ (self.now ≡ other.now) }
+    {
+        self.items() == other.items()
+    }
+}
