@@ -1,0 +1,12 @@
+ghost use Rattle.partial_path.specs.Laws.{CutPrefixesAreClosed, CyclesAreCut};
+
+/// A law: where a counted run has been followed up to one of its cut edges, that prefix is a closed and
+/// straight run itself.
+pub fn cut_prefixes_are_closed()
+    ensures { CutPrefixesAreClosed }
+{}
+
+/// A law: every cycle within a file meets a cut node.
+pub fn cycles_are_cut()
+    ensures { CyclesAreCut }
+{}

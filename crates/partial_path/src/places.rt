@@ -1,0 +1,74 @@
+ghost use Rattle.std.specs.Prelude.{◌≡◌, ◌↔◌, ◌&&◌, nat_eq, length, IsTrue, option_copied};
+ghost use Rattle.graph_nodes.specs.Graph.{is_reference_kind, is_definition_kind};
+ghost use Rattle.graph_nodes.specs.Whole.{node_of, edge_of, is_definition_of};
+ghost use Rattle.partial_path.specs.Spots.{is_definition_spot};
+ghost use Rattle.partial_path.specs.Runs.{IsAtDefinition};
+
+use crate::config::{Config, EdgeAt, Spot};
+use graph_nodes::{Edge, FileGraph, Node, NodeKind};
+use stacks_vars::NodeAt;
+
+/// The node of the files; None where there is none.
+pub fn node_at(files: &[FileGraph], at: NodeAt) -> Option<&Node>
+    ensures { option_copied result ≡ node_of files.now at.file at.node }
+{
+    let graph = files.get(at.file as usize)?;
+    if at.node < graph.node_count() {
+        Some(graph.node(at.node))
+    } else {
+        None
+    }
+}
+
+/// The edge of the files; None where there is none.
+pub fn edge_at(files: &[FileGraph], at: EdgeAt) -> Option<&Edge>
+    ensures { option_copied result ≡ edge_of files.now at.file at.edge }
+{
+    let graph = files.get(at.file as usize)?;
+    if at.edge < graph.edge_count() {
+        Some(graph.edge(at.edge))
+    } else {
+        None
+    }
+}
+
+/// Whether a node of this kind is a reference.
+pub(crate) fn is_reference(kind: &NodeKind) -> bool
+    ensures { result ≡ is_reference_kind kind.now }
+{
+    match kind {
+        NodeKind::Push { reference, .. } | NodeKind::PushScoped { reference, .. } => *reference,
+        _ => false,
+    }
+}
+
+/// Whether a node of this kind is a definition.
+fn is_definition(kind: &NodeKind) -> bool
+    ensures { result ≡ is_definition_kind kind.now }
+{
+    match kind {
+        NodeKind::Pop { definition, .. } | NodeKind::PopScoped { definition, .. } => *definition,
+        _ => false,
+    }
+}
+
+/// Whether the spot is a definition of the files.
+pub fn is_definition_spot(files: &[FileGraph], spot: Spot) -> bool
+    ensures { result ≡ is_definition_spot files.now spot }
+{
+    let Spot::At(at) = spot else {
+        return false;
+    };
+    match node_at(files, at) {
+        Some(node) => is_definition(&node.kind),
+        None => false,
+    }
+}
+
+/// Whether the configuration is a result: at a definition of the files, with no symbols left.
+pub fn is_at_definition(files: &[FileGraph], at: &Config) -> bool
+    ensures value { result ≡ (is_definition_spot files.now at.now.spot && nat_eq (length at.now.stacks.symbols) 0) }
+    ensures exact { IsTrue result ↔ IsAtDefinition files.now at.now }
+{
+    is_definition_spot(files, at.spot) && at.stacks.symbols.len() == 0
+}
