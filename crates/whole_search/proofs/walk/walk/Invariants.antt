@@ -1,0 +1,16 @@
+use Rattle.std.proofs.Common.{◌≤◌, length, All}
+use Rattle.partial_path.specs.declared.bounds.TheConstants.{MAX_RUNS}
+use Rattle.whole_search.specs.Open.{IsOpen, runs_of}
+use Rattle.whole_search.proofs.Ahead.{ahead}
+use Rattle.whole_search.proofs.UnderWay.{IsUnderWay}
+use Rattle.whole_search.proofs.walk.walk.Given as goal
+
+abbrev pub invariant-loop-reached : goal.invariant-loop-reached
+invariant-loop-reached l = record {
+  stands : All (IsOpen l.bounds l.files l.start) l.stack.items;
+  few : l.tally.counted ≤ MAX_RUNS;
+  under_way : IsUnderWay l.bounds l.files l.start (runs_of l.stack.items) l.tally;
+}
+
+abbrev pub decreases-loop-reached : goal.decreases-loop-reached
+decreases-loop-reached l = length (ahead l.bounds l.files l.start (runs_of l.stack.items))

@@ -1,0 +1,4 @@
+pub mod Answers
+pub mod Walk
+pub mod Open
+pub mod Ends

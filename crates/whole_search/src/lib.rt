@@ -1,0 +1,20 @@
+//! The plain search: the definitions of a reference, by runs over the whole graph of a list of files.
+#![tactic(auto)]
+
+mod answer;
+mod edges;
+mod follow;
+mod found;
+mod open;
+mod paths;
+mod rows;
+mod run;
+mod spot;
+mod tally;
+mod walk;
+
+pub use answer::{is_reference, search};
+pub use found::{Found, Hit, Hits, SearchFault};
+
+#[cfg(test)]
+mod tests;
