@@ -1,0 +1,12 @@
+pub mod Lengths
+pub mod Collecting
+pub mod Sizes
+pub mod Parsing
+pub mod Numbers
+pub mod Places
+pub mod Tokens
+pub mod NodesBack
+pub mod GraphBack
+pub mod Naming
+pub mod Right
+pub mod NamedBack

@@ -1,0 +1,11 @@
+pub mod Pieces
+pub mod Collect
+pub mod Nodes
+pub mod Edges
+pub mod Top
+pub mod Plain
+pub mod Named
+pub mod Numbering
+pub mod Reading
+pub mod Printed
+pub mod PrintSteps

@@ -1,0 +1,70 @@
+-- Which JSON objects are nodes, by the table of kinds; both formats share it.
+use Rattle.std.specs.Prelude.{ℕ, List, Bool, false, ◌&&◌, ◌||◌, if◌then◌else◌, Option, Some, option_map, codes}
+use Rattle.std.specs.Str.{bytes_eq}
+use Rattle.serde_json.specs.Data.{Data}
+use Rattle.serde_json.specs.Find.{get, as_object}
+use Rattle.graph_nodes.specs.declared.node.Node.{Node}
+use Rattle.graph_nodes.specs.declared.node.NodeKind.{NodeKind}
+use Rattle.graph_nodes.specs.declared.node.NodeKind.TheVariants.{Scope, Push, PushScoped, Pop, PopScoped, Drops}
+use Rattle.graph_json.specs.Pieces.{◌>>=◌, only_if, flag_in, text_in, optional_span, each_name}
+
+-- one row of the table each, from the object's members; `scope` is what its member `scope` names
+unfoldable pub scope_in : Data → Option NodeKind
+scope_in d = option_map Scope (flag_in (codes "exported") d)
+
+unfoldable pub push_in : Data → Option NodeKind
+push_in d = do
+  reference ← flag_in (codes "reference") d
+  symbol ← text_in (codes "symbol") d
+  Some (Push symbol reference)
+
+unfoldable pub push_scoped_in : Option ℕ → Data → Option NodeKind
+push_scoped_in scope d = do
+  attached ← scope
+  reference ← flag_in (codes "reference") d
+  symbol ← text_in (codes "symbol") d
+  Some (PushScoped symbol attached reference)
+
+unfoldable pub pop_in : Data → Option NodeKind
+pop_in d = do
+  definition ← flag_in (codes "definition") d
+  symbol ← text_in (codes "symbol") d
+  Some (Pop symbol definition)
+
+unfoldable pub pop_scoped_in : Data → Option NodeKind
+pop_scoped_in d = do
+  definition ← flag_in (codes "definition") d
+  symbol ← text_in (codes "symbol") d
+  Some (PopScoped symbol definition)
+
+-- the row for that text in the member `kind`
+unfoldable pub kind_in : List ℕ → Option ℕ → Data → Option NodeKind
+kind_in kind scope d =
+    if bytes_eq kind (codes "scope") then scope_in d else
+    (if bytes_eq kind (codes "push") then push_in d else
+    (if bytes_eq kind (codes "push_scoped") then push_scoped_in scope d else
+    (if bytes_eq kind (codes "pop") then pop_in d else
+    (if bytes_eq kind (codes "pop_scoped") then pop_scoped_in d else
+    only_if (bytes_eq kind (codes "drop")) Drops))))
+
+-- whether a node of this kind may have a member of this name, beside `kind` and `span`
+abbrev pub takes : NodeKind → List ℕ → Bool
+takes (Scope exported) name = bytes_eq name (codes "exported")
+takes (Push symbol reference) name = bytes_eq name (codes "symbol") || bytes_eq name (codes "reference")
+takes (PushScoped symbol scope reference) name = bytes_eq name (codes "symbol") || bytes_eq name (codes "scope") || bytes_eq name (codes "reference")
+takes (Pop symbol definition) name = bytes_eq name (codes "symbol") || bytes_eq name (codes "definition")
+takes (PopScoped symbol definition) name = bytes_eq name (codes "symbol") || bytes_eq name (codes "definition")
+takes Drops name = false
+
+-- whether a node may have a member of this name; `name` is one where nodes have names
+abbrev pub may_have : Bool → NodeKind → List ℕ → Bool
+may_have named kind name = bytes_eq name (codes "kind") || bytes_eq name (codes "span") || (named && bytes_eq name (codes "name")) || takes kind name
+
+-- a node: an object of its kind's members and no others
+unfoldable pub node_in : Bool → Option ℕ → Data → Option Node
+node_in named scope d = do
+  members ← as_object d
+  span ← optional_span (get (codes "span") d)
+  text ← text_in (codes "kind") d
+  kind ← kind_in text scope d
+  only_if (each_name (may_have named kind) members) (record { kind = kind; span = span })

@@ -1,0 +1,60 @@
+ghost use Rattle.std.specs.Prelude.{◌≡◌, codes};
+ghost use Rattle.std.specs.Option.{option_copied};
+ghost use Rattle.graph_nodes.specs.Graph.{is_exported_kind, is_reference_kind, is_definition_kind};
+ghost use Rattle.graph_json.specs.Printed.{kind_text, symbol_of};
+
+use graph_nodes::NodeKind;
+
+// The word for a node's kind.
+pub(crate) fn word(kind: &NodeKind) -> &'static str
+    ensures { result.now ≡ kind_text kind.now }
+{
+    match kind {
+        NodeKind::Scope { .. } => "scope",
+        NodeKind::Push { .. } => "push",
+        NodeKind::PushScoped { .. } => "push_scoped",
+        NodeKind::Pop { .. } => "pop",
+        NodeKind::PopScoped { .. } => "pop_scoped",
+        NodeKind::Drops => "drop",
+    }
+}
+
+pub(crate) fn is_definition(kind: &NodeKind) -> bool
+    ensures { result ≡ is_definition_kind kind.now }
+{
+    match kind {
+        NodeKind::Pop { definition, .. } | NodeKind::PopScoped { definition, .. } => *definition,
+        _ => false,
+    }
+}
+
+pub(crate) fn is_reference(kind: &NodeKind) -> bool
+    ensures { result ≡ is_reference_kind kind.now }
+{
+    match kind {
+        NodeKind::Push { reference, .. } | NodeKind::PushScoped { reference, .. } => *reference,
+        _ => false,
+    }
+}
+
+pub(crate) fn is_exported(kind: &NodeKind) -> bool
+    ensures { result ≡ is_exported_kind kind.now }
+{
+    match kind {
+        NodeKind::Scope { exported } => *exported,
+        _ => false,
+    }
+}
+
+// The symbol of a node that has one.
+pub(crate) fn symbol(kind: &NodeKind) -> Option<&str>
+    ensures { option_copied result ≡ symbol_of kind.now }
+{
+    match kind {
+        NodeKind::Push { symbol, .. }
+        | NodeKind::PushScoped { symbol, .. }
+        | NodeKind::Pop { symbol, .. }
+        | NodeKind::PopScoped { symbol, .. } => Some(symbol.as_str()),
+        NodeKind::Scope { .. } | NodeKind::Drops => None,
+    }
+}

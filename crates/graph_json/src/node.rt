@@ -1,0 +1,194 @@
+ghost use Rattle.std.specs.Prelude.{◌≡◌, codes, IfOk};
+ghost use Rattle.std.specs.BTreeMap.{keys};
+ghost use Rattle.std.specs.List.{list_all};
+ghost use Rattle.std.specs.String.{string_bytes};
+ghost use Rattle.serde_json.specs.Find.{get};
+ghost use Rattle.serde_json.specs.View.{view, members_view};
+ghost use Rattle.graph_json.specs.Pieces.{text_in, each_name};
+ghost use Rattle.graph_json.specs.Nodes.{scope_in, push_in, push_scoped_in, pop_in, pop_scoped_in, kind_in, takes, may_have, node_in};
+ghost use Rattle.graph_json.specs.Plain.{node_of, scope_at};
+
+use crate::pieces::{flag, node_span, whole};
+use graph_nodes::{Name, Node, NodeKind};
+use serde_json::{Map, Value};
+use std::alloc::{AllocError, Global};
+
+fn symbol(alloc: Global, v: &Value) -> Result<Option<Name>, AllocError>
+    ensures { IfOk result (λ s. s ≡ text_in (codes "symbol") (view v.now)) }
+{
+    match v.get("symbol").and_then(Value::as_str) {
+        Some(text) => Ok(Some(Name::of(alloc, text)?)),
+        None => Ok(None),
+    }
+}
+
+#[tactic(auto, unfolding(crate::specs::Nodes::scope_in))]
+fn scope(v: &Value) -> Option<NodeKind>
+    ensures { result ≡ scope_in (view v.now) }
+{
+    let exported = flag(v, "exported")?;
+    Some(NodeKind::Scope { exported })
+}
+
+#[tactic(auto, unfolding(crate::specs::Nodes::push_in))]
+fn push(alloc: Global, v: &Value) -> Result<Option<NodeKind>, AllocError>
+    ensures { IfOk result (λ k. k ≡ push_in (view v.now)) }
+{
+    let Some(reference) = flag(v, "reference") else {
+        return Ok(None);
+    };
+    let Some(symbol) = symbol(alloc, v)? else {
+        return Ok(None);
+    };
+    Ok(Some(NodeKind::Push { symbol, reference }))
+}
+
+#[tactic(auto, unfolding(crate::specs::Nodes::push_scoped_in))]
+fn push_scoped(alloc: Global, v: &Value, scope: Option<u32>) -> Result<Option<NodeKind>, AllocError>
+    ensures { IfOk result (λ k. k ≡ push_scoped_in scope (view v.now)) }
+{
+    let Some(scope) = scope else {
+        return Ok(None);
+    };
+    let Some(reference) = flag(v, "reference") else {
+        return Ok(None);
+    };
+    let Some(symbol) = symbol(alloc, v)? else {
+        return Ok(None);
+    };
+    Ok(Some(NodeKind::PushScoped {
+        symbol,
+        scope,
+        reference,
+    }))
+}
+
+#[tactic(auto, unfolding(crate::specs::Nodes::pop_in))]
+fn pop(alloc: Global, v: &Value) -> Result<Option<NodeKind>, AllocError>
+    ensures { IfOk result (λ k. k ≡ pop_in (view v.now)) }
+{
+    let Some(definition) = flag(v, "definition") else {
+        return Ok(None);
+    };
+    let Some(symbol) = symbol(alloc, v)? else {
+        return Ok(None);
+    };
+    Ok(Some(NodeKind::Pop { symbol, definition }))
+}
+
+#[tactic(auto, unfolding(crate::specs::Nodes::pop_scoped_in))]
+fn pop_scoped(alloc: Global, v: &Value) -> Result<Option<NodeKind>, AllocError>
+    ensures { IfOk result (λ k. k ≡ pop_scoped_in (view v.now)) }
+{
+    let Some(definition) = flag(v, "definition") else {
+        return Ok(None);
+    };
+    let Some(symbol) = symbol(alloc, v)? else {
+        return Ok(None);
+    };
+    Ok(Some(NodeKind::PopScoped { symbol, definition }))
+}
+
+#[tactic(auto, unfolding(crate::specs::Nodes::kind_in))]
+fn kind(
+    alloc: Global,
+    v: &Value,
+    text: &str,
+    attached: Option<u32>,
+) -> Result<Option<NodeKind>, AllocError>
+    ensures { IfOk result (λ k. k ≡ kind_in text.now attached (view v.now)) }
+{
+    if text == "scope" {
+        Ok(scope(v))
+    } else if text == "push" {
+        push(alloc, v)
+    } else if text == "push_scoped" {
+        push_scoped(alloc, v, attached)
+    } else if text == "pop" {
+        pop(alloc, v)
+    } else if text == "pop_scoped" {
+        pop_scoped(alloc, v)
+    } else if text == "drop" {
+        Ok(Some(NodeKind::Drops))
+    } else {
+        Ok(None)
+    }
+}
+
+fn is_of_kind(kind: &NodeKind, name: &str) -> bool
+    ensures { result ≡ takes kind.now name.now }
+{
+    match kind {
+        NodeKind::Scope { .. } => name == "exported",
+        NodeKind::Push { .. } => name == "symbol" || name == "reference",
+        NodeKind::PushScoped { .. } => {
+            name == "symbol" || name == "scope" || name == "reference"
+        }
+        NodeKind::Pop { .. } => name == "symbol" || name == "definition",
+        NodeKind::PopScoped { .. } => name == "symbol" || name == "definition",
+        NodeKind::Drops => false,
+    }
+}
+
+fn is_member(named: bool, kind: &NodeKind, name: &str) -> bool
+    ensures { result ≡ may_have named kind.now name.now }
+{
+    name == "kind" || name == "span" || (named && name == "name") || is_of_kind(kind, name)
+}
+
+fn has_only_keys(members: &Map<String, Value>, named: bool, kind: &NodeKind) -> bool
+    ensures { result ≡ list_all (λ k. may_have named kind.now (string_bytes k)) (keys members.now) }
+{
+    members
+        .keys()
+        .all(|name| is_member(named, kind, name.as_str()))
+}
+
+#[tactic(auto, using(crate::proofs::Lengths::names))]
+fn has_only_members(members: &Map<String, Value>, named: bool, kind: &NodeKind) -> bool
+    ensures { result ≡ each_name (may_have named kind.now) (members_view members.now.entries) }
+{
+    has_only_keys(members, named, kind)
+}
+
+// A node of that value, where its member `scope` names `attached`.
+#[tactic(auto, unfolding(crate::specs::Nodes::node_in))]
+pub(crate) fn node(
+    alloc: Global,
+    v: &Value,
+    named: bool,
+    attached: Option<u32>,
+) -> Result<Option<Node>, AllocError>
+    ensures { IfOk result (λ n. n ≡ node_in named attached (view v.now)) }
+{
+    let Some(members) = v.as_object() else {
+        return Ok(None);
+    };
+    let Some(span) = node_span(v) else {
+        return Ok(None);
+    };
+    let Some(text) = v.get("kind").and_then(Value::as_str) else {
+        return Ok(None);
+    };
+    let Some(kind) = kind(alloc, v, text, attached)? else {
+        return Ok(None);
+    };
+    if has_only_members(members, named, &kind) {
+        Ok(Some(Node { kind, span }))
+    } else {
+        Ok(None)
+    }
+}
+
+fn scope_position(v: &Value) -> Option<u32>
+    ensures { result ≡ scope_at (view v.now) }
+{
+    whole(v.get("scope")?)
+}
+
+// A node of format 1.
+pub(crate) fn plain_node(alloc: Global, v: &Value) -> Result<Option<Node>, AllocError>
+    ensures { IfOk result (λ n. n ≡ node_of (view v.now)) }
+{
+    node(alloc, v, false, scope_position(v))
+}

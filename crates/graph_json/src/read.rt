@@ -1,0 +1,86 @@
+ghost use Rattle.std.specs.Prelude.{◌≡◌, ◌≢◌, ◌^◌, ◌<◌, length, vec_len, IfOk, IfErr, Ok, Err};
+ghost use Rattle.serde_json.specs.View.{view};
+ghost use Rattle.graph_json.specs.Pieces.{HasShortLists};
+ghost use Rattle.graph_json.specs.Collect.{Gives};
+ghost use Rattle.graph_json.specs.Reading.{json_of, parts_of, graph_from};
+ghost use Rattle.graph_json.specs.Top.{checked};
+
+use crate::fault::GraphTextFault;
+use crate::named::named_graph;
+use crate::plain::plain_graph;
+use graph_nodes::{Edge, FileGraph, GraphFault, Node};
+use serde_json::{Category, Value};
+use std::alloc::Global;
+
+/// The graph that the bytes are, in format 1 or in format 2, or the first fault in them.
+///
+/// A value with a member `format` is read as format 2, any other as format 1. The faults come in
+/// the order of the README. `NoMemory` may come in place of any answer, `Graph(NoMemory)` never.
+/// It takes time and memory that follow the number of bytes: the nodes and edges of the parsed
+/// value are gone over a fixed number of times, with names found by a hash table.
+#[tactic(auto, using(crate::proofs::Parsing::causes))]
+pub fn read_graph(alloc: Global, bytes: &[u8]) -> Result<FileGraph, GraphTextFault>
+    requires { length bytes.now < 2 ^ 32 }
+    ensures ok { IfOk result (λ g. graph_from bytes.now ≡ Ok (g.nodes, g.edges)) }
+    ensures err { IfErr result (λ e. e ≢ GraphTextFault.NoMemory → graph_from bytes.now ≡ Err e) }
+    ensures memory { result ≢ Err (GraphTextFault.Graph GraphFault.NoMemory) }
+{
+    read(alloc, bytes)
+}
+
+#[tactic(auto, unfolding(crate::specs::Reading::graph_from))]
+fn read(alloc: Global, bytes: &[u8]) -> Result<FileGraph, GraphTextFault>
+    requires { length bytes.now < 2 ^ 32 }
+    ensures { Gives (λ g. (g.nodes, g.edges)) result (graph_from bytes.now) }
+{
+    let value = parse_short(alloc, bytes)?;
+    let (nodes, edges) = parts(alloc, &value)?;
+    check(alloc, nodes, edges)
+}
+
+// The graph of these nodes and edges.
+fn check(alloc: Global, nodes: Vec<Node>, edges: Vec<Edge>) -> Result<FileGraph, GraphTextFault>
+    requires nodes { vec_len nodes < 2 ^ 32 }
+    requires edges { vec_len edges < 2 ^ 32 }
+    ensures { Gives (λ g. (g.nodes, g.edges)) result (checked nodes.items edges.items) }
+{
+    match FileGraph::check(alloc, nodes, edges) {
+        Ok(graph) => Ok(graph),
+        Err(GraphFault::NoMemory) => Err(GraphTextFault::NoMemory),
+        Err(fault) => Err(GraphTextFault::Graph(fault)),
+    }
+}
+
+// The nodes and edges of a value.
+fn parts(alloc: Global, v: &Value) -> Result<(Vec<Node>, Vec<Edge>), GraphTextFault>
+    requires { HasShortLists (view v.now) }
+    ensures gives { Gives (λ p. (p.0.items, p.1.items)) result (parts_of (view v.now)) }
+    ensures short { IfOk result (λ p. (vec_len p.0 < 2 ^ 32) × (vec_len p.1 < 2 ^ 32)) }
+{
+    match v.get("format") {
+        Some(_) => named_graph(alloc, v),
+        None => plain_graph(alloc, v),
+    }
+}
+
+// The value of the bytes.
+#[tactic(auto, using(crate::proofs::Parsing::texts))]
+fn parse(alloc: Global, bytes: &[u8]) -> Result<Value, GraphTextFault>
+    ensures { Gives view result (json_of bytes.now) }
+{
+    match Value::from_slice(alloc, bytes) {
+        Ok(value) => Ok(value),
+        Err(e) if e.classify() == Category::Memory => Err(GraphTextFault::NoMemory),
+        Err(_) => Err(GraphTextFault::BadJson),
+    }
+}
+
+// The value of the bytes, with how long its arrays may be.
+#[tactic(auto, using(crate::proofs::Parsing::texts))]
+fn parse_short(alloc: Global, bytes: &[u8]) -> Result<Value, GraphTextFault>
+    requires { length bytes.now < 2 ^ 32 }
+    ensures value { Gives view result (json_of bytes.now) }
+    ensures short { IfOk result (λ v. HasShortLists (view v)) }
+{
+    parse(alloc, bytes)
+}
