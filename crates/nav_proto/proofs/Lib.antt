@@ -1,0 +1,2 @@
+mod Clean
+pub mod OneLine
