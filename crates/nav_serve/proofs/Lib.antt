@@ -1,0 +1,6 @@
+pub mod FirstLine
+pub mod BothLines
+pub mod Replies
+pub mod Writing
+pub mod Upgraded
+pub mod Found

@@ -1,0 +1,10 @@
+pub mod Words
+pub mod Stops
+pub mod Files
+pub mod NodeLine
+pub mod Once
+pub mod Upgrade
+pub mod Taken
+pub mod Serving
+pub mod Refused
+pub mod Reads

@@ -1,0 +1,40 @@
+ghost use Rattle.std.specs.Prelude.{◌≡◌, ◌≤◌, ℕ, List, OnOk, OnErr, IfOk, IfErr, Err};
+ghost use Rattle.std.specs.Io.KnownBytes.{append_known};
+ghost use Rattle.nav_io.specs.Faults.{HasRisen};
+ghost use Rattle.nav_io.specs.Write.{HoldsPrefix};
+ghost use Rattle.nav_proto.specs.Replies.{reply_text};
+ghost use Rattle.nav_serve.specs.declared.stop.Stop.TheVariants as stop;
+ghost use Rattle.nav_serve.specs.Taken.{with_newline};
+
+use crate::stop::Stop;
+use nav_io::{Sink, write_all};
+use nav_proto::{Reply, print_reply};
+use std::alloc::Global;
+
+/// The bytes of the reply's text.
+pub fn reply_bytes(alloc: Global, reply: &Reply) -> Result<Vec<u8>, Stop>
+    ensures ok { IfOk result (λ text. text.items ≡ reply_text reply.now) }
+    ensures err { IfErr result (λ reason. reason ≡ stop.NoMemory) }
+{
+    Ok(print_reply(alloc, reply)?.into_string().into_bytes())
+}
+
+/// Writes the text and a newline at once. After a stop the sink holds what it held and a prefix of them.
+pub fn write_line<K: Sink>(sink: &mut K, text: Vec<u8>) -> Result<(), Stop>
+    ensures ok { OnOk result (K.held sink.new ≡ append_known (K.held sink.old) (with_newline text.items)) }
+    ensures err { OnErr result (HoldsPrefix (K.held sink.old) (with_newline text.items) (K.held sink.new)) }
+
+    ensures count { K.faults sink.old ≤ K.faults sink.new }
+    ensures cause { result ≡ Err stop.SinkFailed → HasRisen (K.faults sink.old) (K.faults sink.new) }
+    ensures not_source { result ≡ Err stop.SourceFailed → ⊥ }
+    ensures not_long { result ≡ Err stop.LongLine → ⊥ }
+{
+    let mut line = text;
+    if line.push(b'\n').is_err() {
+        return Err(Stop::NoMemory);
+    }
+    match write_all(sink, line.as_slice()) {
+        Ok(()) => Ok(()),
+        Err(error) => Err(Stop::from(error)),
+    }
+}

@@ -1,0 +1,78 @@
+//! The program `navd`: makes the outside, does what the words after its name say, and ends with its
+//! status.
+#![tactic(auto)]
+
+ghost use Rattle.std.specs.Prelude.{◌≡◌, ◌<◌};
+
+use graph_nodes::Steps;
+use nav_io::{MemHouse, StdSink, StdSource};
+use nav_serve::run;
+use std::alloc::Global;
+use std::io::{ErrorKind, Read, Write};
+use std::marker::Brand;
+use std::process::ExitCode;
+use std::sync::ledger::{Blank, Ledger};
+use std::{env, io};
+
+/// What standard error tells where the words are no command.
+const USAGE: &str = "usage: navd once | navd upgrade (the input is read from standard input)";
+
+/// The status where the words are no command.
+const BAD_WORDS: u8 = 2;
+
+/// The status where memory was refused before the words were read.
+const NO_MEMORY: u8 = 5;
+
+fn main(rt: HostRuntime) -> ExitCode {
+    let status = match words_of(&rt) {
+        Ok(words) => served::<_, _, Brand>(
+            rt.alloc(),
+            &words,
+            rt.stdin(),
+            rt.stdout(),
+            Blank::new(1),
+        ),
+        Err(e) if e.kind() == ErrorKind::OutOfMemory => NO_MEMORY,
+        Err(_) => BAD_WORDS,
+    };
+    if status == BAD_WORDS {
+        let _ = eprintln!(rt; "{USAGE}");
+    }
+    ExitCode::from(status)
+}
+
+/// The words after the program's name. It fails where one isn't UTF-8, and so no command.
+fn words_of(rt: &HostRuntime) -> io::Result<Vec<String>> {
+    let mut words = Vec::new(rt.alloc());
+    for word in env::args(rt)?.skip(1) {
+        words.push(word)?;
+    }
+    Ok(words)
+}
+
+/// Runs the words over this reader and writer, with no doors and a counter that nobody reads.
+fn served<R: Read + Drop, W: Write + Drop, L: Ledger>(
+    alloc: Global,
+    words: &[String],
+    reader: R,
+    writer: W,
+    blank: Blank,
+) -> u8
+    requires name { blank.name ≡ L.name }
+    requires parts { blank.parts ≡ L.parts }
+    requires some { 0 < blank.parts }
+{
+    let mut source = StdSource::new(reader);
+    let mut sink = StdSink::new(writer);
+    let mut house = MemHouse::new(Vec::new(alloc), false);
+    let mut steps = Steps::<L>::new(blank);
+    run(
+        &(),
+        alloc,
+        words,
+        &mut source,
+        &mut sink,
+        &mut house,
+        &mut steps,
+    )
+}
