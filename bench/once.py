@@ -1,0 +1,80 @@
+#!/usr/bin/env python3
+"""Times `navd once` on graphs made here, and prints one table; every figure is of this one run.
+
+usage: bench/once.py [PROGRAM]     (crates/navd/out/navd, as `make example` leaves it)
+
+The first row compares bytes a second with a plain JSON parser, Python's, on the same bytes. The others
+are seconds, beside those of the smallest graph, which is what starting the program costs.
+"""
+
+import json
+import subprocess
+import sys
+import time
+
+PROGRAM = sys.argv[1] if len(sys.argv) > 1 else "crates/navd/out/navd"
+REFERENCE = {"kind": "push", "symbol": "x", "reference": True}
+DEFINITION = {"kind": "pop", "symbol": "x", "definition": True}
+OTHER = {"kind": "pop", "symbol": "y", "definition": True}
+SCOPE = {"kind": "scope"}
+
+
+def text(nodes, edges):
+    return json.dumps({"nodes": nodes, "edges": edges}, separators=(",", ":")).encode()
+
+
+def seconds(command, data):
+    """The least of three runs."""
+    best = None
+    for _ in range(3):
+        start = time.perf_counter()
+        subprocess.run(command, input=data, stdout=subprocess.DEVNULL, check=True)
+        took = time.perf_counter() - start
+        best = took if best is None else min(best, took)
+    return best
+
+
+def chain(length, last):
+    nodes = [REFERENCE] + [SCOPE] * length + [last]
+    return text(nodes, [[n, n + 1, 0] for n in range(length + 1)])
+
+
+def ladder(rungs, last):
+    """Two edges between each node and the next."""
+    nodes = [REFERENCE] + [SCOPE] * rungs + [last]
+    edges = [[0, 1, 0], [rungs, rungs + 1, 0]]
+    edges += [[n, n + 1, 0] for n in range(1, rungs) for _ in range(2)]
+    return text(nodes, edges)
+
+
+def large():
+    """16,384 nodes and 65,536 edges in less than 1,048,576 bytes; from the reference a definition is one edge away."""
+    nodes = [REFERENCE, DEFINITION] + [SCOPE] * 16_382
+    edges = [[0, 1, 0]] + [[2 + n % 90, 99, 0] for n in range(65_535)]
+    return text(nodes, edges)
+
+
+def main():
+    asked = b'\n{"node":0}\n'
+    smallest = seconds([PROGRAM, "once"], text([REFERENCE, DEFINITION], [[0, 1, 0]]) + asked)
+    graph = large()
+    navd = seconds([PROGRAM, "once"], graph + asked)
+    plain = seconds([sys.executable, "-c", "import json,sys; json.load(sys.stdin)"], graph)
+    print(f"{len(graph)} bytes, 16,384 nodes, 65,536 edges: navd once {len(graph) / navd / 1e6:.1f} MB/s, "
+          f"Python's json {len(graph) / plain / 1e6:.1f} MB/s, ratio {plain / navd:.2f}")
+    rows = [
+        ("two nodes", None),
+        ("8,192 runs", ladder(14, DEFINITION)),
+        ("a chain of 128 scopes", chain(128, DEFINITION)),
+        ("a chain of 16,000 scopes", chain(16_000, DEFINITION)),
+        ("65,536 edges from one node", text([REFERENCE, OTHER], [[0, 1, 0]] * 65_536)),
+        ("a ladder of 16 rungs to a node that refuses", ladder(16, OTHER)),
+        ("a ladder of 18 rungs to a node that refuses", ladder(18, OTHER)),
+    ]
+    for name, data in rows:
+        took = smallest if data is None else seconds([PROGRAM, "once"], data + asked)
+        print(f"{name:46} {took:8.3f} s   {took / smallest:8.1f} times the smallest")
+
+
+if __name__ == "__main__":
+    main()

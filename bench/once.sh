@@ -1,0 +1,6 @@
+#!/usr/bin/env bash
+# Builds navd and times `navd once`; no part of the gate.
+set -eu
+cd "$(dirname "$0")/.."
+make --silent example >/dev/null
+exec python3 bench/once.py
