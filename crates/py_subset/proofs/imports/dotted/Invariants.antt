@@ -1,0 +1,10 @@
+use Rattle.std.proofs.Common.{◌≡◌, ◌-◌}
+use Rattle.py_subset.specs.declared.token.Mark.TheVariants as m
+use Rattle.py_subset.specs.Parsers.{star, name, ◌▹◌}
+use Rattle.py_subset.specs.Parsing.{is}
+use Rattle.py_subset.specs.Statements as spec
+use Rattle.py_subset.proofs.Prefix.{with_front}
+use Rattle.py_subset.proofs.imports.dotted.Given as goal
+
+abbrev pub invariant-loop-turn : goal.invariant-loop-turn
+invariant-loop-turn l = with_front l.words (star (is m.Dot) (m.Dot ▹ name) (l.turns - l._turn) l.tokens) ≡ spec.dotted l.turns l.fn.tokens

@@ -1,0 +1,15 @@
+pub mod formers
+pub mod Pieces
+pub mod Layout
+pub mod Marks
+pub mod Language
+pub mod Trees
+pub mod Dotted
+pub mod Parsers
+pub mod Parsing
+pub mod Statements
+pub mod Whole
+pub mod Chosen
+pub mod Grammar
+pub mod Correct
+pub mod FirstFault

@@ -1,0 +1,94 @@
+//! What stands before the colon of a block.
+
+ghost use Rattle.std.specs.Prelude.{◌≡◌};
+ghost use Rattle.py_subset.specs.Parsers.{Gives, several, name};
+ghost use Rattle.py_subset.specs.Parsing.{is};
+ghost use Rattle.py_subset.specs.Statements as spec;
+
+use crate::expr::in_round;
+use crate::items::Items;
+use crate::symbols::arguments;
+use crate::token::Mark;
+use crate::token_list::{Stop, Tokens};
+use crate::tree::{Expr, Word};
+use std::alloc::Global;
+
+/// Whether a statement may begin with this token.
+#[tactic(auto, unfolding(crate::specs::Statements::begins_stmt))]
+pub fn begins_stmt(mark: Mark) -> bool
+    ensures { result ≡ spec.begins_stmt mark }
+{
+    match mark {
+        Mark::Import
+        | Mark::From
+        | Mark::Return
+        | Mark::Pass
+        | Mark::Break
+        | Mark::Continue
+        | Mark::If
+        | Mark::While
+        | Mark::For
+        | Mark::Def
+        | Mark::Class
+        | Mark::Name
+        | Mark::Number
+        | Mark::Text
+        | Mark::TrueWord
+        | Mark::FalseWord
+        | Mark::NoneWord
+        | Mark::OpenRound
+        | Mark::OpenSquare
+        | Mark::Not
+        | Mark::Minus
+        | Mark::Plus
+        | Mark::Tilde => true,
+        _ => false,
+    }
+}
+
+/// Names with commas between, and whether a comma stands at the end.
+#[tactic(auto, using(crate::proofs::Turns::turns))]
+fn names(alloc: Global, tokens: &mut Tokens, turns: usize) -> Result<(Items<Word>, bool), Stop>
+    ensures { Gives result tokens.new (several (is Mark.Name) name turns tokens.old) }
+{
+    let mut list = Items::new(alloc);
+    list.push(tokens.name()?)?;
+    for _turn in 0..turns {
+        if !tokens.sees(Mark::Comma) {
+            return Ok((list, false));
+        }
+        tokens.pass();
+        if !tokens.sees(Mark::Name) {
+            return Ok((list, true));
+        }
+        list.push(tokens.name()?)?;
+    }
+    Err(Stop::Refused)
+}
+
+/// The parameters of a function.
+#[tactic(auto, unfolding(crate::specs::Statements::parameters))]
+pub fn parameters(alloc: Global, tokens: &mut Tokens, turns: usize) -> Result<Items<Word>, Stop>
+    ensures { Gives result tokens.new (spec.parameters turns tokens.old) }
+{
+    tokens.take(Mark::OpenRound)?;
+    if !tokens.sees(Mark::Name) {
+        tokens.take(Mark::CloseRound)?;
+        return Ok(Items::new(alloc));
+    }
+    let (list, _) = names(alloc, tokens, turns)?;
+    tokens.take(Mark::CloseRound)?;
+    Ok(list)
+}
+
+/// The bases of a class.
+#[tactic(auto, unfolding(crate::specs::Statements::bases))]
+pub fn bases(alloc: Global, tokens: &mut Tokens, turns: usize) -> Result<Items<Expr>, Stop>
+    ensures { Gives result tokens.new (spec.bases turns tokens.old) }
+{
+    if !tokens.sees(Mark::OpenRound) {
+        return Ok(Items::new(alloc));
+    }
+    let inside = in_round(alloc, tokens, turns, turns)?;
+    Ok(arguments(alloc, inside))
+}

@@ -1,0 +1,232 @@
+//! What each piece adds to the tokens.
+
+ghost use Rattle.std.specs.Prelude.{◌≡◌, ◌+◌, ◌^◌, ◌<◌, ◌≤◌, length, nat_le};
+ghost use Rattle.std.specs.List.{prefix_len};
+ghost use Rattle.std.specs.Str.{IsAscii};
+ghost use Rattle.py_subset.specs.Pieces as pieces;
+ghost use Rattle.py_subset.specs.Layout as spec;
+
+use crate::brackets::{close_mark, closes, open_mark};
+use crate::making::{dedents, name_token, token};
+use crate::piece::{Bracket, Flaw, PieceKind};
+use crate::reading::{Place, Reading};
+use crate::token::{Mark, PyFault};
+use std::alloc::Global;
+
+/// How many brackets and blocks may be open at once.
+const MOST_OPEN: usize = 64;
+
+/// The column of the innermost block, 0 where there is none.
+fn innermost(blocks: &[u32]) -> u32
+    ensures { result ≡ spec.innermost blocks.now }
+{
+    match blocks.last() {
+        Some(column) => *column,
+        None => 0,
+    }
+}
+
+/// How many blocks a line with this indentation leaves open.
+fn kept(column: u32, blocks: &[u32]) -> usize
+    ensures exact { result ≡ prefix_len (λ b. nat_le b column) blocks.now }
+    ensures within { result ≤ length blocks.now }
+{
+    for (i, b) in blocks.iter().enumerate() {
+        if *b > column {
+            return i;
+        }
+    }
+    blocks.len()
+}
+
+/// The fault that a flaw is.
+fn fault_of(flaw: Flaw, line: u32) -> PyFault
+    ensures { result ≡ spec.fault_of flaw line }
+{
+    match flaw {
+        Flaw::NotAscii => PyFault::NotAscii(line),
+        Flaw::BadToken => PyFault::BadToken(line),
+        Flaw::Unsupported => PyFault::Unsupported(line),
+    }
+}
+
+impl Reading {
+    /// Whether one more bracket or block is too many.
+    fn is_full(&self) -> bool
+        ensures { result ≡ spec.is_full self.now }
+    {
+        let blocks = self.blocks.len();
+        blocks >= MOST_OPEN || MOST_OPEN - blocks <= self.brackets.len()
+    }
+
+    /// A line begins at this place.
+    fn indent(&mut self, alloc: Global, place: Place) -> Result<(), PyFault>
+        ensures { spec.Does result (spec.indented place self.old) self.new }
+    {
+        let blocks = self.blocks.as_slice();
+        let len = blocks.len();
+        let n = kept(place.column, blocks);
+        if innermost(&blocks[..n]) == place.column {
+            dedents(alloc, &mut self.tokens, len - n, place.line)?;
+            self.blocks.truncate(n);
+            self.fresh = false;
+            return Ok(());
+        }
+        if n < len {
+            return Err(PyFault::BadIndent(place.line));
+        }
+        if self.is_full() {
+            return Err(PyFault::TooDeep(place.line));
+        }
+        self.tokens.push(token(alloc, Mark::Indent, place.line))?;
+        self.blocks.push(place.column)?;
+        self.fresh = false;
+        Ok(())
+    }
+
+    /// The first token of a line begins it.
+    fn begin(&mut self, alloc: Global, place: Place) -> Result<(), PyFault>
+        ensures { spec.Does result (spec.begin place self.old) self.new }
+    {
+        if self.fresh {
+            self.indent(alloc, place)
+        } else {
+            Ok(())
+        }
+    }
+
+    /// Adds a name.
+    fn name(&mut self, alloc: Global, bytes: &[u8], place: Place) -> Result<(), PyFault>
+        requires ascii { IsAscii bytes.now }
+        requires short { place.column + length bytes.now < 2 ^ 32 }
+        ensures { spec.Does result (spec.name bytes.now place self.old) self.new }
+    {
+        self.begin(alloc, place)?;
+        self.tokens.push(name_token(alloc, bytes, place)?)?;
+        Ok(())
+    }
+
+    /// Adds a token other than a name, a string or a bracket.
+    fn plain(&mut self, alloc: Global, mark: Mark, place: Place) -> Result<(), PyFault>
+        ensures { spec.Does result (spec.plain mark place self.old) self.new }
+    {
+        self.begin(alloc, place)?;
+        self.tokens.push(token(alloc, mark, place.line))?;
+        Ok(())
+    }
+
+    /// Adds a string, which holds no carriage return.
+    fn text(&mut self, alloc: Global, has_return: bool, place: Place) -> Result<(), PyFault>
+        ensures { spec.Does result (spec.text has_return place self.old) self.new }
+    {
+        self.begin(alloc, place)?;
+        if has_return {
+            return Err(PyFault::BadToken(place.line));
+        }
+        self.tokens.push(token(alloc, Mark::Text, place.line))?;
+        Ok(())
+    }
+
+    /// Adds an opening bracket.
+    fn opened(&mut self, alloc: Global, b: Bracket, place: Place) -> Result<(), PyFault>
+        ensures { spec.Does result (spec.opened b place self.old) self.new }
+    {
+        self.begin(alloc, place)?;
+        if self.is_full() {
+            return Err(PyFault::TooDeep(place.line));
+        }
+        self.brackets.push(b)?;
+        self.tokens.push(token(alloc, open_mark(b), place.line))?;
+        Ok(())
+    }
+
+    /// Adds a closing bracket, which closes the innermost one.
+    fn closed(&mut self, alloc: Global, b: Bracket, place: Place) -> Result<(), PyFault>
+        ensures { spec.Does result (spec.closed b place self.old) self.new }
+    {
+        let brackets = self.brackets.as_slice();
+        let len = brackets.len();
+        if !closes(b, brackets) {
+            return Err(PyFault::BadToken(place.line));
+        }
+        self.brackets.truncate(len.saturating_sub(1));
+        self.tokens.push(token(alloc, close_mark(b), place.line))?;
+        Ok(())
+    }
+
+    /// Ends a line: with `Newline` where the line counts and no bracket is open.
+    fn line_end(&mut self, alloc: Global, place: Place) -> Result<(), PyFault>
+        ensures { spec.Does result (spec.line_end place self.old) self.new }
+    {
+        if !self.fresh && self.brackets.len() == 0 {
+            self.tokens.push(token(alloc, Mark::Newline, place.line))?;
+            self.fresh = true;
+        }
+        self.tab = false;
+        Ok(())
+    }
+
+    /// Adds what a piece adds that makes a line count.
+    fn counted(
+        &mut self,
+        alloc: Global,
+        kind: PieceKind,
+        bytes: &[u8],
+        place: Place,
+    ) -> Result<(), PyFault>
+        requires spelled { pieces.IsSpelled kind bytes.now }
+        requires short { place.column + length bytes.now < 2 ^ 32 }
+        ensures { spec.Does result (spec.counted kind bytes.now place self.old) self.new }
+    {
+        match kind {
+            PieceKind::Blanks(_) | PieceKind::Comment | PieceKind::LineEnd => Ok(()),
+            PieceKind::Name => self.name(alloc, bytes, place),
+            PieceKind::Plain(mark) => self.plain(alloc, mark, place),
+            PieceKind::Text(has_return) => self.text(alloc, has_return, place),
+            PieceKind::Open(b) => self.opened(alloc, b, place),
+            PieceKind::Close(b) => self.closed(alloc, b, place),
+            PieceKind::Broken(flaw) => Err(fault_of(flaw, place.line)),
+        }
+    }
+
+    /// Takes the next piece, with its bytes and its place. After an `Err` the reading is over.
+    pub fn take(
+        &mut self,
+        alloc: Global,
+        kind: PieceKind,
+        bytes: &[u8],
+        place: Place,
+    ) -> Result<(), PyFault>
+        requires spelled { pieces.IsSpelled kind bytes.now }
+        requires short { place.column + length bytes.now < 2 ^ 32 }
+        ensures { spec.Does result (spec.step kind bytes.now place self.old) self.new }
+    {
+        match kind {
+            PieceKind::Blanks(tab) => {
+                self.tab = self.tab || self.fresh && tab;
+                Ok(())
+            }
+            PieceKind::Comment => {
+                self.tab = false;
+                Ok(())
+            }
+            PieceKind::LineEnd => self.line_end(alloc, place),
+            _ if self.tab => Err(PyFault::Unsupported(place.line)),
+            _ => self.counted(alloc, kind, bytes, place),
+        }
+    }
+
+    /// Ends the reading, at the line of the text's end.
+    pub fn finish(&mut self, alloc: Global, line: u32) -> Result<(), PyFault>
+        ensures { spec.Does result (spec.finish line self.old) self.new.tokens }
+    {
+        if self.brackets.len() > 0 {
+            return Err(PyFault::BadToken(line));
+        }
+        if !self.fresh {
+            self.tokens.push(token(alloc, Mark::Newline, line))?;
+        }
+        dedents(alloc, &mut self.tokens, self.blocks.len(), line)?;
+        Ok(())
+    }
+}

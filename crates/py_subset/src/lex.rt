@@ -1,0 +1,83 @@
+//! The tokens of a text.
+
+ghost use Rattle.std.specs.Prelude.{◌≡◌, ◌+◌, ◌^◌, ◌<◌, ◌≤◌, length, take, drop};
+ghost use Rattle.py_subset.specs.Pieces as pieces;
+ghost use Rattle.py_subset.specs.Layout as spec;
+
+use crate::items::Items;
+use crate::piece::{Piece, PieceKind, piece_at};
+use crate::reading::{Place, Reading};
+use crate::token::PyFault;
+use crate::token_list::Tokens;
+use std::alloc::Global;
+
+fn start(alloc: Global) -> Reading
+    ensures { result ≡ spec.start }
+{
+    Reading {
+        tokens: Tokens::new(alloc),
+        blocks: Items::new(alloc),
+        brackets: Items::new(alloc),
+        fresh: true,
+        tab: false,
+    }
+}
+
+fn past(kind: PieceKind, len: u32, place: Place) -> Place
+    requires room { place.line + place.column + len < 2 ^ 32 }
+    requires some { 0 < len }
+    ensures exact { result ≡ spec.past kind len place }
+    ensures sum { result.line + result.column ≤ place.line + place.column + len }
+{
+    match kind {
+        PieceKind::LineEnd => Place {
+            line: place.line + 1,
+            column: 0,
+        },
+        _ => Place {
+            line: place.line,
+            column: place.column + len,
+        },
+    }
+}
+
+fn rest_from(text: &[u8], at: usize) -> &[u8]
+    requires { at ≤ length text.now }
+    ensures { result.now ≡ drop at text.now }
+{
+    &text[at..]
+}
+
+fn front(text: &[u8], len: usize) -> &[u8]
+    requires { len ≤ length text.now }
+    ensures { result.now ≡ take len text.now }
+{
+    &text[..len]
+}
+
+/// The line of the text's end, which is the number of its newlines.
+pub fn end_line(text: &[u8]) -> u32
+    requires { length text.now < 2 ^ 32 }
+    ensures { result ≡ spec.end_line text.now }
+{
+    text.iter().filter(|b| **b == b'\n').count() as u32
+}
+
+/// The tokens of a text of fewer than 2^32 bytes, without the end of the text, or its first fault.
+pub fn tokens(alloc: Global, text: &[u8]) -> Result<Tokens, PyFault>
+    requires { length text.now < 2 ^ 32 }
+    ensures { spec.Reads result (spec.tokens_of text.now) }
+{
+    let mut reading = start(alloc);
+    let mut place = Place { line: 0, column: 0 };
+    let mut at = 0;
+    while at < text.len() {
+        let rest = rest_from(text, at);
+        let piece = piece_at(rest);
+        reading.take(alloc, piece.kind, front(rest, piece.len), place)?;
+        place = past(piece.kind, piece.len as u32, place);
+        at += piece.len;
+    }
+    reading.finish(alloc, end_line(text))?;
+    Ok(reading.tokens)
+}

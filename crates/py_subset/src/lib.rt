@@ -1,0 +1,34 @@
+//! Reads a module of a Python subset exactly, or tells its first fault and the line.
+#![tactic(auto)]
+
+mod block;
+mod brackets;
+mod bytes;
+mod expr;
+mod header;
+mod imports;
+mod items;
+mod keywords;
+mod layout;
+mod lex;
+mod making;
+mod mark;
+mod piece;
+mod reading;
+mod sign_pieces;
+mod simple;
+mod symbols;
+#[cfg(test)]
+mod tests;
+mod token;
+mod token_list;
+mod tree;
+mod whole;
+
+pub use items::Items;
+pub use token::PyFault;
+pub use tree::{
+    Arm, Atom, BinOp, Expr, Exprs, FromItem, ImportItem, Joined, Module, Operand, Postfix, Primary,
+    PyText, Sign, Stmt, Target, Word,
+};
+pub use whole::{one_module, parse};

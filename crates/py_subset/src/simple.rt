@@ -1,0 +1,130 @@
+//! Statements of one line.
+
+ghost use Rattle.std.specs.Prelude.{◌≡◌};
+ghost use Rattle.py_subset.specs.Trees as tree;
+ghost use Rattle.py_subset.specs.Parsers.{Gives};
+ghost use Rattle.py_subset.specs.Statements as spec;
+
+use crate::expr::exprs;
+use crate::imports::{from_stmt, import_stmt};
+use crate::symbols::begins_expr;
+use crate::token::Mark;
+use crate::token_list::{Stop, Tokens};
+use crate::tree::{Atom, Expr, Exprs, Operand, Postfix, Primary, Stmt, Target};
+use std::alloc::Global;
+
+/// The statement that one token is.
+fn jump_of(mark: Mark) -> Option<Stmt>
+    ensures { result ≡ tree.jump_of mark }
+{
+    match mark {
+        Mark::Pass => Some(Stmt::Pass),
+        Mark::Break => Some(Stmt::Break),
+        Mark::Continue => Some(Stmt::Continue),
+        _ => None,
+    }
+}
+
+/// The target that a primary is.
+#[tactic(auto, unfolding(crate::specs::Trees::primary_target))]
+fn primary_target(primary: Primary) -> Option<Target>
+    ensures { result ≡ tree.primary_target primary }
+{
+    let Primary { atom, mut posts } = primary;
+    match posts.pop() {
+        Some(Postfix::Member(word)) => Some(Target::Member(Primary { atom, posts }, word)),
+        Some(Postfix::Call(_)) => None,
+        None => match atom {
+            Atom::Name(word) => Some(Target::Name(word)),
+            _ => None,
+        },
+    }
+}
+
+/// The target that these expressions are.
+#[tactic(auto, unfolding(crate::specs::Trees::target_of))]
+fn target_of(exprs: Exprs) -> Option<Target>
+    ensures { result ≡ tree.target_of exprs }
+{
+    let Exprs {
+        mut items,
+        last_comma,
+    } = exprs;
+    if last_comma || items.len() != 1 {
+        return None;
+    }
+    let Some(Expr { first, rest }) = items.pop() else {
+        return None;
+    };
+    if rest.len() != 0 {
+        return None;
+    }
+    let Operand { signs, primary } = first;
+    if signs.len() != 0 {
+        return None;
+    }
+    primary_target(primary)
+}
+
+/// An assignment, or expressions alone.
+#[tactic(auto, unfolding(crate::specs::Statements::assign))]
+fn assign(alloc: Global, tokens: &mut Tokens, turns: usize) -> Result<Stmt, Stop>
+    ensures { Gives result tokens.new (spec.assign turns tokens.old) }
+{
+    let left = exprs(alloc, tokens, turns, turns)?;
+    if !tokens.sees(Mark::Assign) {
+        return Ok(Stmt::Evaluate(left));
+    }
+    match target_of(left) {
+        Some(target) => {
+            tokens.take(Mark::Assign)?;
+            Ok(Stmt::Assign(target, exprs(alloc, tokens, turns, turns)?))
+        }
+        None => Err(Stop::Refused),
+    }
+}
+
+/// `return ..`
+#[tactic(auto, unfolding(crate::specs::Statements::return_stmt))]
+fn return_stmt(alloc: Global, tokens: &mut Tokens, turns: usize) -> Result<Stmt, Stop>
+    ensures { Gives result tokens.new (spec.return_stmt turns tokens.old) }
+{
+    tokens.take(Mark::Return)?;
+    if !begins_expr(tokens.peek()) {
+        return Ok(Stmt::Return(None));
+    }
+    Ok(Stmt::Return(Some(exprs(alloc, tokens, turns, turns)?)))
+}
+
+/// A statement of one line, but for the line's end.
+#[tactic(auto, unfolding(crate::specs::Statements::simple, crate::specs::Statements::is_jump))]
+fn simple(alloc: Global, tokens: &mut Tokens, turns: usize) -> Result<Stmt, Stop>
+    ensures { Gives result tokens.new (spec.simple turns tokens.old) }
+{
+    if tokens.sees(Mark::Import) {
+        return import_stmt(alloc, tokens, turns);
+    }
+    if tokens.sees(Mark::From) {
+        return from_stmt(alloc, tokens, turns);
+    }
+    if tokens.sees(Mark::Return) {
+        return return_stmt(alloc, tokens, turns);
+    }
+    match jump_of(tokens.peek()) {
+        Some(stmt) => {
+            tokens.pass();
+            Ok(stmt)
+        }
+        None => assign(alloc, tokens, turns),
+    }
+}
+
+/// A statement of one line.
+#[tactic(auto, unfolding(crate::specs::Statements::simple_line))]
+pub fn simple_line(alloc: Global, tokens: &mut Tokens, turns: usize) -> Result<Stmt, Stop>
+    ensures { Gives result tokens.new (spec.simple_line turns tokens.old) }
+{
+    let stmt = simple(alloc, tokens, turns)?;
+    tokens.take(Mark::Newline)?;
+    Ok(stmt)
+}

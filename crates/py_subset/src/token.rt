@@ -1,0 +1,108 @@
+//! What a text is made of: tokens, and the faults that stop the reading.
+
+use crate::tree::Word;
+use std::alloc::AllocError;
+
+/// The first fault of a text, with its line, counted from 0.
+#[derive(Clone, Copy, Debug, PartialEq, Eq)]
+pub enum PyFault {
+    /// A byte from 128 up outside comments and strings.
+    NotAscii(u32),
+    /// A line that goes back to a column where no open block begins.
+    BadIndent(u32),
+    /// A byte that begins no token, a string that isn't closed on its line, a bracket that doesn't
+    /// match or isn't closed, or a lone carriage return.
+    BadToken(u32),
+    /// A form of Python that is left out.
+    Unsupported(u32),
+    /// A token with which no module goes on.
+    Expected(u32),
+    /// More than 64 brackets and blocks open at once.
+    TooDeep(u32),
+    /// Memory ran out.
+    NoMemory,
+}
+
+/// Which token it is.
+#[derive(Clone, Copy, Debug, PartialEq, Eq)]
+pub enum Mark {
+    Name,
+    Number,
+    Text,
+    Newline,
+    Indent,
+    Dedent,
+    /// The end of the text.
+    End,
+    FalseWord,
+    NoneWord,
+    TrueWord,
+    And,
+    As,
+    Break,
+    Class,
+    Continue,
+    Def,
+    Elif,
+    Else,
+    For,
+    From,
+    If,
+    Import,
+    In,
+    Is,
+    Not,
+    Or,
+    Pass,
+    Return,
+    While,
+    /// A keyword or a sign of Python that no rule of the grammar has, other than a curly bracket.
+    Foreign,
+    OpenRound,
+    CloseRound,
+    OpenSquare,
+    CloseSquare,
+    OpenCurly,
+    CloseCurly,
+    Comma,
+    Colon,
+    Dot,
+    Assign,
+    Plus,
+    Minus,
+    Star,
+    Slash,
+    DoubleSlash,
+    Percent,
+    Power,
+    Ampersand,
+    Bar,
+    Caret,
+    Tilde,
+    ShiftLeft,
+    ShiftRight,
+    Less,
+    Greater,
+    LessEqual,
+    GreaterEqual,
+    EqualEqual,
+    NotEqual,
+}
+
+/// A token. The text and the columns are told for names alone.
+#[derive(Debug, Drop)]
+pub struct Token {
+    pub mark: Mark,
+    pub word: Word,
+}
+
+impl From<AllocError> for PyFault {
+    ghost use Rattle.std.specs.Prelude.{◌≡◌};
+    ghost use Rattle.py_subset.specs.declared.token.PyFault.TheVariants.{NoMemory};
+
+    ghost from_gives = { λ _ e. e ≡ NoMemory };
+
+    fn from(_: AllocError) -> PyFault {
+        PyFault::NoMemory
+    }
+}

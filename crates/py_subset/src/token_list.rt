@@ -1,0 +1,136 @@
+//! The tokens that are left to read.
+
+ghost use Rattle.std.specs.Prelude.{◌≡◌, [], ◌∷◌, ◌++◌, OnOk};
+
+use crate::mark::same;
+use crate::token::{Mark, Token};
+use crate::tree::Word;
+use std::alloc::{AllocError, Global};
+use std::collections::VecDeque;
+use std::marker::Model;
+
+/// Why a rule of the grammar stops.
+#[derive(Clone, Copy, Debug, PartialEq, Eq)]
+pub enum Stop {
+    /// The next token is refused.
+    Refused,
+    /// Memory ran out.
+    NoMemory,
+}
+
+impl From<AllocError> for Stop {
+    ghost use Rattle.std.specs.Prelude.{◌≡◌};
+    ghost use Rattle.py_subset.specs.declared.token_list.Stop.TheVariants.{NoMemory};
+
+    ghost from_gives = { λ _ e. e ≡ NoMemory };
+
+    fn from(_: AllocError) -> Stop {
+        Stop::NoMemory
+    }
+}
+
+/// Tokens in order, taken from the front. Contracts see them as a list.
+#[derive(Drop)]
+pub struct Tokens {
+    left: VecDeque<Token>,
+}
+
+impl Model for Tokens {
+    ghost use Rattle.std.specs.Prelude.{List};
+    ghost use Rattle.py_subset.specs.declared.token.Token.{Token};
+
+    ghost Value = { List Token };
+
+    ghost view = { λ t. t.left.items };
+}
+
+impl Tokens {
+    ghost use Rattle.std.specs.Prelude.{◌≡◌, [], ◌∷◌, ◌++◌, length, OnOk};
+    ghost use Rattle.py_subset.specs.Marks as marks;
+    ghost use Rattle.py_subset.specs.Language as language;
+    ghost use Rattle.py_subset.specs.Parsers as parsers;
+    ghost use Rattle.py_subset.specs.Whole as whole;
+
+    /// No tokens.
+    pub fn new(alloc: Global) -> Tokens
+        ensures { result ≡ [] }
+    {
+        Tokens {
+            left: VecDeque::new(alloc),
+        }
+    }
+
+    /// Puts a token at the end.
+    pub fn push(&mut self, token: Token) -> Result<(), AllocError>
+        ensures { OnOk result (self.new ≡ self.old ++ token ∷ []) }
+    {
+        self.left.push_back(token)?;
+        Ok(())
+    }
+
+    /// How many tokens there are.
+    pub fn len(&self) -> usize
+        ensures { result ≡ length self.now }
+    {
+        self.left.len()
+    }
+
+    /// The line of the next token, or this one where there is none.
+    pub fn line_or(&self, end: u32) -> u32
+        ensures { result ≡ whole.line_or end self.now }
+    {
+        match self.left.front() {
+            Some(token) => token.word.line,
+            None => end,
+        }
+    }
+
+    /// The mark of the next token.
+    pub fn peek(&self) -> Mark
+        ensures { result ≡ language.next self.now }
+    {
+        match self.left.front() {
+            Some(token) => token.mark,
+            None => Mark::End,
+        }
+    }
+
+    /// Whether the next token has this mark.
+    pub fn sees(&self, mark: Mark) -> bool
+        ensures { result ≡ marks.same (language.next self.now) mark }
+    {
+        same(self.peek(), mark)
+    }
+
+    /// Passes over the next token.
+    pub fn pass(&mut self)
+        ensures { self.new ≡ parsers.rest self.old }
+    {
+        let _ = self.left.pop_front();
+    }
+
+    /// Takes a token with this mark.
+    pub fn take(&mut self, mark: Mark) -> Result<(), Stop>
+        ensures { parsers.Gives result self.new (parsers.tok mark self.old) }
+    {
+        if self.sees(mark) {
+            self.pass();
+            Ok(())
+        } else {
+            Err(Stop::Refused)
+        }
+    }
+
+    /// Takes a name.
+    pub fn name(&mut self) -> Result<Word, Stop>
+        ensures { parsers.Gives result self.new (parsers.name self.old) }
+    {
+        if !self.sees(Mark::Name) {
+            return Err(Stop::Refused);
+        }
+        match self.left.pop_front() {
+            Some(token) => Ok(token.word),
+            None => Err(Stop::Refused),
+        }
+    }
+}
