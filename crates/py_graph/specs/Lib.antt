@@ -1,0 +1,13 @@
+pub mod Names
+pub mod Steps
+pub mod Nodes
+pub mod Gives
+pub mod Inside
+pub mod Contexts
+pub mod Modules
+pub mod Statements
+pub mod Imports
+pub mod Functions
+pub mod Classes
+pub mod Blocks
+pub mod Expressions

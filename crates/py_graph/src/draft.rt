@@ -1,0 +1,239 @@
+//! The nodes and edges made so far, and the single steps.
+
+ghost use Rattle.std.specs.Prelude.{◌≡◌, [], ◌∷◌, ◌++◌, OnOk, OnErr};
+ghost use Rattle.py_graph.specs.Steps as steps;
+
+use crate::fault::TransFault;
+use graph_nodes::{
+    Edge, FileGraph, GraphFault, MAX_EDGES, MAX_NODES, Name, Node, NodeKind, Place, Span,
+};
+use py_subset::Word;
+use std::alloc::{AllocError, Global};
+use std::marker::Model;
+
+/// Why the steps stop.
+#[derive(Clone, Copy, Debug, PartialEq, Eq)]
+pub enum Stop {
+    /// The next node would be one more than a file may have.
+    Full,
+    /// Memory ran out.
+    NoMemory,
+}
+
+impl From<AllocError> for Stop {
+    ghost use Rattle.std.specs.Prelude.{◌≡◌};
+    ghost use Rattle.py_graph.specs.declared.draft.Stop.TheVariants.{NoMemory};
+
+    ghost from_gives = { λ _ e. e ≡ NoMemory };
+
+    fn from(_: AllocError) -> Stop {
+        Stop::NoMemory
+    }
+}
+
+/// The nodes and edges made so far.
+#[derive(Drop)]
+pub struct Draft {
+    nodes: Vec<Node>,
+    edges: Vec<Edge>,
+}
+
+impl Model for Draft {
+    ghost use Rattle.graph_nodes.specs.Graph.{Graph};
+    ghost use Rattle.py_graph.specs.Inside.{IsSound};
+
+    ghost Value = { Graph };
+
+    ghost view = { λ d. record { nodes = d.nodes.items; edges = d.edges.items } };
+
+    ghost invariant = { λ d. IsSound d.nodes.items d.edges.items };
+}
+
+impl Draft {
+    ghost use Rattle.std.specs.Prelude.{◌≡◌, ◌<◌, [], length, true, false, IfOk};
+    ghost use Rattle.graph_nodes.specs.Checked.{has_scope, has_ends, is_jump};
+    ghost use Rattle.py_graph.specs.Inside.{Grows, IsNode, IsNodeIf, ArePair};
+    ghost use Rattle.py_graph.specs.Nodes.{call_nodes};
+    ghost use Rattle.py_graph.specs.Steps as steps;
+    ghost use Rattle.py_graph.specs.Gives.{Gives};
+    ghost use Rattle.py_graph.specs.Modules.{Translates, limited};
+
+    /// Nothing made yet.
+    pub fn new(alloc: Global) -> Draft
+        ensures nodes { result.nodes ≡ [] }
+        ensures edges { result.edges ≡ [] }
+    {
+        Draft {
+            nodes: Vec::new(alloc),
+            edges: Vec::new(alloc),
+        }
+    }
+
+    /// The graph of what was made, where it has no more edges than a file may have.
+    #[tactic(auto, using(crate::proofs::Sound::drafting))]
+    pub fn finish(self, alloc: Global) -> Result<FileGraph, TransFault>
+        ensures { Translates result (limited self) }
+    {
+        if self.edges.len() > MAX_EDGES {
+            return Err(TransFault::TooManyEdges(65_537));
+        }
+        match FileGraph::check(alloc, self.nodes, self.edges) {
+            Ok(graph) => Ok(graph),
+            Err(fault) => Err(refused(fault)),
+        }
+    }
+
+    /// Makes a node, and gives its position.
+    #[tactic(auto, using(crate::proofs::Sound::drafting))]
+    pub fn node(&mut self, kind: NodeKind, span: Option<Span>) -> Result<u32, Stop>
+        requires scope { has_scope self.old.nodes kind ≡ true }
+        ensures gives { Gives result self.new (steps.node kind span self.old) }
+        ensures grows { Grows self.old self.new }
+        ensures inside { IfOk result (IsNode self.new) }
+    {
+        let at = self.nodes.len();
+        if at >= MAX_NODES {
+            return Err(Stop::Full);
+        }
+        put_node(&mut self.nodes, Node { kind, span })?;
+        Ok(at as u32)
+    }
+
+    /// Makes the push of a call, and behind it the exported scope of its arguments.
+    #[tactic(auto, using(crate::proofs::Sound::drafting))]
+    pub fn call_nodes(&mut self, alloc: Global) -> Result<(u32, u32), Stop>
+        ensures gives { Gives result self.new (call_nodes self.old) }
+        ensures grows { Grows self.old self.new }
+        ensures inside { IfOk result (ArePair self.new) }
+    {
+        let symbol = Name::of(alloc, "()")?;
+        let at = self.nodes.len();
+        if at + 1 >= MAX_NODES {
+            return Err(Stop::Full);
+        }
+        let push = NodeKind::PushScoped {
+            symbol,
+            scope: (at + 1) as u32,
+            reference: false,
+        };
+        put_two(
+            &mut self.nodes,
+            Node {
+                kind: push,
+                span: None,
+            },
+            Node {
+                kind: NodeKind::Scope { exported: true },
+                span: None,
+            },
+        )?;
+        Ok((at as u32, (at + 1) as u32))
+    }
+
+    /// Makes an edge.
+    #[tactic(auto, using(crate::proofs::Sound::drafting))]
+    pub fn join(&mut self, source: Place, sink: Place, precedence: u16) -> Result<(), Stop>
+        requires ends { has_ends (length self.old.nodes) (record { source = source; sink = sink; precedence = precedence }) ≡ true }
+        requires source { is_jump source ≡ false }
+        ensures gives { Gives result self.new (steps.join source sink precedence self.old) }
+        ensures grows { Grows self.old self.new }
+    {
+        put_edge(
+            &mut self.edges,
+            Edge {
+                source,
+                sink,
+                precedence,
+            },
+        )?;
+        Ok(())
+    }
+
+    /// Makes an edge between two nodes.
+    #[tactic(auto, using(crate::proofs::Sound::drafting))]
+    pub fn edge(&mut self, u: u32, v: u32, precedence: u16) -> Result<(), Stop>
+        requires u { u < length self.old.nodes }
+        requires v { v < length self.old.nodes }
+        ensures gives { Gives result self.new (steps.edge u v precedence self.old) }
+        ensures grows { Grows self.old self.new }
+    {
+        self.join(Place::At(u), Place::At(v), precedence)
+    }
+
+    /// Makes an edge of precedence 0 between two nodes.
+    #[tactic(auto, using(crate::proofs::Sound::drafting))]
+    pub fn link(&mut self, u: u32, v: u32) -> Result<(), Stop>
+        requires u { u < length self.old.nodes }
+        requires v { v < length self.old.nodes }
+        ensures gives { Gives result self.new (steps.edge u v 0 self.old) }
+        ensures grows { Grows self.old self.new }
+    {
+        self.edge(u, v, 0)
+    }
+
+    /// Makes an edge of precedence 0 to the second node, where there is one.
+    #[tactic(auto, using(crate::proofs::Sound::drafting))]
+    pub fn link_if(&mut self, u: u32, v: Option<u32>) -> Result<(), Stop>
+        requires u { u < length self.old.nodes }
+        requires v { IsNodeIf self.old v }
+        ensures gives { Gives result self.new (steps.◌▸?◌ u v self.old) }
+        ensures grows { Grows self.old self.new }
+    {
+        match v {
+            Some(v) => self.link(u, v),
+            None => Ok(()),
+        }
+    }
+}
+
+fn put_node(nodes: &mut Vec<Node>, node: Node) -> Result<(), AllocError>
+    ensures ok { OnOk result (nodes.new.items ≡ nodes.old.items ++ node ∷ []) }
+    ensures err { OnErr result (nodes.new.items ≡ nodes.old.items) }
+{
+    nodes.push(node)?;
+    Ok(())
+}
+
+/// Both nodes, or none where memory runs out.
+fn put_two(nodes: &mut Vec<Node>, first: Node, second: Node) -> Result<(), AllocError>
+    ensures ok { OnOk result (nodes.new.items ≡ nodes.old.items ++ first ∷ second ∷ []) }
+    ensures err { OnErr result (nodes.new.items ≡ nodes.old.items) }
+{
+    put_node(nodes, first)?;
+    if let Err(e) = put_node(nodes, second) {
+        let _ = nodes.pop();
+        return Err(e);
+    }
+    Ok(())
+}
+
+fn put_edge(edges: &mut Vec<Edge>, edge: Edge) -> Result<(), AllocError>
+    ensures err { OnErr result (edges.new.items ≡ edges.old.items) }
+    ensures ok { OnOk result (edges.new.items ≡ edges.old.items ++ edge ∷ []) }
+{
+    edges.push(edge)?;
+    Ok(())
+}
+
+/// What is told of a refused graph: want of memory, since a graph in the making has no other fault.
+fn refused(fault: GraphFault) -> TransFault
+    requires { fault ≡ GraphFault.NoMemory }
+    ensures { result ≡ TransFault.NoMemory }
+{
+    match fault {
+        GraphFault::NoMemory => TransFault::NoMemory,
+        _ => TransFault::BadName,
+    }
+}
+
+/// Where a name stands.
+pub fn span_of(x: &Word) -> Span
+    ensures { result ≡ steps.span_of x.now }
+{
+    Span {
+        from_line: x.line,
+        from_column: x.from_column,
+        to_line: x.line,
+        to_column: x.to_column,
+    }
+}

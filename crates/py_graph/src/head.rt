@@ -1,0 +1,79 @@
+//! The nodes of a module's name.
+
+ghost use Rattle.std.specs.Prelude.{◌≡◌, ◌+◌, ◌<◌, length, map, drop, None};
+ghost use Rattle.py_graph.specs.Modules as row;
+ghost use Rattle.py_graph.specs.Inside.{Grows, IsNode, IsNodeIf};
+ghost use Rattle.std.specs.Prelude.{IfOk};
+ghost use Rattle.py_graph.specs.Gives.{Gives};
+
+use crate::draft::{Draft, Stop};
+use crate::nodes::pop_dot;
+use graph_nodes::{Name, NodeKind, Place, Span};
+use std::alloc::Global;
+
+const START: Span = Span {
+    from_line: 0,
+    from_column: 0,
+    to_line: 0,
+    to_column: 0,
+};
+
+/// A part of the module's name; the last one is a definition at the start of the file.
+fn part(alloc: Global, draft: &mut Draft, x: &str, last: bool) -> Result<u32, Stop>
+    ensures gives { Gives result draft.new (row.part x.now last draft.old) }
+    ensures grows { Grows draft.old draft.new }
+    ensures inside { IfOk result (IsNode draft.new) }
+{
+    let symbol = Name::of(alloc, x)?;
+    let span = if last { Some(START) } else { None };
+    draft.node(
+        NodeKind::Pop {
+            symbol,
+            definition: last,
+        },
+        span,
+    )
+}
+
+/// An edge to a node from the one before it, or from the root.
+#[tactic(auto, using(crate::proofs::Sound::standing))]
+fn arrive(draft: &mut Draft, before: Option<u32>, n: u32) -> Result<(), Stop>
+    requires n { n < length draft.old.nodes }
+    requires before { IsNodeIf draft.old before }
+    ensures gives { Gives result draft.new (row.arrive before n draft.old) }
+    ensures grows { Grows draft.old draft.new }
+{
+    match before {
+        Some(t) => draft.link(t, n),
+        None => draft.join(Place::Root, Place::At(n), 0),
+    }
+}
+
+/// Whether no part stands behind this one.
+fn is_last(parts: &[&str], i: usize) -> bool
+    requires { i < length parts.now }
+    ensures { result ≡ row.is_last (map (λ x. x.now) (drop (i + 1) parts.now)) }
+{
+    if i + 1 < parts.len() { false } else { true }
+}
+
+/// The parts of the module's name, from the root to the module's scope.
+#[tactic(auto, using(crate::proofs::Sound::standing))]
+pub fn name_nodes(alloc: Global, draft: &mut Draft, parts: &[&str], s: u32) -> Result<(), Stop>
+    requires s { s < length draft.old.nodes }
+    ensures gives { Gives result draft.new (row.path None (map (λ x. x.now) parts.now) s draft.old) }
+    ensures grows { Grows draft.old draft.new }
+{
+    let mut before = None;
+    for (i, x) in parts.iter().enumerate() {
+        let n = part(alloc, draft, x, is_last(parts, i))?;
+        let t = pop_dot(alloc, draft)?;
+        arrive(draft, before, n)?;
+        draft.link(n, t)?;
+        before = Some(t);
+    }
+    match before {
+        Some(t) => draft.link(t, s),
+        None => Ok(()),
+    }
+}

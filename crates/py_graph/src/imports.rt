@@ -1,0 +1,241 @@
+//! The rows of imports.
+
+ghost use Rattle.std.specs.Prelude.{◌≡◌, [], ◌∷◌, ◌++◌, map, reverse, OnOk};
+ghost use Rattle.py_graph.specs.Steps.{each, collect, ◌▸?◌};
+ghost use Rattle.py_graph.specs.Blocks.{suite};
+ghost use Rattle.py_graph.specs.Imports as row;
+ghost use Rattle.py_graph.specs.Inside.{Grows, IsNode, ArePairIf, IsInside};
+ghost use Rattle.std.specs.List.{All};
+ghost use Rattle.std.specs.Prelude.{◌<◌, length, IfOk};
+ghost use Rattle.py_graph.specs.Gives.{Gives, GivesItems};
+
+use crate::draft::{Draft, Stop};
+use crate::frame::Frame;
+use crate::nodes::{binding, push_dot, reference};
+use graph_nodes::Place;
+use py_subset::{FromItem, ImportItem, Word};
+use std::alloc::{AllocError, Global};
+
+/// The names of a dotted name from the last to the first, behind the node of the name after them.
+#[tactic(auto, using(crate::proofs::Sound::standing))]
+fn behind(alloc: Global, draft: &mut Draft, n: u32, xs: &[Word]) -> Result<u32, Stop>
+    requires n { n < length draft.old.nodes }
+    ensures gives { Gives result draft.new (row.behind n (reverse xs.now) draft.old) }
+    ensures grows { Grows draft.old draft.new }
+    ensures inside { IfOk result (IsNode draft.new) }
+{
+    let mut last = n;
+    for i in 0..xs.len() {
+        let x = &xs[xs.len() - 1 - i];
+        let t = push_dot(alloc, draft)?;
+        let m = reference(alloc, draft, x)?;
+        draft.link(last, t)?;
+        draft.link(t, m)?;
+        last = m;
+    }
+    draft.join(Place::At(last), Place::Root, 0)?;
+    Ok(last)
+}
+
+/// A dotted name: its first and its last node.
+fn dotted(alloc: Global, draft: &mut Draft, xs: &[Word]) -> Result<Option<(u32, u32)>, Stop>
+    ensures gives { Gives result draft.new (row.dotted xs.now draft.old) }
+    ensures grows { Grows draft.old draft.new }
+    ensures inside { IfOk result (ArePairIf draft.new) }
+{
+    match xs {
+        [] => Ok(None),
+        [before @ .., x] => {
+            let n = reference(alloc, draft, x)?;
+            let m = behind(alloc, draft, n, before)?;
+            Ok(Some((n, m)))
+        }
+    }
+}
+
+/// An edge to the first node of a dotted name.
+#[tactic(auto, using(crate::proofs::Sound::standing))]
+fn link_first(draft: &mut Draft, n: u32, d: Option<(u32, u32)>) -> Result<(), Stop>
+    requires n { n < length draft.old.nodes }
+    requires d { ArePairIf draft.old d }
+    ensures gives { Gives result draft.new (◌▸?◌ n (row.first_node d) draft.old) }
+    ensures grows { Grows draft.old draft.new }
+{
+    match d {
+        Some((first, _)) => draft.link(n, first),
+        None => Ok(()),
+    }
+}
+
+/// An edge to the last node of a dotted name.
+#[tactic(auto, using(crate::proofs::Sound::standing))]
+fn link_last(draft: &mut Draft, n: u32, d: Option<(u32, u32)>) -> Result<(), Stop>
+    requires n { n < length draft.old.nodes }
+    requires d { ArePairIf draft.old d }
+    ensures gives { Gives result draft.new (◌▸?◌ n (row.last_node d) draft.old) }
+    ensures grows { Grows draft.old draft.new }
+{
+    match d {
+        Some((_, last)) => draft.link(n, last),
+        None => Ok(()),
+    }
+}
+
+/// A module imported under its own name, of which the first part is bound.
+#[tactic(auto, using(crate::proofs::Sound::standing))]
+fn import_name(alloc: Global, draft: &mut Draft, c: &Frame, xs: &[Word]) -> Result<(), Stop>
+    requires c { IsInside draft.old c.now }
+    ensures gives { Gives result draft.new (row.import_name xs.now c.now draft.old) }
+    ensures grows { Grows draft.old draft.new }
+{
+    let [x, ..] = xs else {
+        return Ok(());
+    };
+    let n = binding(alloc, draft, x)?;
+    draft.edge(c.binds(), n, c.rank())?;
+    let d = dotted(alloc, draft, xs)?;
+    link_last(draft, n, d)
+}
+
+/// A module imported under another name.
+#[tactic(auto, using(crate::proofs::Sound::standing))]
+fn import_as(alloc: Global, draft: &mut Draft, c: &Frame, xs: &[Word], y: &Word) -> Result<(), Stop>
+    requires c { IsInside draft.old c.now }
+    ensures gives { Gives result draft.new (row.import_as xs.now y.now c.now draft.old) }
+    ensures grows { Grows draft.old draft.new }
+{
+    let n = binding(alloc, draft, y)?;
+    draft.edge(c.binds(), n, c.rank())?;
+    let d = dotted(alloc, draft, xs)?;
+    link_first(draft, n, d)
+}
+
+/// One of the modules that an `import` imports.
+#[tactic(auto, using(crate::proofs::Sound::standing))]
+fn import_item(alloc: Global, draft: &mut Draft, c: &Frame, i: &ImportItem) -> Result<(), Stop>
+    requires c { IsInside draft.old c.now }
+    ensures gives { Gives result draft.new (row.import_item i.now c.now draft.old) }
+    ensures grows { Grows draft.old draft.new }
+{
+    match &i.alias {
+        Some(y) => import_as(alloc, draft, c, i.dotted.as_slice(), y),
+        None => import_name(alloc, draft, c, i.dotted.as_slice()),
+    }
+}
+
+/// The modules that an `import` imports.
+#[tactic(auto, using(crate::proofs::Sound::standing))]
+pub fn import_items(
+    alloc: Global,
+    draft: &mut Draft,
+    c: &Frame,
+    items: &[ImportItem],
+) -> Result<(), Stop>
+    requires c { IsInside draft.old c.now }
+    ensures gives { Gives result draft.new (suite (map row.import_item items.now) c.now draft.old) }
+    ensures grows { Grows draft.old draft.new }
+{
+    for i in items {
+        import_item(alloc, draft, c, i)?;
+    }
+    Ok(())
+}
+
+/// The name that an item binds.
+fn bound(i: &FromItem) -> &Word
+    ensures { result.now ≡ row.bound i.now }
+{
+    match &i.alias {
+        Some(y) => y,
+        None => &i.name,
+    }
+}
+
+/// An imported name: the node that is to be joined to the module.
+fn from_item(alloc: Global, draft: &mut Draft, c: &Frame, i: &FromItem) -> Result<u32, Stop>
+    requires c { IsInside draft.old c.now }
+    ensures gives { Gives result draft.new (row.from_item c.now i.now draft.old) }
+    ensures grows { Grows draft.old draft.new }
+    ensures inside { IfOk result (IsNode draft.new) }
+{
+    let n = binding(alloc, draft, bound(i))?;
+    let q = reference(alloc, draft, &i.name)?;
+    let t = push_dot(alloc, draft)?;
+    draft.edge(c.binds(), n, c.rank())?;
+    draft.link(n, q)?;
+    draft.link(q, t)?;
+    Ok(t)
+}
+
+fn put(list: &mut Vec<u32>, n: u32) -> Result<(), AllocError>
+    ensures { OnOk result (list.new.items ≡ list.old.items ++ n ∷ []) }
+{
+    list.push(n)?;
+    Ok(())
+}
+
+/// Imported names: their nodes that are to be joined to the module.
+#[tactic(auto, using(crate::proofs::Sound::standing))]
+fn from_names(
+    alloc: Global,
+    draft: &mut Draft,
+    c: &Frame,
+    items: &[FromItem],
+) -> Result<Vec<u32>, Stop>
+    requires c { IsInside draft.old c.now }
+    ensures gives { GivesItems result draft.new (collect (map (row.from_item c.now) items.now) draft.old) }
+    ensures grows { Grows draft.old draft.new }
+    ensures inside { IfOk result (λ ts. All (IsNode draft.new) ts.items) }
+{
+    let mut ts = Vec::new(alloc);
+    for i in items {
+        let t = from_item(alloc, draft, c, i)?;
+        put(&mut ts, t)?;
+    }
+    Ok(ts)
+}
+
+/// Edges from all these nodes to the first node of a dotted name.
+#[tactic(auto, using(crate::proofs::Sound::standing))]
+fn link_all(draft: &mut Draft, ts: &[u32], d: Option<(u32, u32)>) -> Result<(), Stop>
+    requires d { ArePairIf draft.old d }
+    requires ts { All (IsNode draft.old) ts.now }
+    ensures gives { Gives result draft.new (each (map (λ t. ◌▸?◌ t (row.first_node d)) ts.now) draft.old) }
+    ensures grows { Grows draft.old draft.new }
+{
+    for t in ts {
+        link_first(draft, *t, d)?;
+    }
+    Ok(())
+}
+
+/// Names imported from a module.
+#[tactic(auto, using(crate::proofs::Sound::standing))]
+pub fn from_items(
+    alloc: Global,
+    draft: &mut Draft,
+    c: &Frame,
+    xs: &[Word],
+    items: &[FromItem],
+) -> Result<(), Stop>
+    requires c { IsInside draft.old c.now }
+    ensures gives { Gives result draft.new (row.from_items xs.now items.now c.now draft.old) }
+    ensures grows { Grows draft.old draft.new }
+{
+    let ts = from_names(alloc, draft, c, items)?;
+    let d = dotted(alloc, draft, xs)?;
+    link_all(draft, ts.as_slice(), d)
+}
+
+/// All names imported from a module.
+#[tactic(auto, using(crate::proofs::Sound::standing))]
+pub fn from_all(alloc: Global, draft: &mut Draft, c: &Frame, xs: &[Word]) -> Result<(), Stop>
+    requires c { IsInside draft.old c.now }
+    ensures gives { Gives result draft.new (row.from_all xs.now c.now draft.old) }
+    ensures grows { Grows draft.old draft.new }
+{
+    let t = push_dot(alloc, draft)?;
+    draft.edge(c.binds(), t, c.rank())?;
+    let d = dotted(alloc, draft, xs)?;
+    link_first(draft, t, d)
+}

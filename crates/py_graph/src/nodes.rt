@@ -1,0 +1,165 @@
+//! The nodes that the table makes.
+
+ghost use Rattle.std.specs.Prelude.{◌≡◌, IfOk, decimal};
+ghost use Rattle.py_graph.specs.Nodes as made;
+ghost use Rattle.py_graph.specs.Gives.{Gives};
+ghost use Rattle.py_graph.specs.Inside.{Grows, IsNode};
+
+use crate::draft::{Draft, Stop, span_of};
+use graph_nodes::{Name, NodeKind};
+use py_subset::Word;
+use std::alloc::{AllocError, Global};
+
+/// A definition of a name, where it stands.
+pub fn definition(alloc: Global, draft: &mut Draft, x: &Word) -> Result<u32, Stop>
+    ensures gives { Gives result draft.new (made.definition x.now draft.old) }
+    ensures grows { Grows draft.old draft.new }
+    ensures inside { IfOk result (IsNode draft.new) }
+{
+    let symbol = Name::of(alloc, x.text.as_str())?;
+    draft.node(
+        NodeKind::Pop {
+            symbol,
+            definition: true,
+        },
+        Some(span_of(x)),
+    )
+}
+
+/// A binding of a name that isn't a definition, where the name stands.
+pub fn binding(alloc: Global, draft: &mut Draft, x: &Word) -> Result<u32, Stop>
+    ensures gives { Gives result draft.new (made.binding x.now draft.old) }
+    ensures grows { Grows draft.old draft.new }
+    ensures inside { IfOk result (IsNode draft.new) }
+{
+    let symbol = Name::of(alloc, x.text.as_str())?;
+    draft.node(
+        NodeKind::Pop {
+            symbol,
+            definition: false,
+        },
+        Some(span_of(x)),
+    )
+}
+
+/// A reference to a name, where it stands.
+pub fn reference(alloc: Global, draft: &mut Draft, x: &Word) -> Result<u32, Stop>
+    ensures gives { Gives result draft.new (made.reference x.now draft.old) }
+    ensures grows { Grows draft.old draft.new }
+    ensures inside { IfOk result (IsNode draft.new) }
+{
+    let symbol = Name::of(alloc, x.text.as_str())?;
+    draft.node(
+        NodeKind::Push {
+            symbol,
+            reference: true,
+        },
+        Some(span_of(x)),
+    )
+}
+
+/// The pop of a dot.
+pub fn pop_dot(alloc: Global, draft: &mut Draft) -> Result<u32, Stop>
+    ensures gives { Gives result draft.new (made.pop_dot draft.old) }
+    ensures grows { Grows draft.old draft.new }
+    ensures inside { IfOk result (IsNode draft.new) }
+{
+    let symbol = Name::of(alloc, ".")?;
+    draft.node(
+        NodeKind::Pop {
+            symbol,
+            definition: false,
+        },
+        None,
+    )
+}
+
+/// The push of a dot.
+pub fn push_dot(alloc: Global, draft: &mut Draft) -> Result<u32, Stop>
+    ensures gives { Gives result draft.new (made.push_dot draft.old) }
+    ensures grows { Grows draft.old draft.new }
+    ensures inside { IfOk result (IsNode draft.new) }
+{
+    let symbol = Name::of(alloc, ".")?;
+    draft.node(
+        NodeKind::Push {
+            symbol,
+            reference: false,
+        },
+        None,
+    )
+}
+
+/// The pop of a call.
+pub fn pop_call(alloc: Global, draft: &mut Draft) -> Result<u32, Stop>
+    ensures gives { Gives result draft.new (made.pop_call draft.old) }
+    ensures grows { Grows draft.old draft.new }
+    ensures inside { IfOk result (IsNode draft.new) }
+{
+    let symbol = Name::of(alloc, "()")?;
+    draft.node(
+        NodeKind::PopScoped {
+            symbol,
+            definition: false,
+        },
+        None,
+    )
+}
+
+/// The decimal numeral of a place among arguments.
+fn numeral(alloc: Global, j: usize) -> Result<Name, AllocError>
+    ensures { IfOk result (λ name. name ≡ decimal j) }
+{
+    let text = format!(in alloc; "{j}")?;
+    Name::of(alloc, text.as_str())
+}
+
+/// The pop of an argument's place.
+pub fn pop_number(alloc: Global, draft: &mut Draft, j: usize) -> Result<u32, Stop>
+    ensures gives { Gives result draft.new (made.pop_number j draft.old) }
+    ensures grows { Grows draft.old draft.new }
+    ensures inside { IfOk result (IsNode draft.new) }
+{
+    let symbol = numeral(alloc, j)?;
+    draft.node(
+        NodeKind::Pop {
+            symbol,
+            definition: false,
+        },
+        None,
+    )
+}
+
+/// The push of a parameter's place.
+pub fn push_number(alloc: Global, draft: &mut Draft, j: usize) -> Result<u32, Stop>
+    ensures gives { Gives result draft.new (made.push_number j draft.old) }
+    ensures grows { Grows draft.old draft.new }
+    ensures inside { IfOk result (IsNode draft.new) }
+{
+    let symbol = numeral(alloc, j)?;
+    draft.node(
+        NodeKind::Push {
+            symbol,
+            reference: false,
+        },
+        None,
+    )
+}
+
+/// A scope of the file's own.
+pub fn scope(draft: &mut Draft) -> Result<u32, Stop>
+    ensures gives { Gives result draft.new (made.scope draft.old) }
+    ensures grows { Grows draft.old draft.new }
+    ensures inside { IfOk result (IsNode draft.new) }
+{
+    draft.node(NodeKind::Scope { exported: false }, None)
+}
+
+/// A node that empties the scope stack.
+pub fn drops(draft: &mut Draft) -> Result<u32, Stop>
+    ensures gives { Gives result draft.new (made.drops draft.old) }
+    ensures grows { Grows draft.old draft.new }
+    ensures inside { IfOk result (IsNode draft.new) }
+{
+    draft.node(NodeKind::Drops, None)
+}
