@@ -1,0 +1,9 @@
+pub mod Order
+pub mod Rising
+pub mod Sets
+pub mod Place
+pub mod Found
+pub mod Reach
+pub mod Members
+pub mod Longest
+pub mod Gained

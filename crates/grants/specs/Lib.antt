@@ -1,0 +1,4 @@
+pub mod Pairs
+pub mod Places
+pub mod Covers
+pub mod Steps
