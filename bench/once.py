@@ -47,6 +47,14 @@ def ladder(rungs, last):
     return text(nodes, edges)
 
 
+def dead_ends(rungs):
+    """A ladder from which nothing can be reached, beside a definition."""
+    nodes = [REFERENCE] + [SCOPE] * rungs + [DEFINITION]
+    edges = [[0, 1, 0], [0, rungs + 1, 0]]
+    edges += [[n, n + 1, 0] for n in range(1, rungs) for _ in range(2)]
+    return text(nodes, edges)
+
+
 def large():
     """16,384 nodes and 65,536 edges in less than 1,048,576 bytes; from the reference a definition is one edge away."""
     nodes = [REFERENCE, DEFINITION] + [SCOPE] * 16_382
@@ -68,8 +76,9 @@ def main():
         ("a chain of 128 scopes", chain(128, DEFINITION)),
         ("a chain of 16,000 scopes", chain(16_000, DEFINITION)),
         ("65,536 edges from one node", text([REFERENCE, OTHER], [[0, 1, 0]] * 65_536)),
-        ("a ladder of 16 rungs to a node that refuses", ladder(16, OTHER)),
+        ("a ladder of dead ends, 40 rungs", dead_ends(40)),
         ("a ladder of 18 rungs to a node that refuses", ladder(18, OTHER)),
+        ("a ladder of 20 rungs to a node that refuses", ladder(20, OTHER)),
     ]
     for name, data in rows:
         took = smallest if data is None else seconds([PROGRAM, "once"], data + asked)

@@ -1,0 +1,3 @@
+mod Front
+mod Order
+mod Passing

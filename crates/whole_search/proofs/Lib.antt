@@ -1,6 +1,5 @@
 pub mod Apart
 pub mod Equals
-pub mod Left
 pub mod Members
 pub mod MetComplete
 pub mod MetCounted
@@ -16,3 +15,6 @@ pub mod Ahead
 pub mod UnderWay
 pub mod InOrder
 pub mod PathEnds
+pub mod Serving
+pub mod Marks
+pub mod Landing

@@ -1,5 +1,5 @@
 -- At which nodes the paths of runs end.
-use Rattle.std.proofs.Common.{◌≡◌, ℕ, List, [], ◌∷◌, ◌++◌, map, Option, Some, None, eqb, eqb-true, eq-eqb, IsTrue, IsSomeAnd, Contains, ◌↔◌, inl, inr, sym, refl, ap, ◌∙◌, subst, take, get_or, ◌+◌, ◌<◌, length, not}
+use Rattle.std.proofs.Common.{Bool, ◌≡◌, ℕ, List, [], ◌∷◌, ◌++◌, map, Option, Some, None, eqb, eqb-true, eq-eqb, IsTrue, IsSomeAnd, Contains, ◌↔◌, inl, inr, sym, refl, ap, ◌∙◌, subst, take, get_or, ◌+◌, ◌<◌, length, not}
 use Rattle.std.specs.Option.{option_and_then, option_to_list}
 use Rattle.std.specs.List.{filter, filter_map, cons_option}
 use Rattle.std.proofs.lemmas.Bool.{false≢true, and_parts, and_from}
@@ -19,9 +19,8 @@ use Rattle.shadowing.specs.Shadow.{is_shadowed, unshadowed}
 use Rattle.whole_search.specs.declared.found.Hit.{Hit}
 use Rattle.whole_search.specs.Answers.{path_of, IsRising, AreDefinitions}
 use Rattle.whole_search.specs.Ends.{hit_at, edges_of, path_end, path_ends}
-use Rattle.whole_search.specs.Walk.{everywhere, met_runs, is_bounded_complete}
+use Rattle.whole_search.specs.Walk.{met_runs, is_bounded_complete, IsLive}
 use Rattle.whole_search.proofs.Members.{IsIn, IsIn-filter_from, IsIn-map_from, IsIn-from_Contains, Contains-from_IsIn}
-use Rattle.whole_search.proofs.Reflect.{IsLive-everywhere}
 use Rattle.whole_search.proofs.MetComplete.{EndsKept, rows}
 
 -- the node at which one more path ends comes after the others
@@ -85,11 +84,11 @@ from_end hit (Some end) e = from_at hit end.spot e
 path_end-run : (files : List Graph) (c : Config) (es : List EdgeAt) → path_end files c (path_of files es) ≡ option_and_then (λ (end : Config). hit_at end.spot) (run files c es)
 path_end-run files c es = ap (λ xs. option_and_then (λ (end : Config). hit_at end.spot) (run files c xs)) (edges_of-path_of files es)
 
-module _ (bounds : Bounds) (files : List Graph) (c : Config) (runs : List (List EdgeAt)) (is : runs ≡ filter (is_bounded_complete bounds files c) (met_runs everywhere bounds files c)) where
+module _ (live : Spot → Bool) (bounds : Bounds) (files : List Graph) (c : Config) (lives : IsLive live files) (runs : List (List EdgeAt)) (is : runs ≡ filter (is_bounded_complete bounds files c) (met_runs live bounds files c)) where
   abbrev kept : List (List EdgeStep)
   kept = unshadowed (map (path_of files) runs)
 
-  kept_from : (hit : Hit) → IsIn hit (path_ends files c kept) → EndsKept everywhere bounds files c kept hit
+  kept_from : (hit : Hit) → IsIn hit (path_ends files c kept) → EndsKept live bounds files c kept hit
   kept_from hit h =
       let p = IsIn-filter_map_from (path_end files c) kept hit h in
       let r = IsIn-map_from (path_of files) p.0 runs (IsIn-filter_from (λ (path : List EdgeStep). not (is_shadowed (map (path_of files) runs) path)) p.0 (map (path_of files) runs) p.1).0 in (
@@ -99,14 +98,14 @@ module _ (bounds : Bounds) (files : List Graph) (c : Config) (runs : List (List 
         from_end hit (run files c r.0) (sym (path_end-run files c r.0) ∙ (ap (path_end files c) r.2 ∙ p.2)),
       )
 
-  from_kept : (hit : Hit) → EndsKept everywhere bounds files c kept hit → IsIn hit (path_ends files c kept)
+  from_kept : (hit : Hit) → EndsKept live bounds files c kept hit → IsIn hit (path_ends files c kept)
   from_kept hit h =
       IsIn-filter_map (path_end files c) kept (path_of files h.0) hit h.2 (path_end-run files c h.0 ∙ end_from hit (run files c h.0) h.3)
 
   -- rising rows that are exactly the ends of the paths that are kept are the definitions
   pub AreDefinitions-from_ends : (found : List Hit) → IsRising found → ((hit : Hit) → Contains found hit ↔ Contains (path_ends files c (unshadowed (map (path_of files) runs))) hit) → AreDefinitions bounds files c found
   AreDefinitions-from_ends found rising exact =
-      rows everywhere bounds files c (IsLive-everywhere files) kept (ap (λ xs. unshadowed (map (path_of files) xs)) is) found rising
+      rows live bounds files c lives kept (ap (λ xs. unshadowed (map (path_of files) xs)) is) found rising
       (λ hit. (
         λ h. kept_from hit (IsIn-from_Contains (path_ends files c kept) hit ((exact hit).0 h)),
         λ h. (exact hit).1 (Contains-from_IsIn (path_ends files c kept) hit (from_kept hit h)),

@@ -12,7 +12,7 @@ use Rattle.partial_path.specs.Spots.{is_definition_spot}
 use Rattle.partial_path.specs.Step.{step}
 use Rattle.partial_path.specs.Runs.{run, IsStraight, IsClosed, IsShallow, IsBounded, IsAtDefinition}
 use Rattle.partial_path.specs.Counted.{IsComplete, IsCounted}
-use Rattle.whole_search.specs.Walk.{ends_cut, is_shallow, is_bounded, is_empty, is_at_definition, completes, lands, IsLive, everywhere}
+use Rattle.whole_search.specs.Walk.{ends_cut, is_shallow, is_bounded, is_empty, is_at_definition, completes, lands}
 
 nat_le_decides : (a b : ℕ) → Decides (leb a b) (a ≤ b)
 nat_le_decides a b = (leb-true a b, le-leb a b)
@@ -105,7 +105,3 @@ completes_tells files c es straight = (complete_from files c es straight, comple
 
 pub lands_tells : (files : List Graph) (c : Config) (es : List EdgeAt) → IsSome (run files c es) → IsStraight files c es → IsTrue (lands files c es) ↔ IsCounted files c es
 lands_tells files c es runs straight = (counted_from files c es runs straight, lands_from files c es)
-
--- every run that lands starts at a live spot where all spots are
-pub IsLive-everywhere : (files : List Graph) → IsLive everywhere files
-IsLive-everywhere files at es some runs t = refl

@@ -4,21 +4,17 @@ use Rattle.std.specs.Option.{option_map_or}
 use Rattle.std.specs.List.{list_any, filter, flat_map}
 use Rattle.std.proofs.lemmas.List.{map-append}
 use Rattle.graph_nodes.specs.Graph.{Graph}
+use Rattle.partial_path.specs.declared.config.Spot.{Spot}
 use Rattle.partial_path.specs.declared.config.Config.{Config}
 use Rattle.partial_path.specs.declared.config.EdgeAt.{EdgeAt}
 use Rattle.partial_path.specs.declared.bounds.Bounds.{Bounds}
 use Rattle.partial_path.specs.declared.bounds.TheConstants.{MAX_RUNS}
 use Rattle.whole_search.specs.declared.open.Open.{Open}
 use Rattle.whole_search.specs.declared.tally.Tally.{Tally}
-use Rattle.whole_search.specs.Walk.{ends_cut, is_bounded, is_empty, is_at_definition, completes, lands, met_runs, everywhere, is_bounded_counted, is_past_bounds, is_bounded_complete}
+use Rattle.whole_search.specs.Walk.{ends_cut, is_bounded, is_empty, is_at_definition, completes, lands, met_runs, is_bounded_counted, is_past_bounds, is_bounded_complete}
 use Rattle.whole_search.specs.Open.{IsOpen, IsNoted, runs_of, those, open_completes, open_lands, open_goes_on}
-use Rattle.whole_search.proofs.Ahead.{ahead, onward, behind_one, next_edges, added, AsksBounded, ServesFor, serves, ahead-last, goes_on-open}
-
--- the runs that are met, as they are counted, kept and marked
-pub record IsUnderWay (bounds : Bounds) (files : List Graph) (c : Config) (opens : List (List EdgeAt)) (tally : Tally) : Type 0 where
-  pub counted : tally.counted + length (filter (is_bounded_counted bounds files c) (ahead bounds files c opens)) ≡ length (filter (is_bounded_counted bounds files c) (met_runs everywhere bounds files c))
-  pub runs : tally.runs.items ++ filter (is_bounded_complete bounds files c) (ahead bounds files c opens) ≡ filter (is_bounded_complete bounds files c) (met_runs everywhere bounds files c)
-  pub limit : (tally.limit || list_any (is_past_bounds bounds files c) (ahead bounds files c opens)) ≡ list_any (is_past_bounds bounds files c) (met_runs everywhere bounds files c)
+use Rattle.whole_search.proofs.Ahead.{ahead, onward, next_edges, serves, ahead-last, goes_on-open}
+use Rattle.whole_search.proofs.Serving.{behind_one, added, AsksBounded, ServesFor}
 
 and_false : (a b : Bool) → b ≡ false → (a && b) ≡ false
 and_false true b f = f
@@ -59,66 +55,73 @@ or_assoc : (a b c : Bool) → ((a || b) || c) ≡ (a || (b || c))
 or_assoc true b c = refl
 or_assoc false b c = refl
 
--- what is ahead before the last open run is noted
-ahead-before : (bounds : Bounds) (files : List Graph) (c : Config) (before rest : List Open) (o : Open) → before ≡ rest ++ o ∷ [] → IsOpen bounds files c o → ahead bounds files c (runs_of before) ≡ o.run ∷ (flat_map (onward bounds files c) (behind_one o.run (next_edges bounds files c o.run o.at)) ++ ahead bounds files c (runs_of rest))
-ahead-before bounds files c before rest o is h =
-    ap (λ xs. ahead bounds files c (runs_of xs)) is
-    ∙ (ap (ahead bounds files c) (map-append (λ (x : Open). x.run) rest (o ∷ []))
-    ∙ ahead-last bounds files c o.at (runs_of rest) o.run h.stands)
+module _ (live : Spot → Bool) where
+  -- the runs that are met, as they are counted, kept and marked
+  pub record IsUnderWay (bounds : Bounds) (files : List Graph) (c : Config) (opens : List (List EdgeAt)) (tally : Tally) : Type 0 where
+    pub counted : tally.counted + length (filter (is_bounded_counted bounds files c) (ahead live bounds files c opens)) ≡ length (filter (is_bounded_counted bounds files c) (met_runs live bounds files c))
+    pub runs : tally.runs.items ++ filter (is_bounded_complete bounds files c) (ahead live bounds files c opens) ≡ filter (is_bounded_complete bounds files c) (met_runs live bounds files c)
+    pub limit : (tally.limit || list_any (is_past_bounds bounds files c) (ahead live bounds files c opens)) ≡ list_any (is_past_bounds bounds files c) (met_runs live bounds files c)
 
--- what is met after a run, and what is ahead once it is noted
-serves-noted : (bounds : Bounds) (files : List Graph) (c : Config) (rest after : List Open) (o : Open) (limit : Bool) → IsOpen bounds files c o → runs_of after ≡ runs_of rest ++ added (open_goes_on bounds files o && (o.bounded || not limit)) files c o → ServesFor bounds files c limit (flat_map (onward bounds files c) (behind_one o.run (next_edges bounds files c o.run o.at)) ++ ahead bounds files c (runs_of rest)) (ahead bounds files c (runs_of after))
-serves-noted bounds files c rest after o limit h is =
-    subst (λ (xs : List (List EdgeAt)). ServesFor bounds files c limit (flat_map (onward bounds files c) (behind_one o.run (next_edges bounds files c o.run o.at)) ++ ahead bounds files c (runs_of rest)) (ahead bounds files c xs))
-    (sym is)
-    (serves bounds files c o limit (runs_of rest) (open_goes_on bounds files o) o.bounded (goes_on-open bounds files c o h) (sym h.marked))
+  -- what is ahead before the last open run is noted
+  ahead-before : (bounds : Bounds) (files : List Graph) (c : Config) (before rest : List Open) (o : Open) → before ≡ rest ++ o ∷ [] → IsOpen bounds files c o → ahead live bounds files c (runs_of before) ≡ o.run ∷ (flat_map (onward live bounds files c) (behind_one o.run (next_edges live bounds files c o.run o.at)) ++ ahead live bounds files c (runs_of rest))
+  ahead-before bounds files c before rest o is h =
+      ap (λ xs. ahead live bounds files c (runs_of xs)) is
+      ∙ (ap (ahead live bounds files c) (map-append (λ (x : Open). x.run) rest (o ∷ []))
+      ∙ ahead-last live bounds files c o.at (runs_of rest) o.run h.stands)
 
--- the next run is noted
-pub goes_on_under_way : (bounds : Bounds) (files : List Graph) (c : Config) (before rest after : List Open) (o : Open) (old new : Tally) → before ≡ rest ++ o ∷ [] → IsOpen bounds files c o → IsNoted files o old new → runs_of after ≡ runs_of rest ++ added (open_goes_on bounds files o && (o.bounded || not new.limit)) files c o → IsUnderWay bounds files c (runs_of before) old → IsUnderWay bounds files c (runs_of after) new
-goes_on_under_way bounds files c before rest after o old new is h noted longer w = record {
-  counted =
-      let more : length (filter (is_bounded_counted bounds files c) (ahead bounds files c (runs_of before))) ≡ length (those (open_lands files o && o.bounded) o.run) + length (filter (is_bounded_counted bounds files c) (ahead bounds files c (runs_of after))) =
-      ap (λ xs. length (filter (is_bounded_counted bounds files c) xs)) was
-      ∙ (ap length (filter-those (is_bounded_counted bounds files c) (open_lands files o && o.bounded) o.run met (counted-open bounds files c o h))
-      ∙ (length-append (those (open_lands files o && o.bounded) o.run) (filter (is_bounded_counted bounds files c) met)
-      ∙ ap (λ xs. length (those (open_lands files o && o.bounded) o.run) + length xs) (sym (s.same (is_bounded_counted bounds files c) (counted_asks bounds files c))))) in
-      let a : new.counted ≡ old.counted + length (those (open_lands files o && o.bounded) o.run) = noted.counted in
-      let b : old.counted + length (filter (is_bounded_counted bounds files c) (ahead bounds files c (runs_of before))) ≡ length (filter (is_bounded_counted bounds files c) (met_runs everywhere bounds files c)) = w.counted in
-      omega arith;
-  runs =
-      ap (λ xs. xs ++ filter (is_bounded_complete bounds files c) (ahead bounds files c (runs_of after))) noted.runs
-      ∙ (append_assoc old.runs.items (those (open_completes files o && o.bounded) o.run) (filter (is_bounded_complete bounds files c) (ahead bounds files c (runs_of after)))
-      ∙ (ap (λ xs. old.runs.items ++ (those (open_completes files o && o.bounded) o.run ++ xs)) (s.same (is_bounded_complete bounds files c) (complete_asks bounds files c))
-      ∙ (ap (λ xs. old.runs.items ++ xs) (sym (filter-those (is_bounded_complete bounds files c) (open_completes files o && o.bounded) o.run met (complete-open bounds files c o h)))
-      ∙ (ap (λ xs. old.runs.items ++ filter (is_bounded_complete bounds files c) xs) (sym was) ∙ w.runs))));
-  limit =
-      s.flag (is_past_bounds bounds files c)
-      ∙ (ap (λ b. b || list_any (is_past_bounds bounds files c) met) (noted.limit ∙ ap (λ b. old.limit || b) (sym (past-open bounds files c o h)))
-      ∙ (or_assoc old.limit (is_past_bounds bounds files c o.run) (list_any (is_past_bounds bounds files c) met)
-      ∙ (ap (λ xs. old.limit || list_any (is_past_bounds bounds files c) xs) (sym was) ∙ w.limit)));
-}
-  where
-    met : List (List EdgeAt)
-    met = flat_map (onward bounds files c) (behind_one o.run (next_edges bounds files c o.run o.at)) ++ ahead bounds files c (runs_of rest)
+  -- what is met after a run, and what is ahead once it is noted
+  serves-noted : (bounds : Bounds) (files : List Graph) (c : Config) (rest after : List Open) (o : Open) (limit : Bool) → IsOpen bounds files c o → runs_of after ≡ runs_of rest ++ added (open_goes_on live bounds files o && (o.bounded || not limit)) files c o → ServesFor bounds files c limit (flat_map (onward live bounds files c) (behind_one o.run (next_edges live bounds files c o.run o.at)) ++ ahead live bounds files c (runs_of rest)) (ahead live bounds files c (runs_of after))
+  serves-noted bounds files c rest after o limit h is =
+      subst (λ (xs : List (List EdgeAt)). ServesFor bounds files c limit (flat_map (onward live bounds files c) (behind_one o.run (next_edges live bounds files c o.run o.at)) ++ ahead live bounds files c (runs_of rest)) (ahead live bounds files c xs))
+      (sym is)
+      (serves live bounds files c o limit (runs_of rest) (open_goes_on live bounds files o) o.bounded (goes_on-open live bounds files c o h) (sym h.marked))
 
-    was : ahead bounds files c (runs_of before) ≡ o.run ∷ met
-    was = ahead-before bounds files c before rest o is h
+  -- the next run is noted
+  pub goes_on_under_way : (bounds : Bounds) (files : List Graph) (c : Config) (before rest after : List Open) (o : Open) (old new : Tally) → before ≡ rest ++ o ∷ [] → IsOpen bounds files c o → IsNoted files o old new → runs_of after ≡ runs_of rest ++ added (open_goes_on live bounds files o && (o.bounded || not new.limit)) files c o → IsUnderWay bounds files c (runs_of before) old → IsUnderWay bounds files c (runs_of after) new
+  goes_on_under_way bounds files c before rest after o old new is h noted longer w = record {
+    counted =
+        let more : length (filter (is_bounded_counted bounds files c) (ahead live bounds files c (runs_of before))) ≡ length (those (open_lands files o && o.bounded) o.run) + length (filter (is_bounded_counted bounds files c) (ahead live bounds files c (runs_of after))) =
+        ap (λ xs. length (filter (is_bounded_counted bounds files c) xs)) was
+        ∙ (ap length (filter-those (is_bounded_counted bounds files c) (open_lands files o && o.bounded) o.run met (counted-open bounds files c o h))
+        ∙ (length-append (those (open_lands files o && o.bounded) o.run) (filter (is_bounded_counted bounds files c) met)
+        ∙ ap (λ xs. length (those (open_lands files o && o.bounded) o.run) + length xs) (sym (s.same (is_bounded_counted bounds files c) (counted_asks bounds files c))))) in
+        let a : new.counted ≡ old.counted + length (those (open_lands files o && o.bounded) o.run) = noted.counted in
+        let b : old.counted + length (filter (is_bounded_counted bounds files c) (ahead live bounds files c (runs_of before))) ≡ length (filter (is_bounded_counted bounds files c) (met_runs live bounds files c)) = w.counted in
+        omega arith;
+    runs =
+        ap (λ xs. xs ++ filter (is_bounded_complete bounds files c) (ahead live bounds files c (runs_of after))) noted.runs
+        ∙ (append_assoc old.runs.items (those (open_completes files o && o.bounded) o.run) (filter (is_bounded_complete bounds files c) (ahead live bounds files c (runs_of after)))
+        ∙ (ap (λ xs. old.runs.items ++ (those (open_completes files o && o.bounded) o.run ++ xs)) (s.same (is_bounded_complete bounds files c) (complete_asks bounds files c))
+        ∙ (ap (λ xs. old.runs.items ++ xs) (sym (filter-those (is_bounded_complete bounds files c) (open_completes files o && o.bounded) o.run met (complete-open bounds files c o h)))
+        ∙ (ap (λ xs. old.runs.items ++ filter (is_bounded_complete bounds files c) xs) (sym was) ∙ w.runs))));
+    limit =
+        s.flag (is_past_bounds bounds files c)
+        ∙ (ap (λ b. b || list_any (is_past_bounds bounds files c) met) (noted.limit ∙ ap (λ b. old.limit || b) (sym (past-open bounds files c o h)))
+        ∙ (or_assoc old.limit (is_past_bounds bounds files c o.run) (list_any (is_past_bounds bounds files c) met)
+        ∙ (ap (λ xs. old.limit || list_any (is_past_bounds bounds files c) xs) (sym was) ∙ w.limit)));
+  }
+    where
+      met : List (List EdgeAt)
+      met = flat_map (onward live bounds files c) (behind_one o.run (next_edges live bounds files c o.run o.at)) ++ ahead live bounds files c (runs_of rest)
 
-    s : ServesFor bounds files c new.limit met (ahead bounds files c (runs_of after))
-    s = serves-noted bounds files c rest after o new.limit h longer
+      was : ahead live bounds files c (runs_of before) ≡ o.run ∷ met
+      was = ahead-before bounds files c before rest o is h
 
--- with each run that is noted fewer are ahead
-pub fewer_ahead : (bounds : Bounds) (files : List Graph) (c : Config) (before rest after : List Open) (o : Open) (limit : Bool) → before ≡ rest ++ o ∷ [] → IsOpen bounds files c o → runs_of after ≡ runs_of rest ++ added (open_goes_on bounds files o && (o.bounded || not limit)) files c o → length (ahead bounds files c (runs_of after)) < length (ahead bounds files c (runs_of before))
-fewer_ahead bounds files c before rest after o limit is h longer =
-    let s = (serves-noted bounds files c rest after o limit h longer).shorter in
-    let k = ap length (ahead-before bounds files c before rest o is h) in
-    omega (arith, s, k)
+      s : ServesFor bounds files c new.limit met (ahead live bounds files c (runs_of after))
+      s = serves-noted bounds files c rest after o new.limit h longer
 
--- one bounded counted run too many is met
-pub crowded : (bounds : Bounds) (files : List Graph) (c : Config) (before rest : List Open) (o : Open) (old : Tally) → before ≡ rest ++ o ∷ [] → IsOpen bounds files c o → old.counted ≡ MAX_RUNS → IsTrue (open_lands files o && o.bounded) → IsUnderWay bounds files c (runs_of before) old → MAX_RUNS < length (filter (is_bounded_counted bounds files c) (met_runs everywhere bounds files c))
-crowded bounds files c before rest o old is h full t w =
-    let some : 0 < length (filter (is_bounded_counted bounds files c) (ahead bounds files c (runs_of before))) =
-    subst (λ (xs : List (List EdgeAt)). 0 < length (filter (is_bounded_counted bounds files c) xs)) (sym (ahead-before bounds files c before rest o is h))
-    (subst (λ (xs : List (List EdgeAt)). 0 < length xs) (sym (filter-those (is_bounded_counted bounds files c) true o.run (flat_map (onward bounds files c) (behind_one o.run (next_edges bounds files c o.run o.at)) ++ ahead bounds files c (runs_of rest)) (counted-open bounds files c o h ∙ t))) (omega arith)) in
-    let total : old.counted + length (filter (is_bounded_counted bounds files c) (ahead bounds files c (runs_of before))) ≡ length (filter (is_bounded_counted bounds files c) (met_runs everywhere bounds files c)) = w.counted in
-    omega arith
+  -- with each run that is noted fewer are ahead
+  pub fewer_ahead : (bounds : Bounds) (files : List Graph) (c : Config) (before rest after : List Open) (o : Open) (limit : Bool) → before ≡ rest ++ o ∷ [] → IsOpen bounds files c o → runs_of after ≡ runs_of rest ++ added (open_goes_on live bounds files o && (o.bounded || not limit)) files c o → length (ahead live bounds files c (runs_of after)) < length (ahead live bounds files c (runs_of before))
+  fewer_ahead bounds files c before rest after o limit is h longer =
+      let s = (serves-noted bounds files c rest after o limit h longer).shorter in
+      let k = ap length (ahead-before bounds files c before rest o is h) in
+      omega (arith, s, k)
+
+  -- one bounded counted run too many is met
+  pub crowded : (bounds : Bounds) (files : List Graph) (c : Config) (before rest : List Open) (o : Open) (old : Tally) → before ≡ rest ++ o ∷ [] → IsOpen bounds files c o → old.counted ≡ MAX_RUNS → IsTrue (open_lands files o && o.bounded) → IsUnderWay bounds files c (runs_of before) old → MAX_RUNS < length (filter (is_bounded_counted bounds files c) (met_runs live bounds files c))
+  crowded bounds files c before rest o old is h full t w =
+      let some : 0 < length (filter (is_bounded_counted bounds files c) (ahead live bounds files c (runs_of before))) =
+      subst (λ (xs : List (List EdgeAt)). 0 < length (filter (is_bounded_counted bounds files c) xs)) (sym (ahead-before bounds files c before rest o is h))
+      (subst (λ (xs : List (List EdgeAt)). 0 < length xs) (sym (filter-those (is_bounded_counted bounds files c) true o.run (flat_map (onward live bounds files c) (behind_one o.run (next_edges live bounds files c o.run o.at)) ++ ahead live bounds files c (runs_of rest)) (counted-open bounds files c o h ∙ t))) (omega arith)) in
+      let total : old.counted + length (filter (is_bounded_counted bounds files c) (ahead live bounds files c (runs_of before))) ≡ length (filter (is_bounded_counted bounds files c) (met_runs live bounds files c)) = w.counted in
+      omega arith

@@ -2,3 +2,5 @@ pub mod Answers
 pub mod Walk
 pub mod Open
 pub mod Ends
+pub mod Leads
+pub mod Query

@@ -2,6 +2,7 @@
 use Rattle.std.specs.Prelude.{◌≡◌, ◌+◌, List, [], ◌∷◌, ◌++◌, map, length, Bool, not, ◌&&◌, ◌||◌, nat_lt, Some, if◌then◌else◌}
 use Rattle.std.specs.List.{filter}
 use Rattle.graph_nodes.specs.Graph.{Graph}
+use Rattle.partial_path.specs.declared.config.Spot.{Spot}
 use Rattle.partial_path.specs.declared.config.Config.{Config}
 use Rattle.partial_path.specs.declared.config.EdgeAt.{EdgeAt}
 use Rattle.partial_path.specs.declared.bounds.Bounds.{Bounds}
@@ -30,9 +31,10 @@ open_completes files o = not (is_empty o.run) && is_at_definition files o.at
 abbrev pub open_lands : List Graph → Open → Bool
 open_lands files o = ends_cut files o.run || open_completes files o
 
--- whether the search goes on from the open run
-abbrev pub open_goes_on : Bounds → List Graph → Open → Bool
-open_goes_on bounds files o = nat_lt (length o.run) (longest bounds) && (not (ends_cut files o.run) || o.bounded)
+-- whether the search goes on from the open run, where these spots are live
+abbrev pub open_goes_on : (Spot → Bool) → Bounds → List Graph → Open → Bool
+open_goes_on live bounds files o =
+    nat_lt (length o.run) (longest bounds) && (not (ends_cut files o.run) || o.bounded) && live o.at.spot
 
 -- the run, where the test passes
 abbrev pub those : Bool → List EdgeAt → List (List EdgeAt)

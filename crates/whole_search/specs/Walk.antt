@@ -126,10 +126,6 @@ IsLive live files =
     (at : Config) (es : List EdgeAt) → es ≢ [] → IsSome (run files at es) → IsTrue (lands files at es)
     → live at.spot ≡ true
 
--- every spot is live
-abbrev pub everywhere : Spot → Bool
-everywhere spot = true
-
 -- whether the run is counted and bounded; counted and not bounded; complete and bounded
 abbrev pub is_bounded_counted : Bounds → List Graph → Config → List EdgeAt → Bool
 is_bounded_counted bounds files c es = lands files c es && is_bounded bounds files c es

@@ -8,6 +8,8 @@ ghost use Rattle.partial_path.specs.Counted.{IsCrowded, HasLimit};
 ghost use Rattle.whole_search.specs.Answers.{AreDefinitions};
 
 use crate::found::{Found, Hits, SearchFault};
+use crate::leads::Leads;
+use crate::query::Query;
 use crate::rows::rows_of;
 use crate::walk::walk;
 use graph_nodes::{FileGraph, Node, NodeKind};
@@ -18,7 +20,12 @@ use std::alloc::Global;
 /// The definitions of a reference of the files, each once in file order, and whether a counted run was
 /// left out for its length or depth. It is `Crowded` exactly where more than `MAX_RUNS` bounded counted
 /// runs start at the reference, and else `NoMemory` where memory is refused. The rule of paths is told in
-/// `specs/Answers.antt`. It takes time that follows the number of straight runs from the reference.
+/// `specs/Answers.antt`.
+///
+/// It takes time and memory that follow the number of nodes and edges, for the table of live spots, and then
+/// time that follows the number of straight runs from the reference to places from which a definition or a
+/// cut can be reached. Where the definition at the end of a ladder of edges refuses, that is exponential in
+/// the ladder's layers: what a part of the graph refused on the same stacks isn't remembered.
 pub fn search(
     alloc: Global,
     files: &[FileGraph],
@@ -56,7 +63,14 @@ fn search_from(
     ensures not_crowded { OnOk result (¬ IsCrowded bounds files.now from.now) }
 {
     are_checked(files);
-    let tally = walk(alloc, files, from, bounds)?;
+    let leads = Leads::of(alloc, files)?;
+    let query = Query {
+        files,
+        start: from,
+        bounds,
+        leads: &leads,
+    };
+    let tally = walk(alloc, &query)?;
     let rows = rows_of(alloc, files, from, &tally.runs)?;
     Ok(Found {
         rows: Hits::of(rows),

@@ -1,10 +1,11 @@
 ghost use Rattle.std.specs.Prelude.{◌≡◌, ◌<◌, ◌^◌, ◌∷◌, [], ◌++◌, ◌&&◌, length, nat_le, All, OnOk};
 ghost use Rattle.whole_search.specs.Walk.{out};
-ghost use Rattle.whole_search.specs.Open.{IsOpen, runs_of, longer_by};
+ghost use Rattle.whole_search.specs.Open.{runs_of};
+ghost use Rattle.whole_search.specs.Query.{IsOpenIn, longer_in};
 
 use crate::edges::edges_out;
 use crate::open::{Open, keeps_straight};
-use graph_nodes::FileGraph;
+use crate::query::Query;
 use partial_path::{Bounds, Config, EdgeAt, step};
 use std::alloc::{AllocError, Global};
 
@@ -12,51 +13,39 @@ use std::alloc::{AllocError, Global};
 /// edge but the last, to which they are moved.
 pub fn push_longer(
     alloc: Global,
-    files: &[FileGraph],
-    start: &Config,
-    bounds: Bounds,
+    query: &Query,
     reached: Open,
     stack: &mut Vec<Open>,
 ) -> Result<(), AllocError>
-    requires files { length files.now < 2 ^ 32 }
-    requires reached { IsOpen bounds files.now start.now reached }
-    requires stack { All (IsOpen bounds files.now start.now) stack.old.items }
-    ensures stack { OnOk result (All (IsOpen bounds files.now start.now) stack.new.items) }
-    ensures longer { OnOk result (runs_of stack.new.items ≡ runs_of stack.old.items ++ longer_by files.now start.now reached.run reached.at (out files.now reached.at.spot)) }
+    requires files { length query.now.files.now < 2 ^ 32 }
+    requires reached { IsOpenIn query.now reached }
+    requires stack { All (IsOpenIn query.now) stack.old.items }
+    ensures stack { OnOk result (All (IsOpenIn query.now) stack.new.items) }
+    ensures longer { OnOk result (runs_of stack.new.items ≡ runs_of stack.old.items ++ longer_in query.now reached (out query.now.files.now reached.at.spot)) }
 {
-    let mut edges = edges_out(alloc, files, reached.at.spot)?;
+    let mut edges = edges_out(alloc, query.files, reached.at.spot)?;
     let Some(last) = edges.pop() else {
         return Ok(());
     };
-    follow_each(alloc, files, start, bounds, &reached, &edges, stack)?;
-    follow(alloc, files, start, bounds, reached, last, stack)
+    follow_each(alloc, query, &reached, &edges, stack)?;
+    follow(alloc, query, reached, last, stack)
 }
 
 /// Adds the straight runs that are longer by one of these edges.
 fn follow_each(
     alloc: Global,
-    files: &[FileGraph],
-    start: &Config,
-    bounds: Bounds,
+    query: &Query,
     reached: &Open,
     edges: &[EdgeAt],
     stack: &mut Vec<Open>,
 ) -> Result<(), AllocError>
-    requires reached { IsOpen bounds files.now start.now reached.now }
-    requires stack { All (IsOpen bounds files.now start.now) stack.old.items }
-    ensures stack { OnOk result (All (IsOpen bounds files.now start.now) stack.new.items) }
-    ensures longer { OnOk result (runs_of stack.new.items ≡ runs_of stack.old.items ++ longer_by files.now start.now reached.now.run reached.now.at edges.now) }
+    requires reached { IsOpenIn query.now reached.now }
+    requires stack { All (IsOpenIn query.now) stack.old.items }
+    ensures stack { OnOk result (All (IsOpenIn query.now) stack.new.items) }
+    ensures longer { OnOk result (runs_of stack.new.items ≡ runs_of stack.old.items ++ longer_in query.now reached.now edges.now) }
 {
     for edge in edges {
-        follow(
-            alloc,
-            files,
-            start,
-            bounds,
-            reached.copy(alloc)?,
-            *edge,
-            stack,
-        )?;
+        follow(alloc, query, reached.copy(alloc)?, *edge, stack)?;
     }
     Ok(())
 }
@@ -64,26 +53,25 @@ fn follow_each(
 /// Adds the run that is longer by this edge, where the edge can be followed and leaves the run straight.
 fn follow(
     alloc: Global,
-    files: &[FileGraph],
-    start: &Config,
-    bounds: Bounds,
+    query: &Query,
     reached: Open,
     edge: EdgeAt,
     stack: &mut Vec<Open>,
 ) -> Result<(), AllocError>
-    requires reached { IsOpen bounds files.now start.now reached }
-    requires stack { All (IsOpen bounds files.now start.now) stack.old.items }
-    ensures stack { OnOk result (All (IsOpen bounds files.now start.now) stack.new.items) }
-    ensures longer { OnOk result (runs_of stack.new.items ≡ runs_of stack.old.items ++ longer_by files.now start.now reached.run reached.at (edge ∷ [])) }
+    requires reached { IsOpenIn query.now reached }
+    requires stack { All (IsOpenIn query.now) stack.old.items }
+    ensures stack { OnOk result (All (IsOpenIn query.now) stack.new.items) }
+    ensures longer { OnOk result (runs_of stack.new.items ≡ runs_of stack.old.items ++ longer_in query.now reached (edge ∷ [])) }
 {
-    let Some(next) = step(alloc, files, reached.at, edge)? else {
+    let Some(next) = step(alloc, query.files, reached.at, edge)? else {
         return Ok(());
     };
-    if !keeps_straight(alloc, files, start, reached.run.edges(), edge, &next)? {
+    let edges = reached.run.edges();
+    if !keeps_straight(alloc, query.files, query.start, edges, edge, &next)? {
         return Ok(());
     }
     let run = reached.run.with(edge)?;
-    let bounded = stays_bounded(bounds, reached.bounded, run.len(), &next);
+    let bounded = stays_bounded(query.bounds, reached.bounded, run.len(), &next);
     stack.push(Open {
         run,
         at: next,

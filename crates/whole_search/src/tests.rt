@@ -1,135 +1,35 @@
-use crate::{SearchFault, is_reference, search};
-use graph_nodes::{Edge, FileGraph, Name, Node, NodeKind, Place};
+mod compared;
+mod graphs;
+mod plain;
+
+use crate::tests::graphs::files_of;
+use crate::{Hit, SearchFault, is_reference, search};
 use partial_path::Bounds;
 use std::alloc::Global;
 use std::test::Fail;
 
-/// The node that words such as `push x R` stand for: R is a reference, D a definition, E exported.
-fn node_of(alloc: Global, text: &str) -> Result<Node, Fail> {
-    let mut words = text.split(' ');
-    let kind = words.next().unwrap_or("");
-    let symbol = Name::of(alloc, words.next().unwrap_or(""))?;
-    let marked = text.ends_with(" R") || text.ends_with(" D") || text.ends_with(" E");
-    let scope = number(words.next().unwrap_or(""));
-    let kind = match kind {
-        "push" => NodeKind::Push {
-            symbol,
-            reference: marked,
-        },
-        "push_scoped" => NodeKind::PushScoped {
-            symbol,
-            scope,
-            reference: marked,
-        },
-        "pop" => NodeKind::Pop {
-            symbol,
-            definition: marked,
-        },
-        "pop_scoped" => NodeKind::PopScoped {
-            symbol,
-            definition: marked,
-        },
-        "drop" => NodeKind::Drops,
-        _ => NodeKind::Scope { exported: marked },
-    };
-    Ok(Node { kind, span: None })
-}
-
-fn number(text: &str) -> u32 {
-    text.parse::<u32>().unwrap_or(0)
-}
-
-fn place_of(text: &str) -> Place {
-    match text {
-        "root" => Place::Root,
-        "jump" => Place::Jump,
-        _ => Place::At(number(text)),
-    }
-}
-
-/// What a text such as `scope *13` repeats, and how often.
-fn repeated(text: &str) -> (&str, u32) {
-    match text.split_once(" *") {
-        Some((what, times)) => (what, number(times)),
-        None => (text, 1),
-    }
-}
-
-/// Adds the edge that `0>1`, or `0>1/2` with a precedence, stands for; or those of a chain such as `1-13`.
-fn push_edges(edges: &mut Vec<Edge>, text: &str) -> Result<(), Fail> {
-    if let Some((from, to)) = text.split_once('-') {
-        return push_chain(edges, number(from), number(to));
-    }
-    let (ends, precedence) = text.split_once('/').unwrap_or((text, "0"));
-    let (source, sink) = ends.split_once('>').unwrap_or((ends, ends));
-    edges.push(Edge {
-        source: place_of(source),
-        sink: place_of(sink),
-        precedence: precedence.parse::<u16>().unwrap_or(0),
-    })?;
-    Ok(())
-}
-
-fn push_chain(edges: &mut Vec<Edge>, from: u32, to: u32) -> Result<(), Fail> {
-    for n in from.min(to)..from.max(to) {
-        let (source, sink) = if from < to { (n, n + 1) } else { (n + 1, n) };
-        edges.push(Edge {
-            source: Place::At(source),
-            sink: Place::At(sink),
-            precedence: 0,
-        })?;
-    }
-    Ok(())
-}
-
-/// Adds the file that a text such as `push x R; scope; pop x D | 0>1, 1>2` stands for.
-fn push_file(alloc: Global, files: &mut Vec<FileGraph>, text: &str) -> Result<(), Fail> {
-    let (node_text, edge_text) = text.split_once(" | ").unwrap_or((text, ""));
-    let mut nodes = Vec::new(alloc);
-    for part in node_text.split("; ") {
-        let (words, times) = repeated(part);
-        for _ in 0..times {
-            nodes.push(node_of(alloc, words)?)?;
-        }
-    }
-    let mut edges = Vec::new(alloc);
-    for part in edge_text.split(", ") {
-        let (words, times) = repeated(part);
-        for _ in 0..times {
-            push_edges(&mut edges, words)?;
-        }
-    }
-    if nodes.len() > 100_000 || edges.len() > 100_000 {
-        return Ok(());
-    }
-    if let Ok(graph) = FileGraph::check(alloc, nodes, edges) {
-        files.push(graph)?;
-    }
-    Ok(())
-}
-
 /// The answer to the reference at node 0 of the first file, as a text: each row as its file and its node,
 /// then `limit` where the flag is true.
 fn answer(alloc: Global, text: &str, bounds: Bounds) -> Result<String, Fail> {
-    let mut files = Vec::new(alloc);
-    for part in text.split(" & ") {
-        push_file(alloc, &mut files, part)?;
-    }
+    let files = files_of(alloc, text)?;
     if files.len() > 100 || !is_reference(&files, 0, 0) {
         return Ok(String::from_str(alloc, "no reference")?);
     }
     match search(alloc, &files, 0, 0, bounds) {
-        Ok(found) => {
-            let mut told = String::new(alloc);
-            for hit in found.rows.items() {
-                told.push_str(format!(in alloc; "{}/{} ", hit.file, hit.node)?.as_str())?;
-            }
-            told.push_str(if found.limit { "limit" } else { "whole" })?;
-            Ok(told)
-        }
+        Ok(found) => told(alloc, found.rows.items(), found.limit),
         Err(SearchFault::Crowded) => Ok(String::from_str(alloc, "crowded")?),
         Err(SearchFault::NoMemory) => Ok(String::from_str(alloc, "no memory")?),
     }
+}
+
+/// Rows and a flag as such a text.
+fn told(alloc: Global, rows: &[Hit], limit: bool) -> Result<String, Fail> {
+    let mut text = String::new(alloc);
+    for hit in rows {
+        text.push_str(format!(in alloc; "{}/{} ", hit.file, hit.node)?.as_str())?;
+    }
+    text.push_str(if limit { "limit" } else { "whole" })?;
+    Ok(text)
 }
 
 #[test]
@@ -244,7 +144,20 @@ fn keeps_to_its_bounds(rt: HostRuntime) -> Result<(), Fail> {
             "limit",
         ),
         ("push x R; push y *16383 | 0-16383", 128, 48, "whole"),
-        ("push x R; scope *16 | 0>1, 1-16 *2", 128, 48, "whole"),
+        // Ladders from which nothing can be reached: alone, beside a definition, and behind a cut.
+        ("push x R; scope *40 | 0>1, 1-40 *2", 128, 48, "whole"),
+        (
+            "push x R; scope *40; pop x D | 0>1, 1-40 *2, 0>41",
+            128,
+            48,
+            "0/41 whole",
+        ),
+        (
+            "push x R; scope E; scope *40; pop x D | 0>1, 1>2, 2-41 *2, 1>42",
+            128,
+            48,
+            "0/42 whole",
+        ),
     ];
     for (graph, edges, depth, wanted) in rows {
         let told = answer(rt.alloc(), graph, Bounds { edges, depth })?;
