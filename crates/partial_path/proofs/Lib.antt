@@ -1,3 +1,12 @@
 pub mod Edges
 pub mod Prefixes
 pub mod Cycles
+pub mod Firsts
+pub mod Lefts
+pub mod Put
+pub mod Asked
+pub mod Orders
+pub mod Reordered
+pub mod Halved
+pub mod Asking
+pub mod Edgeless

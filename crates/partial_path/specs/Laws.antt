@@ -1,4 +1,4 @@
--- Laws of the definitions: what cut edges and counted runs are for.
+-- Laws of the definitions: what cut edges and counted runs are for, and which path set is known at once.
 use Rattle.std.specs.Prelude.{◌≡◌, ◌≢◌, List, [], ◌∷◌, ◌++◌, IsTrue, IsSome, Contains}
 use Rattle.std.specs.List.{AllByRecursion, list_any}
 use Rattle.graph_nodes.specs.declared.node.Edge.{Edge}
@@ -10,6 +10,8 @@ use Rattle.partial_path.specs.declared.config.EdgeAt.{EdgeAt}
 use Rattle.partial_path.specs.Step.{is_cut_edge}
 use Rattle.partial_path.specs.Runs.{run, IsStraight, IsClosed}
 use Rattle.partial_path.specs.Counted.{IsCounted}
+use Rattle.partial_path.specs.Walks.{IsWeight}
+use Rattle.partial_path.specs.PathSets.{IsPathSet}
 
 -- a closed and straight run
 pub record IsClosedStraight (files : List Graph) (c : Config) (es : List EdgeAt) : Type 0 where
@@ -38,3 +40,7 @@ pub record IsCycle (g : Graph) (es : List Edge) : Type 0 where
 -- every cycle within a file meets a cut node: an edge of it has a cut place as its sink
 abbrev pub CyclesAreCut : Type 0
 CyclesAreCut = (g : Graph) (es : List Edge) → IsCycle g es → IsTrue (list_any (λ (e : Edge). is_cut g e.sink) es)
+
+-- a graph without edges has no walk: no rules are its path set, and its weight is 0
+abbrev pub NoEdgesNoWalks : Type 0
+NoEdgesNoWalks = (g : Graph) → g.edges ≡ [] → IsPathSet g [] × IsWeight g 0

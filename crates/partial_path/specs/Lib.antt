@@ -4,3 +4,11 @@ pub mod Runs
 pub mod Counted
 pub mod Same
 pub mod Laws
+pub mod Rules
+pub mod Apply
+pub mod Moved
+pub mod Walks
+pub mod PathSets
+pub mod Starts
+pub mod Inside
+pub mod Sources

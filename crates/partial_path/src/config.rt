@@ -2,7 +2,7 @@ use stacks_vars::{NodeAt, Stacks};
 use std::alloc::{AllocError, Global};
 
 /// Where a path stands: at the root, or at a node of a file.
-#[derive(Clone, Copy, Debug, PartialEq, Eq)]
+#[derive(Clone, Copy, Debug, PartialEq, Eq, PartialOrd, Ord)]
 pub enum Spot {
     Root,
     At(NodeAt),

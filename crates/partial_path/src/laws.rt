@@ -1,4 +1,4 @@
-ghost use Rattle.partial_path.specs.Laws.{CutPrefixesAreClosed, CyclesAreCut};
+ghost use Rattle.partial_path.specs.Laws.{CutPrefixesAreClosed, CyclesAreCut, NoEdgesNoWalks};
 
 /// A law: where a counted run has been followed up to one of its cut edges, that prefix is a closed and
 /// straight run itself.
@@ -9,4 +9,9 @@ pub fn cut_prefixes_are_closed()
 /// A law: every cycle within a file meets a cut node.
 pub fn cycles_are_cut()
     ensures { CyclesAreCut }
+{}
+
+/// A law: a graph without edges has no walk, so no paths are its path set, and its weight is 0.
+pub fn no_edges_no_walks()
+    ensures { NoEdgesNoWalks }
 {}

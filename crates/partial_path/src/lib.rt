@@ -1,16 +1,34 @@
-//! Runs in the whole graph of a list of files: the lists of edges that a path may follow.
+//! Runs in the whole graph of a list of files, and partial paths: rules that do at once what following their
+//! edges does.
 #![tactic(auto)]
 
+mod applying;
 mod bounds;
 mod config;
+mod fault;
+mod file_list;
+mod file_paths;
+mod filling;
 mod laws;
+mod matching;
+mod path;
 mod places;
+mod rule;
+mod shared;
+mod source;
 mod stepping;
 
 pub use bounds::{Bounds, MAX_RUNS};
 pub use config::{Config, EdgeAt, Spot};
-pub use laws::{cut_prefixes_are_closed, cycles_are_cut};
+pub use fault::PathFault;
+pub use file_list::FileList;
+pub use file_paths::FilePaths;
+pub use laws::{cut_prefixes_are_closed, cycles_are_cut, no_edges_no_walks};
+pub use path::PartialPath;
 pub use places::{edge_at, is_at_definition, is_definition_spot, node_at};
+pub use rule::{End, Start};
+pub use shared::SharedPaths;
+pub use source::PathSource;
 pub use stepping::{is_cut_edge, start, step};
 
 #[cfg(test)]

@@ -43,7 +43,7 @@ pub(crate) fn is_reference(kind: &NodeKind) -> bool
 }
 
 /// Whether a node of this kind is a definition.
-fn is_definition(kind: &NodeKind) -> bool
+pub(crate) fn is_definition(kind: &NodeKind) -> bool
     ensures { result ≡ is_definition_kind kind.now }
 {
     match kind {

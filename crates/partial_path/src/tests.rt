@@ -4,6 +4,8 @@ use stacks_vars::{NodeAt, ScopeStack, Stacks, Symbol, SymbolItem};
 use std::alloc::Global;
 use std::test::Fail;
 
+mod unconnected;
+
 fn at(file: u32, node: u32) -> Spot {
     Spot::At(NodeAt { file, node })
 }

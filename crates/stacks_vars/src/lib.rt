@@ -4,6 +4,8 @@
 mod action;
 mod entering;
 mod items;
+mod listed;
+mod patterns;
 mod scopes;
 mod stacks;
 mod symbol;
@@ -11,6 +13,8 @@ mod symbol;
 pub use action::Action;
 pub use entering::{drop_scopes, enter, jump, pop, pop_scoped, push, push_scoped};
 pub use items::{SymbolItem, SymbolStack};
+pub use listed::Listed;
+pub use patterns::{Post, Pre, ScopeOut, ScopePat, SymOut, SymPat, Tail};
 pub use scopes::{NodeAt, ScopeStack};
 pub use stacks::Stacks;
 pub use symbol::Symbol;

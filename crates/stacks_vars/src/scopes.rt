@@ -2,7 +2,7 @@ use std::alloc::{AllocError, Global};
 use std::marker::Model;
 
 /// A node of the whole graph: its file's place in the list of files, and its position in that file.
-#[derive(Clone, Copy, Debug, PartialEq, Eq)]
+#[derive(Clone, Copy, Debug, PartialEq, Eq, PartialOrd, Ord)]
 pub struct NodeAt {
     pub file: u32,
     pub node: u32,
@@ -25,7 +25,7 @@ impl Model for ScopeStack {
 }
 
 impl ScopeStack {
-    ghost use Rattle.std.specs.Prelude.{◌≡◌, ◌↔◌, List, [], ◌∷◌, drop, reverse, IfOk, MatchOption, OnErr, IsTrue};
+    ghost use Rattle.std.specs.Prelude.{◌≡◌, ◌↔◌, List, [], ◌∷◌, drop, reverse, take, IfOk, MatchOption, OnErr, IsTrue};
     ghost use Rattle.stacks_vars.specs.Same.{scopes_eq};
 
     /// The empty stack. It takes no memory.
@@ -80,6 +80,13 @@ impl ScopeStack {
         ensures rest { self.new ≡ drop 1 self.old }
     {
         self.items.pop()
+    }
+
+    /// Takes scopes off the front until at most this many are left.
+    pub fn keep(&mut self, count: usize)
+        ensures { self.new ≡ reverse (take count (reverse self.old)) }
+    {
+        self.items.truncate(count);
     }
 
     /// Takes all scopes off.

@@ -1,0 +1,134 @@
+-- The rules that begin at one start, among rules in the order of their starts: those behind the ones that
+-- begin before it.
+use Rattle.std.proofs.Common.{◌≡◌, zero, suc, ◌-◌, inl, inr, refl, sym, ◌∙◌, ap, ℕ, ◌+◌, ◌<◌, ◌≤◌, List, [], ◌∷◌, length, get_or, take, drop, Bool, true, false, cond, arith, rules}
+use Rattle.std.specs.Prelude.{filter}
+use Rattle.std.specs.Ordering.{ordering_index, is_lt, is_eq}
+use Rattle.std.specs.declared.cmp.Ordering.TheVariants.{Less, Equal, Greater}
+use Rattle.std.specs.List.{prefix_len}
+use Rattle.std.specs.List.Sorted.{IsNonDecreasingBy, IsPartitionedBy, IsPartitionPoint}
+use Rattle.std.specs.declared.cmp.Ordering.{Ordering}
+use Rattle.std.proofs.lemmas.Bool.{false≢true, cases_Bool}
+use Rattle.std.proofs.lemmas.List.Sums.{prefix_len_is, prefix_len_stops}
+use Rattle.std.proofs.lemmas.List.{get_or-drop, length-drop}
+use Rattle.std.proofs.lemmas.List.Sorted.{searchable_from_sorted, IsNonDecreasingBy-drop}
+use Rattle.partial_path.specs.declared.rule.Start.{Start}
+use Rattle.partial_path.specs.Rules.{Rule}
+use Rattle.partial_path.specs.Starts.{start_cmp, IsByStart, is_before, begins_at, rules_at}
+use Rattle.partial_path.proofs.Orders.{start_cmp_total, start_eq_is}
+
+-- none of the elements passes
+filter_none : {X : Type 0} (q : X → Bool) (xs : List X) → ((k : ℕ) (d : X) → k < length xs → q (get_or xs k d) ≡ false) → filter q xs ≡ []
+filter_none q [] none = refl
+filter_none q (x ∷ xs) none =
+    ap (λ b. cond b (x ∷ filter q xs) (filter q xs)) (none zero x (omega arith)) ∙ filter_none q xs (λ k d h. none (suc k) d (omega arith))
+
+-- none behind one that fails passes
+none_behind : {X : Type 0} (q : X → Bool) (x : X) (xs : List X) → IsPartitionedBy q (x ∷ xs) → q x ≡ false → (k : ℕ) (d : X) → k < length xs → q (get_or xs k d) ≡ false
+none_behind q x xs parted e k d h = elim (cases_Bool (q (get_or xs k d)))
+    [ inl passed ↦ absurd (false≢true (sym e ∙ parted zero (suc k) d (omega arith) (omega arith) passed)) | inr failed ↦ failed ]
+
+-- those that pass stand first
+filter_first : {X : Type 0} (q : X → Bool) (xs : List X) → IsPartitionedBy q xs → filter q xs ≡ take (prefix_len q xs) xs
+filter_first q [] parted = refl
+filter_first q (x ∷ xs) parted = first_case q x xs parted (q x) refl (filter_first q xs (λ i j d le h. parted (suc i) (suc j) d (omega arith) (omega arith)))
+  where
+    first_case : {X : Type 0} (q : X → Bool) (x : X) (xs : List X) → IsPartitionedBy q (x ∷ xs) → (b : Bool) → q x ≡ b → filter q xs ≡ take (prefix_len q xs) xs
+        → filter q (x ∷ xs) ≡ take (prefix_len q (x ∷ xs)) (x ∷ xs)
+    first_case q x xs parted true e rest =
+        let more : 1 + prefix_len q xs ≡ suc (prefix_len q xs) = omega arith in
+        ap (λ b. cond b (x ∷ filter q xs) (filter q xs)) e ∙ ap (λ ys. x ∷ ys) rest
+        ∙ sym (ap (λ n. take n (x ∷ xs)) (ap (λ b. cond b (1 + prefix_len q xs) 0) e ∙ more))
+    first_case q x xs parted false e rest =
+        ap (λ b. cond b (x ∷ filter q xs) (filter q xs)) e ∙ filter_none q xs (λ k d h. none_behind q x xs parted e k d h)
+        ∙ sym (ap (λ b. take (cond b (1 + prefix_len q xs) 0) (x ∷ xs)) e)
+
+-- where those of p are none of q, the elements of q stand behind the first ones of p
+filter_behind : {X : Type 0} (p q : X → Bool) → ((x : X) → p x ≡ true → q x ≡ false) → (xs : List X) → filter q xs ≡ filter q (drop (prefix_len p xs) xs)
+filter_behind p q other [] = refl
+filter_behind p q other (x ∷ xs) = behind_case p q other x xs (p x) refl (filter_behind p q other xs)
+  where
+    behind_case : {X : Type 0} (p q : X → Bool) → ((x : X) → p x ≡ true → q x ≡ false) → (x : X) (xs : List X) (b : Bool) → p x ≡ b → filter q xs ≡ filter q (drop (prefix_len p xs) xs)
+        → filter q (x ∷ xs) ≡ filter q (drop (prefix_len p (x ∷ xs)) (x ∷ xs))
+    behind_case p q other x xs true e rest =
+        let more : 1 + prefix_len p xs ≡ suc (prefix_len p xs) = omega arith in
+        ap (λ b. cond b (x ∷ filter q xs) (filter q xs)) (other x e) ∙ rest
+        ∙ sym (ap (λ n. filter q (drop n (x ∷ xs))) (ap (λ b. cond b (1 + prefix_len p xs) 0) e ∙ more))
+    behind_case p q other x xs false e rest = sym (ap (λ b. filter q (drop (cond b (1 + prefix_len p xs) 0) (x ∷ xs))) e)
+
+-- where a search stops, of a test that holds first
+pub prefix_from_point : {X : Type 0} (p : X → Bool) (xs : List X) (n : ℕ) → n ≤ length xs → IsPartitionPoint (λ y. p y ≡ true) (λ y. p y ≡ false) xs n → n ≡ prefix_len p xs
+prefix_from_point p [] n le point = omega (arith, le)
+prefix_from_point p (x ∷ xs) n le point =
+    sym (prefix_len_is p (x ∷ xs) n x le (λ k h. point.0 k x (omega arith) h) (λ h. point.1 n x (omega arith) h))
+
+-- before, at or behind the start: 0, 1, 2
+abbrev pub side : Start → Rule → ℕ
+side start rule = ordering_index (start_cmp rule.start start)
+
+pub sides_rise : (rules : List Rule) (start : Start) → IsByStart rules → IsNonDecreasingBy (side start) rules
+sides_rise rules start sorted = searchable_from_sorted start_cmp_total (λ r. r.start) rules start sorted
+
+before_is : (o : Ordering) → is_lt o ≡ true → ordering_index o ≡ 0
+before_is Less e = refl
+before_is Equal e = absurd (false≢true e)
+before_is Greater e = absurd (false≢true e)
+
+before_from : (o : Ordering) → ordering_index o ≡ 0 → is_lt o ≡ true
+before_from Less e = refl
+before_from Equal e = absurd (omega (arith, e))
+before_from Greater e = absurd (omega (arith, e))
+
+not_before : (o : Ordering) → is_lt o ≡ false → 0 < ordering_index o
+not_before Less e = absurd (false≢true (sym e))
+not_before Equal e = omega arith
+not_before Greater e = omega arith
+
+at_is : (o : Ordering) → is_eq o ≡ true → ordering_index o ≡ 1
+at_is Less e = absurd (false≢true e)
+at_is Equal e = refl
+at_is Greater e = absurd (false≢true e)
+
+at_from : (o : Ordering) → ordering_index o ≡ 1 → is_eq o ≡ true
+at_from Less e = absurd (omega (arith, e))
+at_from Equal e = refl
+at_from Greater e = absurd (omega (arith, e))
+
+before_not_at : (o : Ordering) → is_lt o ≡ true → is_eq o ≡ false
+before_not_at Less e = refl
+before_not_at Equal e = absurd (false≢true e)
+before_not_at Greater e = refl
+
+pub parted_before : (rules : List Rule) (start : Start) → IsByStart rules → IsPartitionedBy (is_before start) rules
+parted_before rules start sorted i j d le h e =
+    let up : side start (get_or rules i d) ≤ side start (get_or rules j d) = sides_rise rules start sorted i j d le h in
+    let low : side start (get_or rules j d) ≡ 0 = before_is _ e in
+    before_from _ (omega (arith, up, low))
+
+-- from the first that doesn't begin before the start on, all are at the start or behind it
+not_before_rest : (rs : List Rule) (start : Start) → IsByStart rs → (k : ℕ) (d : Rule)
+    → k < length (drop (prefix_len (is_before start) rs) rs) → 0 < side start (get_or (drop (prefix_len (is_before start) rs) rs) k d)
+not_before_rest rs start sorted k d h =
+    let n : ℕ = prefix_len (is_before start) rs in
+    let len : length (drop (prefix_len (is_before start) rs) rs) ≡ length rs - prefix_len (is_before start) rs = length-drop _ rs in
+    let inside : prefix_len (is_before start) rs + k < length rs = omega (arith, len, h) in
+    let stop : 0 < side start (get_or rs (prefix_len (is_before start) rs) d) = not_before _ (prefix_len_stops (is_before start) rs d (omega (arith, inside))) in
+    let up : side start (get_or rs (prefix_len (is_before start) rs) d) ≤ side start (get_or rs (prefix_len (is_before start) rs + k) d)
+    = sides_rise rs start sorted _ _ d (omega arith) inside in
+    let same : get_or (drop (prefix_len (is_before start) rs) rs) k d ≡ get_or rs (prefix_len (is_before start) rs + k) d = get_or-drop _ rs k d in
+    let here : side start (get_or (drop (prefix_len (is_before start) rs) rs) k d) ≡ side start (get_or rs (prefix_len (is_before start) rs + k) d) = ap (side start) same in
+    omega (arith, stop, up, here)
+
+pub parted_at : (rules : List Rule) (start : Start) → IsByStart rules → IsPartitionedBy (begins_at start) (drop (prefix_len (is_before start) rules) rules)
+parted_at rs start sorted i j d le h e =
+    let up : side start (get_or (drop (prefix_len (is_before start) rs) rs) i d) ≤ side start (get_or (drop (prefix_len (is_before start) rs) rs) j d)
+    = IsNonDecreasingBy-drop (side start) (prefix_len (is_before start) rs) rs (sides_rise rs start sorted) i j d le h in
+    let there : side start (get_or (drop (prefix_len (is_before start) rs) rs) j d) ≡ 1
+    = at_is _ (sym (start_eq_is (get_or (drop (prefix_len (is_before start) rs) rs) j d).start start) ∙ e) in
+    let low : 0 < side start (get_or (drop (prefix_len (is_before start) rs) rs) i d) = not_before_rest rs start sorted i d (omega (arith, le, h)) in
+    start_eq_is _ start ∙ at_from (start_cmp (get_or (drop (prefix_len (is_before start) rs) rs) i d).start start) (omega (arith, up, there, low))
+
+pub run_is : (rules : List Rule) (start : Start) → IsByStart rules
+    → take (prefix_len (begins_at start) (drop (prefix_len (is_before start) rules) rules)) (drop (prefix_len (is_before start) rules) rules) ≡ rules_at start rules
+run_is rules start sorted =
+    sym (filter_behind (is_before start) (begins_at start) (λ r e. start_eq_is r.start start ∙ before_not_at (start_cmp r.start start) e) rules
+    ∙ filter_first (begins_at start) (drop (prefix_len (is_before start) rules) rules) (parted_at rules start sorted))

@@ -1,0 +1,130 @@
+ghost use Rattle.std.specs.Prelude.{◌≡◌, ◌&&◌, All, IfOk, IsTrue};
+ghost use Rattle.std.specs.Option.{option_map, is_some};
+ghost use Rattle.partial_path.specs.Same.{spot_eq};
+ghost use Rattle.partial_path.specs.Rules.{start_spot};
+ghost use Rattle.partial_path.specs.Apply.{match_stacks, rewrite, end_at, apply};
+ghost use Rattle.partial_path.specs.Moved.{moved, moved_spot, moved_start, moved_pre, moved_post, moved_end, Fits, FitsSpot, FitsEnd, FitsSymbol, FitsNode};
+
+use crate::config::{Config, Spot};
+use crate::filling::{Rests, last_scopes, moved_node, put_symbols};
+use crate::matching::{is_moved, meets_items, meets_scopes, rest_of, rests_of_items};
+use crate::path::PartialPath;
+use crate::rule::{End, Start};
+use stacks_vars::{Post, Pre, Stacks, jump};
+use std::alloc::{AllocError, Global};
+
+impl PartialPath {
+    /// The path with `base` added to each file number, applied to the configuration; None where the
+    /// configuration isn't at its start, doesn't meet its precondition, or has no scope by which the path
+    /// could end. The one error is want of memory. What isn't met is refused at the cost of the pattern;
+    /// the stacks are copied only for a path that applies.
+    pub fn apply(&self, alloc: Global, base: u32, at: &Config) -> Result<Option<Config>, AllocError>
+        requires { Fits base self.now }
+        ensures { IfOk result (λ next. next ≡ apply (moved base self.now) at.now) }
+    {
+        if !self.meets(base, at) {
+            return Ok(None);
+        }
+        self.apply_to(alloc, base, at.copy(alloc)?)
+    }
+
+    /// As `apply`, on a configuration that is taken over: it costs what the pattern and the postcondition
+    /// cost, and copies no rest of a stack that is used once, last, as the scope stack.
+    pub fn apply_to(
+        &self,
+        alloc: Global,
+        base: u32,
+        at: Config,
+    ) -> Result<Option<Config>, AllocError>
+        requires { Fits base self.now }
+        ensures { IfOk result (λ next. next ≡ apply (moved base self.now) at) }
+    {
+        if !begins_at(base, self.start(), at.spot) {
+            return Ok(None);
+        }
+        match rewrite(alloc, base, self.pre(), self.post(), at.stacks)? {
+            Some(stacks) => Ok(end_at(base, self.end(), stacks)),
+            None => Ok(None),
+        }
+    }
+
+    /// Whether the configuration is at the path's start, moved by `base`, and meets its precondition. It
+    /// takes no memory, and time that follows the precondition.
+    pub fn meets(&self, base: u32, at: &Config) -> bool
+        ensures { result ≡ (spot_eq (start_spot (moved_start base self.now.start)) at.now.spot && is_some (match_stacks (moved_pre base self.now.pre) at.now.stacks)) }
+    {
+        begins_at(base, self.start(), at.spot)
+            && meets_scopes(base, &self.pre().scopes, &at.stacks.scopes)
+            && meets_items(base, self.pre().symbols.items(), &at.stacks.symbols)
+    }
+}
+
+/// Whether the start, moved by `base`, is at the spot.
+fn begins_at(base: u32, start: Start, at: Spot) -> bool
+    ensures { result ≡ spot_eq (start_spot (moved_start base start)) at }
+{
+    match (start, at) {
+        (Start::Before(node), Spot::At(there)) => is_moved(base, node, there),
+        (Start::After(Spot::At(node)), Spot::At(there)) => is_moved(base, node, there),
+        (Start::After(Spot::Root), Spot::Root) => true,
+        _ => false,
+    }
+}
+
+/// What a rule of this precondition and postcondition, moved by `base`, makes of the stacks; None where
+/// they don't meet the precondition.
+fn rewrite(
+    alloc: Global,
+    base: u32,
+    pre: &Pre,
+    post: &Post,
+    stacks: Stacks,
+) -> Result<Option<Stacks>, AllocError>
+    requires symbols { All (FitsSymbol base) post.now.symbols }
+    requires scopes { All (FitsNode base) post.now.scopes.scopes }
+    ensures { IfOk result (λ next. next ≡ rewrite (moved_pre base pre.now) (moved_post base post.now) stacks) }
+{
+    let Some(front) = rest_of(base, &pre.scopes, stacks.scopes) else {
+        return Ok(None);
+    };
+    let mut symbols = stacks.symbols;
+    let Some(items) = rests_of_items(alloc, base, pre.symbols.items(), &mut symbols)? else {
+        return Ok(None);
+    };
+    let rests = Rests { front, items };
+    put_symbols(alloc, base, &rests, post.symbols.items(), &mut symbols)?;
+    let scopes = last_scopes(alloc, base, rests, &post.scopes)?;
+    Ok(Some(Stacks { symbols, scopes }))
+}
+
+/// Where a path with this end, moved by `base`, stands with these stacks; None where it ends by the stack
+/// and there is no scope.
+fn end_at(base: u32, end: End, stacks: Stacks) -> Option<Config>
+    requires { FitsEnd base end }
+    ensures { result ≡ end_at (moved_end base end) stacks }
+{
+    match end {
+        End::At(spot) => Some(Config {
+            spot: moved_spot(base, spot),
+            stacks,
+        }),
+        End::ByStack => match jump(stacks) {
+            Some((scope, stacks)) => Some(Config {
+                spot: Spot::At(scope),
+                stacks,
+            }),
+            None => None,
+        },
+    }
+}
+
+/// The spot with `base` added to its file's number.
+fn moved_spot(base: u32, spot: Spot) -> Spot
+    requires { FitsSpot base spot }
+    ensures { result ≡ moved_spot base spot }
+{
+    match spot {
+        Spot::Root => Spot::Root,
+        Spot::At(node) => Spot::At(moved_node(base, node)),
+    }
+}

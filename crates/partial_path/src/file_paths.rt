@@ -1,0 +1,175 @@
+use crate::path::PartialPath;
+use crate::places::is_definition;
+use crate::rule::Start;
+use graph_nodes::{FileGraph, Node, Place};
+use std::marker::Model;
+
+/// The partial paths of one file, one for each landing walk of its graph, with the graph and its weight:
+/// how many edges all its walks have together. What stands here searches by these paths alone: no call
+/// tells where an edge leads.
+#[derive(Debug, Drop)]
+pub struct FilePaths {
+    graph: FileGraph,
+    /// In the order of their starts.
+    paths: Vec<PartialPath>,
+    weight: u32,
+}
+
+impl Model for FilePaths {
+    ghost use Rattle.partial_path.specs.PathSets.{FileRules, file_rules};
+    ghost use Rattle.partial_path.specs.Inside.{IsStored};
+
+    ghost Value = { FileRules };
+
+    ghost view = { λ f. file_rules f.graph f.paths.items f.weight };
+
+    ghost invariant = { λ f. IsStored (file_rules f.graph f.paths.items f.weight) };
+}
+
+impl FilePaths {
+    ghost use Rattle.std.specs.Prelude.{◌≡◌, ◌<◌, length, slice_get, option_map, Some, IsPermutation};
+    ghost use Rattle.graph_nodes.specs.Graph.{is_definition};
+    ghost use Rattle.graph_nodes.specs.Checked.{IsChecked};
+    ghost use Rattle.graph_nodes.specs.Cut.{is_cut};
+    ghost use Rattle.partial_path.specs.PathSets.{AreFileRules, IsPathSet};
+    ghost use Rattle.partial_path.specs.Walks.{IsWeight};
+    ghost use Rattle.partial_path.specs.Starts.{IsByStart, rules_at};
+
+    /// The paths of this file, sorted by their starts where they lie. It takes no memory.
+    pub fn new(graph: FileGraph, mut paths: Vec<PartialPath>, weight: u32) -> FilePaths
+        requires paths { IsPathSet graph paths.items }
+        requires weight { IsWeight graph weight }
+        ensures graph { result.graph ≡ graph }
+        ensures weight { result.weight ≡ weight }
+        ensures paths { IsPermutation paths.items result.rules }
+        ensures order { IsByStart result.rules }
+    {
+        paths.sort_unstable_by_key(|path| path.start());
+        FilePaths {
+            graph,
+            paths,
+            weight,
+        }
+    }
+
+    /// All paths of the file, in the order of their starts.
+    pub fn paths(&self) -> &[PartialPath]
+        ensures value { result.now ≡ self.now.rules }
+        ensures order { IsByStart self.now.rules }
+        ensures sets { AreFileRules self.now }
+    {
+        self.paths.as_slice()
+    }
+
+    /// The paths that begin there, found by halving.
+    pub fn paths_from(&self, start: Start) -> &[PartialPath]
+        ensures value { result.now ≡ rules_at start self.now.rules }
+        ensures sets { AreFileRules self.now }
+    {
+        run_of(self.paths.as_slice(), start)
+    }
+
+    /// How many edges all walks of the file have together.
+    pub fn weight(&self) -> u32
+        ensures value { result ≡ self.now.weight }
+        ensures sets { AreFileRules self.now }
+    {
+        self.weight
+    }
+
+    /// How many nodes the file has.
+    pub fn node_count(&self) -> u32
+        ensures value { result ≡ length self.now.graph.nodes }
+        ensures checked { IsChecked self.now.graph }
+        ensures sets { AreFileRules self.now }
+    {
+        self.graph.node_count()
+    }
+
+    /// The node at the position.
+    pub fn node(&self, n: u32) -> &Node
+        requires { n < length self.now.graph.nodes }
+        ensures { slice_get self.now.graph.nodes n ≡ Some result.now }
+    {
+        self.graph.node(n)
+    }
+
+    /// Whether the node at the position is a cut node: an exported scope or a turning node. It takes
+    /// constant time.
+    pub fn is_cut(&self, n: u32) -> bool
+        requires { n < length self.now.graph.nodes }
+        ensures { result ≡ is_cut self.now.graph (Place.At n) }
+    {
+        self.graph.is_cut(Place::At(n))
+    }
+
+    /// Whether the node at the position is a definition. It takes constant time.
+    pub fn is_definition(&self, n: u32) -> bool
+        requires { n < length self.now.graph.nodes }
+        ensures { result ≡ is_definition self.now.graph.nodes n }
+    {
+        is_definition(&self.graph.node(n).kind)
+    }
+
+    /// The precedence of the edge at the position. It takes constant time.
+    pub fn precedence(&self, e: u32) -> u16
+        requires { e < length self.now.graph.edges }
+        ensures { option_map (λ edge. edge.precedence) (slice_get self.now.graph.edges e) ≡ Some result }
+    {
+        self.graph.edge(e).precedence
+    }
+}
+
+ghost use Rattle.std.specs.Prelude.{◌≡◌, ◌≤◌, length, drop};
+ghost use Rattle.std.specs.List.{prefix_len};
+ghost use Rattle.std.specs.List.Sorted.{IsPartitionedBy};
+ghost use Rattle.partial_path.specs.Starts.{IsByStart, begins_at, is_before, rules_at};
+
+/// The paths that begin there, of paths in the order of their starts.
+fn run_of(paths: &[PartialPath], start: Start) -> &[PartialPath]
+    requires { IsByStart paths.now }
+    ensures { result.now ≡ rules_at start paths.now }
+{
+    let rest = rest_of(paths, start);
+    &rest[..count_at(rest, start)]
+}
+
+/// The paths that don't begin before the start, of paths in the order of their starts.
+fn rest_of(paths: &[PartialPath], start: Start) -> &[PartialPath]
+    requires { IsByStart paths.now }
+    ensures { result.now ≡ drop (prefix_len (is_before start) paths.now) paths.now }
+{
+    &paths[count_before(paths, start)..]
+}
+
+/// How many of the paths, which are in the order of their starts, begin before the start.
+fn count_before(paths: &[PartialPath], start: Start) -> usize
+    requires { IsByStart paths.now }
+    ensures value { result ≡ prefix_len (is_before start) paths.now }
+    ensures bound { result ≤ length paths.now }
+{
+    paths.partition_point(|path| begins_before(path, start))
+}
+
+/// How many of the first paths begin there, of paths of which none begins there after one that doesn't.
+fn count_at(paths: &[PartialPath], start: Start) -> usize
+    requires { IsPartitionedBy (begins_at start) paths.now }
+    ensures value { result ≡ prefix_len (begins_at start) paths.now }
+    ensures bound { result ≤ length paths.now }
+{
+    paths.partition_point(|path| begins_at(path, start))
+}
+
+/// Whether the path begins before the start, in the order of starts.
+fn begins_before(path: &PartialPath, start: Start) -> bool
+    ensures { result ≡ is_before start path.now }
+{
+    path.start() < start
+}
+
+/// Whether the path begins there.
+fn begins_at(path: &PartialPath, start: Start) -> bool
+    ensures { result ≡ begins_at start path.now }
+{
+    path.start() == start
+}

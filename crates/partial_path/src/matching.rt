@@ -1,0 +1,123 @@
+ghost use Rattle.std.specs.Prelude.{◌≡◌, ◌≤◌, ◌+◌, ◌&&◌, map, drop, take, reverse, length, Some, None, IfOk, IfSome, if◌then◌else◌};
+ghost use Rattle.std.specs.Option.{option_map, option_and_then, is_some};
+ghost use Rattle.std.specs.Str.{bytes_eq};
+ghost use Rattle.stacks_vars.specs.Same.{node_eq};
+ghost use Rattle.partial_path.specs.Apply.{after_fixed, match_attached, match_item, match_items};
+ghost use Rattle.partial_path.specs.Moved.{moved_node, moved_scopes, moved_symbol};
+
+use stacks_vars::{NodeAt, ScopePat, ScopeStack, SymPat, SymbolItem, SymbolStack};
+use std::alloc::{AllocError, Global};
+
+/// How many scopes follow the fixed ones, moved by `base`; None where the stack doesn't begin with them.
+/// The stack's front is the last of `scopes`.
+pub fn left_after(base: u32, fixed: &[NodeAt], scopes: &[NodeAt]) -> Option<usize>
+    ensures { option_map (λ n. reverse (take n scopes.now)) result ≡ after_fixed (map (moved_node base) fixed.now) (reverse scopes.now) }
+{
+    let mut left = scopes.len();
+    for node in fixed {
+        if left == 0 {
+            return None;
+        }
+        left -= 1;
+        if !is_moved(base, *node, scopes[left]) {
+            return None;
+        }
+    }
+    Some(left)
+}
+
+/// Whether the first node, moved by `base`, is the second. No sum is made, so none can be too great.
+pub fn is_moved(base: u32, node: NodeAt, at: NodeAt) -> bool
+    ensures { result ≡ node_eq (moved_node base node) at }
+{
+    at.file >= base && at.file - base == node.file && at.node == node.node
+}
+
+/// What follows the fixed scopes of a stack; None where it doesn't begin with them. It takes time that
+/// follows the pattern.
+pub fn rest_of(base: u32, pat: &ScopePat, mut scopes: ScopeStack) -> Option<ScopeStack>
+    ensures { result ≡ after_fixed (map (moved_node base) pat.now.fixed) scopes }
+{
+    let left = left_after(base, pat.fixed.items(), scopes.items())?;
+    scopes.keep(left);
+    Some(scopes)
+}
+
+/// What follows the fixed scopes of a symbol's attached ones, nothing for a plain symbol; None where the
+/// symbol isn't as it is asked for.
+pub fn rest_of_item(alloc: Global, base: u32, pat: &SymPat, item: SymbolItem) -> Option<ScopeStack>
+    ensures { result ≡ match_item (moved_symbol base pat.now) item }
+{
+    if !pat.symbol.same(&item.symbol) {
+        return None;
+    }
+    match (&pat.scopes, item.scopes) {
+        (None, None) => Some(ScopeStack::new(alloc)),
+        (Some(scopes), Some(attached)) => rest_of(base, scopes, attached),
+        _ => None,
+    }
+}
+
+/// Takes the symbols that are asked for off the stack, and answers what follows the fixed scopes of each;
+/// None where one isn't as it is asked for, or there are too few. The one error is want of memory.
+pub fn rests_of_items(
+    alloc: Global,
+    base: u32,
+    asked: &[SymPat],
+    symbols: &mut SymbolStack,
+) -> Result<Option<Vec<ScopeStack>>, AllocError>
+    ensures rests { IfOk result (λ found. option_map (λ rests. rests.items) found ≡ match_items (map (moved_symbol base) asked.now) symbols.old) }
+    ensures left { IfOk result (λ found. IfSome found (λ _. symbols.new ≡ drop (length asked.now) symbols.old)) }
+{
+    let mut rests = Vec::with_capacity(alloc, asked.len())?;
+    for pat in asked {
+        let Some(item) = symbols.pop() else {
+            return Ok(None);
+        };
+        let Some(rest) = rest_of_item(alloc, base, pat, item) else {
+            return Ok(None);
+        };
+        rests.push(rest)?;
+    }
+    Ok(Some(rests))
+}
+
+/// Whether the symbol is as it is asked for. It takes no memory, and time that follows the pattern.
+pub fn meets_item(base: u32, pat: &SymPat, item: &SymbolItem) -> bool
+    ensures { result ≡ is_some (match_item (moved_symbol base pat.now) item.now) }
+{
+    if !pat.symbol.same(&item.symbol) {
+        return false;
+    }
+    match (&pat.scopes, &item.scopes) {
+        (None, None) => true,
+        (Some(scopes), Some(attached)) => meets_scopes(base, scopes, attached),
+        _ => false,
+    }
+}
+
+/// Whether the stack begins with the fixed scopes. It takes no memory, and time that follows the pattern.
+pub fn meets_scopes(base: u32, pat: &ScopePat, scopes: &ScopeStack) -> bool
+    ensures { result ≡ is_some (after_fixed (map (moved_node base) pat.now.fixed) scopes.now) }
+{
+    left_after(base, pat.fixed.items(), scopes.items()).is_some()
+}
+
+/// Whether the first symbols are as they are asked for. It takes no memory, and time that follows the
+/// patterns.
+pub fn meets_items(base: u32, asked: &[SymPat], symbols: &SymbolStack) -> bool
+    ensures { result ≡ is_some (match_items (map (moved_symbol base) asked.now) symbols.now) }
+{
+    let items = symbols.items();
+    let mut left = items.len();
+    for pat in asked {
+        if left == 0 {
+            return false;
+        }
+        left -= 1;
+        if !meets_item(base, pat, &items[left]) {
+            return false;
+        }
+    }
+    true
+}

@@ -1,0 +1,46 @@
+//! Where a search takes its partial paths from.
+ghost use Rattle.std.specs.Prelude.{◌≡◌, ℕ, List, Option, All, IsSome, IsPermutation, option_map, option_copied, slice_get};
+ghost use Rattle.graph_nodes.specs.declared.node.Place.TheVariants.{At};
+ghost use Rattle.graph_nodes.specs.Whole.{node_of, is_cut_of, is_definition_of};
+ghost use Rattle.partial_path.specs.declared.rule.Start.{Start};
+ghost use Rattle.partial_path.specs.Rules.{Rule};
+ghost use Rattle.partial_path.specs.PathSets.{FileRules};
+ghost use Rattle.partial_path.specs.Sources.{IsSourceFile, graphs_of, rules_from};
+
+use crate::path::PartialPath;
+use crate::rule::Start;
+use stacks_vars::{NodeAt, Symbol};
+
+/// The path sets of a list of files. A path, a start and a node are told with the number of their file, its
+/// place in that list.
+pub trait PathSource {
+    /// The path set of each file, by the file's number.
+    ghost files: { Self → List FileRules };
+
+    /// The rules that begin there and can be met with that symbol in front of the stack, each with its
+    /// file's number, in the order in which they are given.
+    ghost listed: { Self → Start → Option (List ℕ) → List (ℕ × Rule) };
+
+    /// The path at place `k`, from 0, of those that begin at the start and whose precondition asks for no
+    /// symbol or for `first` first, with its file's number; None past their end. The path's own start has
+    /// file number 0. It takes no memory.
+    fn path_from(
+        &self,
+        start: &Start,
+        first: Option<&Symbol>,
+        k: usize,
+    ) -> Option<(u32, &PartialPath)>
+        ensures value { option_map (λ found. (found.0, found.1.now)) result ≡ slice_get (listed self.now start.now (option_copied first.entry)) k }
+        ensures exact { IsPermutation (rules_from (files self.now) start.now (option_copied first.entry)) (listed self.now start.now (option_copied first.entry)) }
+        ensures sets { All IsSourceFile (files self.now) };
+
+    /// Whether the node is a cut node of its file.
+    fn is_cut(&self, at: &NodeAt) -> bool
+        requires { IsSome (node_of (graphs_of (files self.now)) at.now.file at.now.node) }
+        ensures { result ≡ is_cut_of (graphs_of (files self.now)) at.now.file (At at.now.node) };
+
+    /// Whether the node is a definition of its file.
+    fn is_definition(&self, at: &NodeAt) -> bool
+        requires { IsSome (node_of (graphs_of (files self.now)) at.now.file at.now.node) }
+        ensures { result ≡ is_definition_of (graphs_of (files self.now)) at.now.file at.now.node };
+}
