@@ -1,0 +1,4 @@
+pub mod Joins
+pub mod Joining
+pub mod Tables
+pub mod Units
