@@ -1,0 +1,156 @@
+-- The rules of one edge more than a rule's, gathered edge by edge by joining.
+use Rattle.std.proofs.Common.{◌≡◌, ◌<◌, ℕ, List, [], ◌∷◌, ◌++◌, map, length, false, IsTrue, Contains, inl, refl, sym, ap, ◌∙◌, subst, append_assoc, append-nil}
+use Rattle.std.specs.List.{AllByRecursion}
+use Rattle.std.proofs.lemmas.List.{map-append}
+use Rattle.graph_nodes.specs.Graph.{Graph}
+use Rattle.graph_nodes.specs.Checked.{IsChecked}
+use Rattle.graph_nodes.specs.Out.{edges_from}
+use Rattle.graph_nodes.specs.declared.node.Place.{Place}
+use Rattle.partial_path.specs.declared.config.Spot.{Spot}
+use Rattle.partial_path.specs.declared.config.EdgeAt.{EdgeAt}
+use Rattle.partial_path.specs.declared.rule.Start.TheVariants.{After}
+use Rattle.partial_path.specs.Rules.{Rule}
+use Rattle.partial_path.specs.Runs.{IsApart}
+use Rattle.partial_path.specs.Walks.{alone, starts_walks, is_cut_spot, IsUncut, IsWalk, Walk, walk_of}
+use Rattle.partial_path.specs.PathSets.{IsRuleOf, walk_of_rule}
+use Rattle.partial_path.proofs.Prefixes.{IsApart-prefix}
+use Rattle.path_join.specs.Joins.{IsJoin, NonePasses}
+use Rattle.file_paths.specs.Walking.{ends_cut, one_more, no_edges, AreLonger}
+use Rattle.file_paths.specs.Finding.{MayGoOn, GoesOnFrom, IsLongerRule, AreLongerRules}
+use Rattle.file_paths.proofs.GatherLaws.{AreLongerSoFar, IsApart-last, none_tried, tried_none, tried_more, all_tried}
+use Rattle.file_paths.proofs.MembersLaws.{IsIn, IsIn-append_right, Contains-from_IsIn}
+use Rattle.file_paths.proofs.UnitLaws.{edge_in, IsUnitOf}
+use Rattle.file_paths.proofs.EdgesLaws.{edges_from-apart, edges_from-there}
+use Rattle.file_paths.proofs.PassableLaws.{unit_walk}
+use Rattle.file_paths.proofs.JoinedLaws.{joined_walk_of, joined_is_rule, joined_is_walk, no_walk}
+
+-- a rule that is a walk and doesn't end with a cut edge
+pub walk_may_go_on : (g : Graph) (p : Rule) → IsRuleOf g p → IsWalk g p.start p.edges → ends_cut (alone g) p.edges ≡ false → MayGoOn g p
+walk_may_go_on g p exact walk on = record { exact = exact; begins = walk.begins; uncut = walk.uncut; on = on }
+
+-- a rule without edges
+pub start_may_go_on : (g : Graph) (p : Rule) → IsRuleOf g p → IsTrue (starts_walks g p.start) → p.edges ≡ [] → MayGoOn g p
+start_may_go_on g p exact begins none = record {
+  exact = exact;
+  begins = begins;
+  uncut = subst (IsUncut (alone g)) (sym none) tt;
+  on = ap (ends_cut (alone g)) none;
+}
+
+-- of the file's edges these were tried, and these are rules for the walks of one edge more with them
+pub record AreRulesSoFar (g : Graph) (w : Walk) (tried : List ℕ) (longer : List Rule) : Type 0 where
+  pub walks : AreLongerSoFar g w tried (map walk_of_rule longer)
+  pub exact : AllByRecursion (IsRuleOf g) longer
+
+pub grown_none : (g : Graph) (w : Walk) → AreRulesSoFar g w [] []
+grown_none g w = record { walks = none_tried g w; exact = tt }
+
+pub all_push : {X : Type 0} (P : X → Type 0) (xs : List X) (y : X) → AllByRecursion P xs → P y → AllByRecursion P (xs ++ y ∷ [])
+all_push P [] y all one = (one, tt)
+all_push P (x ∷ xs) y all one = (all.0, all_push P xs y all.1 one)
+
+-- one rule more, for the walk with the edge more
+pub grown_by : (g : Graph) (w : Walk) (i : ℕ) (j : Rule) (tried : List ℕ) (longer : List Rule) → AreRulesSoFar g w tried longer
+    → ¬ Contains tried i → walk_of_rule j ≡ one_more w (edge_in i) → IsWalk g j.start j.edges → IsRuleOf g j
+    → AreRulesSoFar g w (tried ++ i ∷ []) (longer ++ j ∷ [])
+grown_by g w i j tried longer so new same walk exact = record {
+  walks = subst (AreLongerSoFar g w (tried ++ i ∷ [])) (sym pushed)
+      (tried_more g w tried i (map walk_of_rule longer) so.walks new (subst (λ (v : Walk). IsWalk g v.start v.edges) same walk));
+  exact = all_push (IsRuleOf g) longer j so.exact exact;
+}
+  where
+    pushed : map walk_of_rule (longer ++ j ∷ []) ≡ map walk_of_rule longer ++ one_more w (edge_in i) ∷ []
+    pushed = map-append walk_of_rule longer (j ∷ []) ∙ ap (λ (v : Walk). map walk_of_rule longer ++ v ∷ []) same
+
+-- the edge's rule was joined
+pub grown_more : (g : Graph) (i : ℕ) (s : Spot) (p u j : Rule) (tried : List ℕ) (longer : List Rule) → AreRulesSoFar g (walk_of_rule p) tried longer
+    → ¬ Contains tried i → MayGoOn g p → IsUnitOf g i s u → IsJoin p u j → AreRulesSoFar g (walk_of_rule p) (tried ++ i ∷ []) (longer ++ j ∷ [])
+grown_more g i s p u j tried longer so new may unit join =
+    grown_by g (walk_of_rule p) i j tried longer so new (joined_walk_of g i s p u j unit join)
+    (joined_is_walk g i s p u j may.exact unit join may.begins may.uncut may.on)
+    (joined_is_rule g i s p u j may.exact unit join)
+
+-- it can't be
+pub grown_same : (g : Graph) (i : ℕ) (s : Spot) (p u : Rule) (tried : List ℕ) (longer : List Rule) → AreRulesSoFar g (walk_of_rule p) tried longer
+    → MayGoOn g p → IsUnitOf g i s u → NonePasses p u → AreRulesSoFar g (walk_of_rule p) (tried ++ i ∷ []) longer
+grown_same g i s p u tried longer so may unit none = record {
+  walks = tried_none g (walk_of_rule p) tried i (map walk_of_rule longer) so.walks (no_walk g i s p u may.exact unit none);
+  exact = so.exact;
+}
+
+-- after a cut spot the edge's rule itself is one of a walk
+pub grown_unit : (g : Graph) (i : ℕ) (s : Spot) (u : Rule) (tried : List ℕ) (longer : List Rule) → AreRulesSoFar g (no_edges (After s)) tried longer
+    → ¬ Contains tried i → IsChecked g → IsTrue (is_cut_spot g s) → IsUnitOf g i s u → AreRulesSoFar g (no_edges (After s)) (tried ++ i ∷ []) (longer ++ u ∷ [])
+grown_unit g i s u tried longer so new checked cut unit =
+    grown_by g (no_edges (After s)) i u tried longer so new (λ n. walk_of (unit.start n) (unit.edges n))
+    (subst (λ (w : Walk). IsWalk g w.start w.edges) (sym (λ n. walk_of (unit.start n) (unit.edges n))) (unit_walk g i s checked unit.leaves cut))
+    unit.exact
+
+-- all edges with which the walk may go on were tried
+pub grown_all : (g : Graph) (w : Walk) (tried : List ℕ) (longer : List Rule) → AreRulesSoFar g w tried longer
+    → ((e : EdgeAt) → IsWalk g w.start (w.edges ++ e ∷ []) → (i : ℕ) × (e ≡ edge_in i) × Contains tried i)
+    → AreLonger g w (map walk_of_rule longer)
+grown_all g w tried longer so all = all_tried g w tried (map walk_of_rule longer) so.walks all
+
+-- an edge of a list of edges that differ isn't among those before
+pub untried : (tried rest : List ℕ) (i : ℕ) → IsApart (tried ++ i ∷ rest) → ¬ Contains tried i
+untried tried rest i h =
+    IsApart-last tried i (IsApart-prefix (tried ++ i ∷ []) rest (subst (λ (xs : List ℕ). IsApart xs) (sym (append_assoc tried (i ∷ []) rest)) h))
+
+-- the edges from a place, of which some were tried and these are left; so far these are rules for the longer
+-- walks
+pub record IsGrowing (g : Graph) (w : Walk) (from : Place) (left : List ℕ) (longer : List Rule) : Type 0 where
+  pub tried : List ℕ
+  pub whole : tried ++ left ≡ edges_from g from
+  pub so : AreRulesSoFar g w tried longer
+
+pub growing_begins : (g : Graph) (w : Walk) (from : Place) → IsGrowing g w from (edges_from g from) []
+growing_begins g w from = record { tried = []; whole = refl; so = grown_none g w }
+
+next_left : (tried rest left whole : List ℕ) (i : ℕ) → left ≡ i ∷ rest → tried ++ left ≡ whole → (tried ++ i ∷ []) ++ rest ≡ whole
+next_left tried rest left whole i is h = append_assoc tried (i ∷ []) rest ∙ (ap (λ (xs : List ℕ). tried ++ xs) (sym is) ∙ h)
+
+-- the next edge leaves the place, and is one of the file
+pub growing_in : (g : Graph) (w : Walk) (from : Place) (left rest : List ℕ) (i : ℕ) (longer : List Rule) → IsGrowing g w from left longer
+    → left ≡ i ∷ rest → Contains (edges_from g from) i
+growing_in g w from left rest i longer h is =
+    Contains-from_IsIn (edges_from g from) i
+    (subst (λ (xs : List ℕ). IsIn i xs) h.whole
+    (IsIn-append_right i h.tried left (subst (λ (xs : List ℕ). IsIn i xs) (sym is) (inl refl))))
+
+pub growing_there : (g : Graph) (w : Walk) (from : Place) (left rest : List ℕ) (i : ℕ) (longer : List Rule) → IsGrowing g w from left longer
+    → left ≡ i ∷ rest → i < length g.edges
+growing_there g w from left rest i longer h is = edges_from-there g from i (growing_in g w from left rest i longer h is)
+
+-- it makes the walk longer
+pub growing_more : (g : Graph) (w : Walk) (from : Place) (left rest : List ℕ) (i : ℕ) (longer : List Rule) (j : Rule) → IsGrowing g w from left longer
+    → left ≡ i ∷ rest → IsLongerRule g w i j → IsGrowing g w from rest (longer ++ j ∷ [])
+growing_more g w from left rest i longer j h is one = record {
+  tried = h.tried ++ i ∷ [];
+  whole = next_left h.tried rest left (edges_from g from) i is h.whole;
+  so = grown_by g w i j h.tried longer h.so
+      (untried h.tried rest i
+      (subst (λ (xs : List ℕ). IsApart xs) (sym (ap (λ (xs : List ℕ). h.tried ++ xs) (sym is) ∙ h.whole)) (edges_from-apart g from)))
+      one.same one.walk one.exact;
+}
+
+-- or it doesn't
+pub growing_same : (g : Graph) (w : Walk) (from : Place) (left rest : List ℕ) (i : ℕ) (longer : List Rule) → IsGrowing g w from left longer
+    → left ≡ i ∷ rest → ¬ IsWalk g w.start (w.edges ++ edge_in i ∷ []) → IsGrowing g w from rest longer
+growing_same g w from left rest i longer h is none = record {
+  tried = h.tried ++ i ∷ [];
+  whole = next_left h.tried rest left (edges_from g from) i is h.whole;
+  so = record { walks = tried_none g w h.tried i (map walk_of_rule longer) h.so.walks none; exact = h.so.exact };
+}
+
+-- in the end all edges were tried
+pub growing_ends : (g : Graph) (w : Walk) (from : Place) (left : List ℕ) (longer : List Rule) → IsGrowing g w from left longer → left ≡ []
+    → GoesOnFrom g w from → AreLongerRules g w longer
+growing_ends g w from left longer h is onward = record {
+  walks = grown_all g w h.tried longer h.so
+      (λ e walk. let k = onward e walk in (k.0, k.1, subst (λ (xs : List ℕ). Contains xs k.0) (sym all) k.2));
+  exact = h.so.exact;
+}
+  where
+    all : h.tried ≡ edges_from g from
+    all = sym (append-nil h.tried) ∙ (ap (λ (xs : List ℕ). h.tried ++ xs) (sym is) ∙ h.whole)

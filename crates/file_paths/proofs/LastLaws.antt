@@ -1,0 +1,100 @@
+-- What the last edge of a walk tells: where it leads, and how the walk goes on.
+use Rattle.std.proofs.Common.{◌≡◌, ℕ, ◌+◌, ◌-◌, ◌<◌, List, [], ◌∷◌, ◌++◌, length, Some, Bool, true, false, if◌then◌else◌, ◌||◌, append-nil, IsTrue, refl, sym, ap, ◌∙◌, subst, arith, length-append, slice_get, slice_index_or}
+use Rattle.std.proofs.lemmas.Option.{slice_get_within}
+use Rattle.graph_nodes.specs.Graph.{Graph, has_place}
+use Rattle.graph_nodes.specs.Checked.{IsChecked}
+use Rattle.graph_nodes.specs.Cut.{is_cut}
+use Rattle.graph_nodes.specs.declared.node.Edge.{Edge}
+use Rattle.graph_nodes.specs.declared.node.Place.{Place}
+use Rattle.partial_path.specs.declared.config.EdgeAt.{EdgeAt}
+use Rattle.partial_path.specs.declared.rule.Start.{Start}
+use Rattle.partial_path.specs.Rules.{Rule}
+use Rattle.partial_path.specs.Walks.{alone, is_definition_place, IsWalk}
+use Rattle.partial_path.specs.PathSets.{IsRuleOf, walk_of_rule}
+use Rattle.partial_path.proofs.Edges.{has_sink}
+use Rattle.path_join.specs.Units.{edge_alone}
+use Rattle.file_paths.specs.Walking.{ends_cut}
+use Rattle.file_paths.specs.Finding.{LeadsTo, MayGoOn, GoesOnFrom, AreLongerRules, if_landing}
+use Rattle.file_paths.proofs.StepLaws.{none_longer}
+use Rattle.file_paths.proofs.SinkLaws.{walk_last, sink_leaves, uncut_no_jump}
+use Rattle.file_paths.proofs.OnwardLaws.{ends_cut-sink, ends_landing-sink}
+use Rattle.file_paths.proofs.GrowingLaws.{walk_may_go_on}
+
+at_last : (before : List EdgeAt) (e d : EdgeAt) → slice_index_or (before ++ e ∷ []) (length before) d ≡ e
+at_last [] e d = refl
+at_last (x ∷ before) e d = at_last before e d
+
+last_at : (es before : List EdgeAt) (e d : EdgeAt) → es ≡ before ++ e ∷ [] → slice_index_or es (length es - 1) d ≡ e
+last_at es before e d is =
+    ap (λ (xs : List EdgeAt). slice_index_or xs (length xs - 1) d) is
+    ∙ (ap (λ (n : ℕ). slice_index_or (before ++ e ∷ []) n d) (ap (λ (n : ℕ). n - 1) (length-append before (e ∷ [])) ∙ less_one (length before)) ∙ at_last before e d)
+  where
+    less_one : (n : ℕ) → (n + 1) - 1 ≡ n
+    less_one n = omega arith
+
+-- the last edge of a walk is the file's, where the edges lie in a slice
+pub last_is : (g : Graph) (start : Start) (es there : List EdgeAt) (d : EdgeAt) → (walk : IsWalk g start es) → there ≡ es
+    → (slice_index_or there (length there - 1) d).edge ≡ (walk_last g start es walk).last
+last_is g start es there d walk same =
+    let last = walk_last g start es walk in
+    ap (λ (e : EdgeAt). e.edge) (last_at there last.before (edge_alone last.last) d (same ∙ last.is))
+
+pub last_is_there : (g : Graph) (start : Start) (es there : List EdgeAt) (d : EdgeAt) → IsWalk g start es → there ≡ es
+    → (slice_index_or there (length there - 1) d).edge < length g.edges
+last_is_there g start es there d walk same =
+    let last = walk_last g start es walk in
+    subst (λ (n : ℕ). n < length g.edges) (sym (last_is g start es there d walk same)) (slice_get_within g.edges last.last last.edge last.there)
+
+pub last_leads : (g : Graph) (start : Start) (es there : List EdgeAt) (d : EdgeAt) (edge : Edge) → IsWalk g start es → there ≡ es
+    → slice_get g.edges (slice_index_or there (length there - 1) d).edge ≡ Some edge → LeadsTo g es edge.sink
+last_leads g start es there d edge walk same found =
+    let last = walk_last g start es walk in (
+      record {
+        before = last.before;
+        last = last.last;
+        edge = edge;
+        is = last.is;
+        there = subst (λ (n : ℕ). slice_get g.edges n ≡ Some edge) (last_is g start es there d walk same) found;
+      },
+      refl,
+    )
+
+pub last_place : (g : Graph) (k : ℕ) (edge : Edge) → IsChecked g → slice_get g.edges k ≡ Some edge → IsTrue (has_place (length g.nodes) edge.sink)
+last_place g k edge checked found = has_sink g k edge checked found
+
+cut_at : (g : Graph) (es : List EdgeAt) (sink : Place) (leads : LeadsTo g es sink) → ends_cut (alone g) es ≡ is_cut g sink
+cut_at g es sink leads = ends_cut-sink g es leads.0 ∙ ap (is_cut g) leads.1
+
+-- behind a cut edge there is no longer path
+pub none_onward : (g : Graph) (p : Rule) (sink : Place) (longer : List Rule) → LeadsTo g p.edges sink → is_cut g sink ≡ true → longer ≡ []
+    → AreLongerRules g (walk_of_rule p) longer
+none_onward g p sink longer leads cut none =
+    subst (λ (ps : List Rule). AreLongerRules g (walk_of_rule p) ps) (sym none)
+    (record { walks = none_longer g (walk_of_rule p) (cut_at g p.edges sink leads ∙ cut); exact = tt })
+
+-- else the walk may go on, by the edges from where the last one leads
+pub may_onward : (g : Graph) (p : Rule) (sink : Place) → IsRuleOf g p → IsWalk g p.start p.edges → LeadsTo g p.edges sink → is_cut g sink ≡ false → MayGoOn g p
+may_onward g p sink exact walk leads uncut = walk_may_go_on g p exact walk (cut_at g p.edges sink leads ∙ uncut)
+
+pub goes_onward : (g : Graph) (p : Rule) (sink : Place) → LeadsTo g p.edges sink → is_cut g sink ≡ false → GoesOnFrom g (walk_of_rule p) sink
+goes_onward g p sink leads uncut =
+    let last = leads.0 in
+    subst (λ (to : Place). GoesOnFrom g (walk_of_rule p) to) leads.1
+    (λ e walk.
+    sink_leaves g p.start p.edges last.before last.last last.edge e last.is last.there
+    (uncut_no_jump g last.edge.sink (ap (is_cut g) leads.1 ∙ uncut)) walk)
+
+lands_at : (g : Graph) (p : Rule) (sink : Place) (b : Bool) → LeadsTo g p.edges sink → (is_cut g sink || is_definition_place (alone g) 0 sink) ≡ b
+    → if_landing g p ≡ (if b then p ∷ [] else [])
+lands_at g p sink b leads is =
+    ap (λ (t : Bool). if t then p ∷ [] else [])
+    (ends_landing-sink g p.edges leads.0 ∙ (ap (λ (to : Place). is_cut g to || is_definition_place (alone g) 0 to) leads.1 ∙ is))
+
+-- the path is kept, where the place to which it leads is a cut or a definition
+pub keeps_landing : (g : Graph) (p : Rule) (sink : Place) (kept now : List Rule) → LeadsTo g p.edges sink → (is_cut g sink || is_definition_place (alone g) 0 sink) ≡ true
+    → now ≡ kept ++ p ∷ [] → now ≡ kept ++ if_landing g p
+keeps_landing g p sink kept now leads is pushed = pushed ∙ ap (λ (ps : List Rule). kept ++ ps) (sym (lands_at g p sink true leads is))
+
+pub keeps_none : (g : Graph) (p : Rule) (sink : Place) (kept : List Rule) → LeadsTo g p.edges sink → (is_cut g sink || is_definition_place (alone g) 0 sink) ≡ false
+    → kept ≡ kept ++ if_landing g p
+keeps_none g p sink kept leads is = sym (append-nil kept) ∙ ap (λ (ps : List Rule). kept ++ ps) (sym (lands_at g p sink false leads is))

@@ -1,0 +1,93 @@
+-- A path joined with that of an edge of the file: what the join is for the walk with the edge more, and how
+-- long and how high it is.
+use Rattle.std.proofs.Common.{◌≡◌, ◌≤◌, ◌+◌, ◌-◌, ℕ, List, [], ◌∷◌, ◌++◌, length, max, Some, refl, sym, ap, ◌∙◌, subst, arith, length-append}
+use Rattle.graph_nodes.specs.Graph.{Graph}
+use Rattle.partial_path.specs.declared.config.EdgeAt.{EdgeAt}
+use Rattle.partial_path.specs.declared.config.Spot.{Spot}
+use Rattle.partial_path.specs.Rules.{Rule, IsRule}
+use Rattle.partial_path.specs.Walks.{IsWalk}
+use Rattle.partial_path.specs.PathSets.{IsRuleOf, walk_of_rule}
+use Rattle.path_join.specs.Joins.{IsJoin, NonePasses, joined_peak}
+use Rattle.path_join.specs.Units.{after_source, edge_alone, place_spot}
+use Rattle.file_paths.specs.Finding.{MayGoOn, IsLongerRule, IsShort}
+use Rattle.file_paths.proofs.UnitLaws.{IsUnitOf}
+use Rattle.file_paths.proofs.SourceLaws.{source_leaves}
+use Rattle.file_paths.proofs.JoinedLaws.{joined_walk_of, joined_is_rule, joined_is_walk, no_walk}
+
+-- the path of an edge is its rule
+pub unit_of : (g : Graph) (i : ℕ) (u : Rule) → after_source g i ≡ Some u.start → u.edges ≡ edge_alone i ∷ [] → IsRuleOf g u
+    → (s : Spot) × IsUnitOf g i s u
+unit_of g i u starts has exact =
+    let k = source_leaves place_spot refl refl (λ n. refl) g i u.start starts in
+    (k.0, record { leaves = k.2; start = k.1; edges = has; exact = exact })
+
+pub next_rule : (g : Graph) (i : ℕ) (p u j : Rule) → MayGoOn g p → after_source g i ≡ Some u.start → u.edges ≡ edge_alone i ∷ [] → IsRuleOf g u → IsJoin p u j
+    → IsLongerRule g (walk_of_rule p) i j
+next_rule g i p u j may starts has exact join =
+    let unit = unit_of g i u starts has exact in
+    record {
+      same = joined_walk_of g i unit.0 p u j unit.1 join;
+      walk = joined_is_walk g i unit.0 p u j may.exact unit.1 join may.begins may.uncut may.on;
+      exact = joined_is_rule g i unit.0 p u j may.exact unit.1 join;
+    }
+
+pub next_none : (g : Graph) (i : ℕ) (p u : Rule) → MayGoOn g p → after_source g i ≡ Some u.start → u.edges ≡ edge_alone i ∷ [] → IsRuleOf g u → NonePasses p u
+    → ¬ IsWalk g p.start (p.edges ++ edge_alone i ∷ [])
+next_none g i p u may starts has exact none walk =
+    let unit = unit_of g i u starts has exact in no_walk g i unit.0 p u may.exact unit.1 none walk
+
+join_low : (a b k l m n : ℕ) → m ≤ a → n ≤ b → a ≤ k + 1 → b ≤ 1 → max (a + (n - m)) (b + (m - n)) ≤ (k + 1) + 1
+join_low a b k l m n hm hn ha hb = omega arith
+
+post_low : (p : Rule) → IsRule p → length p.post.symbols ≤ p.peak
+post_low p rule = let h = rule.peak in below (length p.pre.symbols) (length p.post.symbols) p.peak h
+  where
+    below : (m n k : ℕ) → max m n ≤ k → n ≤ k
+    below m n k h = omega arith
+
+pre_low : (p : Rule) → IsRule p → length p.pre.symbols ≤ p.peak
+pre_low p rule = let h = rule.peak in below (length p.pre.symbols) (length p.post.symbols) p.peak h
+  where
+    below : (m n k : ℕ) → max m n ≤ k → m ≤ k
+    below m n k h = omega arith
+
+longer_by_one : (limit k n : ℕ) → k ≤ limit → n ≡ k + 1 → n ≤ limit + 1
+longer_by_one limit k n h e = omega arith
+
+-- the join of a short path with that of an edge has one edge more, and is short
+pub next_short : (limit i : ℕ) (p u j : Rule) → IsShort limit p → IsRule p → IsRule u → u.peak ≤ 1 → u.edges ≡ edge_alone i ∷ [] → IsJoin p u j
+    → IsShort (limit + 1) j
+next_short limit i p u j short rule unit low has join = record {
+  edges = longer_by_one limit (length p.edges) (length j.edges) short.edges edges;
+  peak = subst (λ (n : ℕ). n ≤ length j.edges + 1) (sym join.peak)
+      (subst (λ (n : ℕ). joined_peak p u ≤ n + 1) (sym edges)
+      (join_low p.peak u.peak (length p.edges) 0 (length p.post.symbols) (length u.pre.symbols) (post_low p rule) (pre_low u unit) short.peak low));
+}
+  where
+    edges : length j.edges ≡ length p.edges + 1
+    edges =
+        ap (λ (es : List EdgeAt). length es) join.edges
+        ∙ (ap (λ (es : List EdgeAt). length (p.edges ++ es)) has ∙ length-append p.edges (edge_alone i ∷ []))
+
+-- the path of an edge is short
+pub unit_short : (limit i : ℕ) (u : Rule) → u.peak ≤ 1 → u.edges ≡ edge_alone i ∷ [] → IsShort (limit + 1) u
+unit_short limit i u low has = record {
+  edges = subst (λ (es : List EdgeAt). length es ≤ limit + 1) (sym has) (one limit);
+  peak = subst (λ (es : List EdgeAt). u.peak ≤ length es + 1) (sym has) (two u.peak low);
+}
+  where
+    one : (n : ℕ) → 1 ≤ n + 1
+    one n = omega arith
+
+    two : (n : ℕ) → n ≤ 1 → n ≤ 1 + 1
+    two n h = omega arith
+
+-- and one without edges
+pub opened_short : (limit : ℕ) (p : Rule) → p.peak ≤ 1 → p.edges ≡ [] → IsShort limit p
+opened_short limit p low none = record {
+  edges = subst (λ (es : List EdgeAt). length es ≤ limit) (sym none) (least limit);
+  peak = subst (λ (es : List EdgeAt). p.peak ≤ length es + 1) (sym none) low;
+}
+  where
+    least : (n : ℕ) → 0 ≤ n
+    least n = omega arith

@@ -1,0 +1,123 @@
+-- The last begun path is taken, counted and kept where it lands; in the end there is none left.
+use Rattle.std.proofs.Common.{◌+◌, refl, arith}
+use Rattle.std.specs.Vec.{vec_len}
+use Rattle.file_paths.specs.declared.fault.TheConstants.{MAX_WEIGHT}
+use Rattle.file_paths.proofs.CountingLaws.{counting_begins, counting_few, counting_within, takes, taken_rule, taken_walk, taken_few, taken_within, taken_heavy, taken_short, taken_kept, counted_set, counted_weight, counted_steps, short_last, short_fits, none_left, taken_smaller, least, one_above}
+use Rattle.file_paths.proofs.enumerating.find.Goals as goal
+
+pub loop-path-init : goal.loop-path-init
+loop-path-init g c = record {
+  counting = counting_begins c.args.graph.now c.new-paths.result.items c.in_ok-begun.begun.items c.args.steps.now c.node_count.ensures.checked c.in_ok-begun.ensures.first c.new-paths.ensures.items;
+  short = c.in_ok-begun.ensures.short;
+  light = least MAX_WEIGHT;
+}
+
+pub overflow_cast-weight : goal.overflow_cast-weight
+overflow_cast-weight g c =
+    omega (
+      arith,
+      short_fits (MAX_WEIGHT + 1) c.in-Some.path.edges c.edges.result.now
+          (short_last (MAX_WEIGHT + 1) c.loop-path.begun.items c.pop.new.self.items c.in-Some.path c.in-Some.ensures.items c.loop-path.invariant.short).1.edges c.edges.ensures,
+    )
+
+pub overflow_add-weight : goal.overflow_add-weight
+overflow_add-weight g c =
+    omega (
+      arith,
+      c.loop-path.invariant.light,
+      short_fits (MAX_WEIGHT + 1) c.in-Some.path.edges c.edges.result.now
+          (short_last (MAX_WEIGHT + 1) c.loop-path.begun.items c.pop.new.self.items c.in-Some.path c.in-Some.ensures.items c.loop-path.invariant.short).1.edges c.edges.ensures,
+    )
+
+pub returns-then-weight-gt-MAX_WEIGHT-clause-fault : goal.returns-then-weight-gt-MAX_WEIGHT-clause-fault
+returns-then-weight-gt-MAX_WEIGHT-clause-fault g c = (
+  refl,
+  taken_heavy c.args.graph.now c.loop-path.paths.items c.pop.new.self.items c.in-Some.path c.loop-path.weight c.edges.result.now c.args.steps.now c.tick.new.self
+      (takes c.args.graph.now c.loop-path.paths.items c.loop-path.begun.items c.pop.new.self.items c.in-Some.path c.loop-path.weight c.edges.result.now c.args.steps.now c.loop-path.steps c.tick.new.self
+      c.loop-path.invariant.counting c.in-Some.ensures.items c.edges.ensures c.tick.ensures) MAX_WEIGHT c.if-weight-gt-MAX_WEIGHT.true,
+)
+
+pub returns-then-weight-gt-MAX_WEIGHT-clause-few : goal.returns-then-weight-gt-MAX_WEIGHT-clause-few
+returns-then-weight-gt-MAX_WEIGHT-clause-few g c =
+    taken_few c.args.graph.now c.loop-path.paths.items c.pop.new.self.items c.in-Some.path c.loop-path.weight c.edges.result.now c.args.steps.now c.tick.new.self
+    (takes c.args.graph.now c.loop-path.paths.items c.loop-path.begun.items c.pop.new.self.items c.in-Some.path c.loop-path.weight c.edges.result.now c.args.steps.now c.loop-path.steps c.tick.new.self
+    c.loop-path.invariant.counting c.in-Some.ensures.items c.edges.ensures c.tick.ensures) MAX_WEIGHT c.loop-path.invariant.light
+
+pub returns-then-weight-gt-MAX_WEIGHT-clause-fewer : goal.returns-then-weight-gt-MAX_WEIGHT-clause-fewer
+returns-then-weight-gt-MAX_WEIGHT-clause-fewer g c =
+    λ whole weighs. taken_within c.args.graph.now c.loop-path.paths.items c.pop.new.self.items c.in-Some.path c.loop-path.weight c.edges.result.now c.args.steps.now c.tick.new.self
+    (takes c.args.graph.now c.loop-path.paths.items c.loop-path.begun.items c.pop.new.self.items c.in-Some.path c.loop-path.weight c.edges.result.now c.args.steps.now c.loop-path.steps c.tick.new.self
+    c.loop-path.invariant.counting c.in-Some.ensures.items c.edges.ensures c.tick.ensures) whole weighs
+
+pub returns-in_err-keep-clause-few : goal.returns-in_err-keep-clause-few
+returns-in_err-keep-clause-few g c =
+    taken_few c.args.graph.now c.loop-path.paths.items c.pop.new.self.items c.in-Some.path c.loop-path.weight c.edges.result.now c.args.steps.now c.tick.new.self
+    (takes c.args.graph.now c.loop-path.paths.items c.loop-path.begun.items c.pop.new.self.items c.in-Some.path c.loop-path.weight c.edges.result.now c.args.steps.now c.loop-path.steps c.tick.new.self
+    c.loop-path.invariant.counting c.in-Some.ensures.items c.edges.ensures c.tick.ensures) MAX_WEIGHT c.loop-path.invariant.light
+
+pub returns-in_err-keep-clause-fewer : goal.returns-in_err-keep-clause-fewer
+returns-in_err-keep-clause-fewer g c =
+    λ whole weighs. taken_within c.args.graph.now c.loop-path.paths.items c.pop.new.self.items c.in-Some.path c.loop-path.weight c.edges.result.now c.args.steps.now c.tick.new.self
+    (takes c.args.graph.now c.loop-path.paths.items c.loop-path.begun.items c.pop.new.self.items c.in-Some.path c.loop-path.weight c.edges.result.now c.args.steps.now c.loop-path.steps c.tick.new.self
+    c.loop-path.invariant.counting c.in-Some.ensures.items c.edges.ensures c.tick.ensures) whole weighs
+
+pub keep-requires-clause-walk : goal.keep-requires-clause-walk
+keep-requires-clause-walk g c =
+    taken_walk c.args.graph.now c.loop-path.paths.items c.pop.new.self.items c.in-Some.path c.loop-path.weight c.edges.result.now c.args.steps.now c.tick.new.self
+    (takes c.args.graph.now c.loop-path.paths.items c.loop-path.begun.items c.pop.new.self.items c.in-Some.path c.loop-path.weight c.edges.result.now c.args.steps.now c.loop-path.steps c.tick.new.self
+    c.loop-path.invariant.counting c.in-Some.ensures.items c.edges.ensures c.tick.ensures)
+
+pub keep-requires-clause-exact : goal.keep-requires-clause-exact
+keep-requires-clause-exact g c =
+    taken_rule c.args.graph.now c.loop-path.paths.items c.pop.new.self.items c.in-Some.path c.loop-path.weight c.edges.result.now c.args.steps.now c.tick.new.self
+    (takes c.args.graph.now c.loop-path.paths.items c.loop-path.begun.items c.pop.new.self.items c.in-Some.path c.loop-path.weight c.edges.result.now c.args.steps.now c.loop-path.steps c.tick.new.self
+    c.loop-path.invariant.counting c.in-Some.ensures.items c.edges.ensures c.tick.ensures)
+
+pub keep-requires-clause-short : goal.keep-requires-clause-short
+keep-requires-clause-short g c =
+    taken_short c.args.graph.now c.loop-path.paths.items c.pop.new.self.items c.in-Some.path c.loop-path.weight c.edges.result.now c.args.steps.now c.tick.new.self
+    (takes c.args.graph.now c.loop-path.paths.items c.loop-path.begun.items c.pop.new.self.items c.in-Some.path c.loop-path.weight c.edges.result.now c.args.steps.now c.loop-path.steps c.tick.new.self
+    c.loop-path.invariant.counting c.in-Some.ensures.items c.edges.ensures c.tick.ensures) MAX_WEIGHT (short_last (MAX_WEIGHT + 1) c.loop-path.begun.items c.pop.new.self.items c.in-Some.path c.in-Some.ensures.items c.loop-path.invariant.short).1 c.if-weight-gt-MAX_WEIGHT.false
+
+pub keep-requires-clause-begun : goal.keep-requires-clause-begun
+keep-requires-clause-begun g c =
+    (short_last (MAX_WEIGHT + 1) c.loop-path.begun.items c.pop.new.self.items c.in-Some.path c.in-Some.ensures.items c.loop-path.invariant.short).0
+
+pub loop-path-smaller : goal.loop-path-smaller
+loop-path-smaller g c =
+    taken_smaller c.args.graph.now c.loop-path.paths.items c.pop.new.self.items c.in-Some.path c.loop-path.weight c.edges.result.now c.args.steps.now c.tick.new.self
+    (takes c.args.graph.now c.loop-path.paths.items c.loop-path.begun.items c.pop.new.self.items c.in-Some.path c.loop-path.weight c.edges.result.now c.args.steps.now c.loop-path.steps c.tick.new.self
+    c.loop-path.invariant.counting c.in-Some.ensures.items c.edges.ensures c.tick.ensures) MAX_WEIGHT c.loop-path.invariant.light
+
+pub loop-path-preserved : goal.loop-path-preserved
+loop-path-preserved g c = record {
+  counting = taken_kept c.args.graph.now c.loop-path.paths.items c.pop.new.self.items c.in-Some.path c.loop-path.weight c.edges.result.now c.args.steps.now c.tick.new.self
+      (takes c.args.graph.now c.loop-path.paths.items c.loop-path.begun.items c.pop.new.self.items c.in-Some.path c.loop-path.weight c.edges.result.now c.args.steps.now c.loop-path.steps c.tick.new.self
+      c.loop-path.invariant.counting c.in-Some.ensures.items c.edges.ensures c.tick.ensures) c.keep.new.begun.items c.keep.new.paths.items c.in_ok-keep.ensures.longer c.in_ok-keep.ensures.kept;
+  short = c.in_ok-keep.ensures.begun;
+  light = c.if-weight-gt-MAX_WEIGHT.false;
+}
+
+pub returns-clause-paths : goal.returns-clause-paths
+returns-clause-paths g c =
+    counted_set c.args.graph.now c.loop-path.paths.items c.loop-path.begun.items c.loop-path.weight c.args.steps.now c.loop-path.steps
+    (none_left (vec_len c.loop-path.begun) c.loop-path.begun.items c.pop.new.self.items c.in_default.ensures.cases.0 c.in_default.ensures.items c.in_default.ensures.rest) c.loop-path.invariant.counting
+
+pub returns-clause-weight : goal.returns-clause-weight
+returns-clause-weight g c =
+    counted_weight c.args.graph.now c.loop-path.paths.items c.loop-path.begun.items c.loop-path.weight c.args.steps.now c.loop-path.steps
+    (none_left (vec_len c.loop-path.begun) c.loop-path.begun.items c.pop.new.self.items c.in_default.ensures.cases.0 c.in_default.ensures.items c.in_default.ensures.rest) c.loop-path.invariant.counting
+
+pub returns-clause-steps : goal.returns-clause-steps
+returns-clause-steps g c =
+    counted_steps c.args.graph.now c.loop-path.paths.items c.loop-path.begun.items c.loop-path.weight c.args.steps.now c.loop-path.steps
+    (none_left (vec_len c.loop-path.begun) c.loop-path.begun.items c.pop.new.self.items c.in_default.ensures.cases.0 c.in_default.ensures.items c.in_default.ensures.rest) c.loop-path.invariant.counting
+
+pub returns-clause-few : goal.returns-clause-few
+returns-clause-few g c =
+    one_above c.loop-path.steps c.args.steps.now MAX_WEIGHT
+    (counting_few c.args.graph.now c.loop-path.paths.items c.loop-path.begun.items c.loop-path.weight c.args.steps.now c.loop-path.steps MAX_WEIGHT c.loop-path.invariant.counting c.loop-path.invariant.light)
+
+pub returns-clause-fewer : goal.returns-clause-fewer
+returns-clause-fewer g c =
+    λ whole weighs. counting_within c.args.graph.now c.loop-path.paths.items c.loop-path.begun.items c.loop-path.weight c.args.steps.now c.loop-path.steps whole c.loop-path.invariant.counting weighs

@@ -1,0 +1,9 @@
+-- The root's paths come first.
+use Rattle.file_paths.proofs.BeginningLaws.{begun_root}
+use Rattle.file_paths.proofs.starting.first_paths.Goals as goal
+
+pub loop-node-init : goal.loop-node-init
+loop-node-init c = record {
+  first = begun_root c.args.graph.now c.in_ok-first.first.items c.in_ok-first.ensures.longer;
+  short = c.in_ok-first.ensures.short;
+}

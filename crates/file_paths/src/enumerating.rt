@@ -1,0 +1,170 @@
+ghost use Rattle.std.specs.Prelude.{◌≡◌, ◌≤◌, ◌<◌, ◌+◌, ◌||◌, length, ◌++◌, IfOk, IfErr, OnOk, OnErr, Err, IsTrue, ℕ};
+ghost use Rattle.std.specs.List.{AllByRecursion};
+ghost use Rattle.graph_nodes.specs.Graph.{has_place, is_definition_kind};
+ghost use Rattle.graph_nodes.specs.Cut.{is_cut};
+ghost use Rattle.partial_path.specs.Walks.{alone, is_definition_place, ends_landing, IsWalk, IsWeight, IsHeavier};
+ghost use Rattle.partial_path.specs.PathSets.{IsRuleOf, IsPathSet, AreFileRules, walk_of_rule};
+ghost use Rattle.file_paths.specs.declared.fault.TheConstants.{MAX_WEIGHT};
+ghost use Rattle.file_paths.specs.Finding.{IsShort, AreLongerRules, AddsLonger, LeadsTo, if_landing};
+ghost use Rattle.file_paths.specs.Finds.{AddsWalks, HasCause};
+
+use crate::fault::{MAX_WEIGHT, PathsFault};
+use crate::growing::longer_of;
+use crate::starting::first_paths;
+use graph_nodes::{FileGraph, NodeKind, Place, Steps};
+use partial_path::{FilePaths, PartialPath};
+use std::alloc::{AllocError, Global};
+use std::sync::ledger::Ledger;
+
+/// The paths of a file: one for each landing walk of its graph, with the file's weight. One step is
+/// counted for each walk made. It is `Heavy` exactly where the weight exceeds `MAX_WEIGHT`, with
+/// `MAX_WEIGHT + 1`, and else `NoMemory` where memory is refused. Walks and paths are told in
+/// `specs/Walks.antt` and `specs/PathSets.antt` of `partial_path`. It takes time that follows the weight
+/// and the sizes of the paths, and memory that follows the paths kept and those begun.
+pub fn enumerate<L: Ledger>(
+    alloc: Global,
+    graph: FileGraph,
+    steps: &mut Steps<L>,
+) -> Result<FilePaths, PathsFault>
+    ensures graph { IfOk result (λ file. file.graph ≡ graph) }
+    ensures file { IfOk result AreFileRules }
+    ensures steps { OnOk result (AddsWalks graph steps.old steps.new) }
+    ensures light { OnOk result (¬ IsHeavier MAX_WEIGHT graph) }
+    ensures fault { IfErr result (HasCause graph) }
+
+    // Whatever is answered, the steps are few.
+    ensures few { steps.new ≤ steps.old + (MAX_WEIGHT + 1) }
+    ensures fewer { (weight : ℕ) → IsWeight graph weight → steps.new ≤ steps.old + weight }
+{
+    let found = find(alloc, &graph, steps)?;
+    let file = FilePaths::new(graph, found.paths, found.weight);
+    // Tells that what is stored is the path set.
+    file.weight();
+    Ok(file)
+}
+
+/// What was found of a file: its paths, and its weight.
+#[derive(Debug, Drop)]
+struct Found {
+    paths: Vec<PartialPath>,
+    weight: u32,
+}
+
+/// The paths of the graph and its weight. The paths that are begun and not yet looked at are kept in a
+/// list, so that no depth of a graph takes more of the call stack.
+fn find<L: Ledger>(
+    alloc: Global,
+    graph: &FileGraph,
+    steps: &mut Steps<L>,
+) -> Result<Found, PathsFault>
+    ensures paths { IfOk result (λ found. IsPathSet graph.now found.paths.items) }
+    ensures weight { IfOk result (λ found. IsWeight graph.now found.weight) }
+    ensures light { IfOk result (λ found. found.weight ≤ MAX_WEIGHT) }
+    ensures steps { OnOk result (AddsWalks graph.now steps.old steps.new) }
+    ensures fault { IfErr result (HasCause graph.now) }
+    ensures few { steps.new ≤ steps.old + (MAX_WEIGHT + 1) }
+    ensures fewer { (weight : ℕ) → IsWeight graph.now weight → steps.new ≤ steps.old + weight }
+{
+    // Tells that the graph is checked.
+    graph.node_count();
+    let mut begun = first_paths(alloc, graph)?;
+    let mut paths = Vec::new(alloc);
+    let mut weight = 0;
+    while let Some(path) = begun.pop() {
+        steps.tick();
+        weight += path.edges().len() as u32;
+        if weight > MAX_WEIGHT {
+            return Err(PathsFault::Heavy(MAX_WEIGHT + 1));
+        }
+        keep(alloc, graph, path, &mut begun, &mut paths)?;
+    }
+    Ok(Found { paths, weight })
+}
+
+/// Keeps the path, where it lands, and begins those of one edge more.
+fn keep(
+    alloc: Global,
+    graph: &FileGraph,
+    path: PartialPath,
+    begun: &mut Vec<PartialPath>,
+    paths: &mut Vec<PartialPath>,
+) -> Result<(), PathsFault>
+    requires walk { IsWalk graph.now path.start path.edges }
+    requires exact { IsRuleOf graph.now path }
+    requires short { IsShort MAX_WEIGHT path }
+    requires begun { AllByRecursion (IsShort (MAX_WEIGHT + 1)) begun.old.items }
+    ensures longer { OnOk result (AddsLonger graph.now path begun.old.items begun.new.items) }
+    ensures begun { OnOk result (AllByRecursion (IsShort (MAX_WEIGHT + 1)) begun.new.items) }
+    ensures kept { OnOk result (paths.new.items ≡ paths.old.items ++ if_landing graph.now path) }
+    ensures fault { OnErr result (result ≡ Err PathsFault.NoMemory) }
+{
+    let sink = last_sink(graph, &path);
+    let mut longer = onward(alloc, graph, &path, sink)?;
+    begun.append(&mut longer)?;
+    if lands(graph, sink) {
+        paths.push(path)?;
+    }
+    Ok(())
+}
+
+/// The place to which the path's last edge leads.
+fn last_sink(graph: &FileGraph, path: &PartialPath) -> Place
+    requires { IsWalk graph.now path.now.start path.now.edges }
+    ensures leads { LeadsTo graph.now path.now.edges result }
+    ensures place { IsTrue (has_place (length graph.now.nodes) result) }
+{
+    // Tells that the graph is checked.
+    graph.edge_count();
+    let edges = path.edges();
+    graph.edge(edges[edges.len() - 1].edge).sink
+}
+
+/// The paths of one edge more than this one, whose last edge leads to the sink: none behind a cut edge.
+fn onward(
+    alloc: Global,
+    graph: &FileGraph,
+    path: &PartialPath,
+    sink: Place,
+) -> Result<Vec<PartialPath>, AllocError>
+    requires walk { IsWalk graph.now path.now.start path.now.edges }
+    requires exact { IsRuleOf graph.now path.now }
+    requires short { IsShort MAX_WEIGHT path.now }
+    requires leads { LeadsTo graph.now path.now.edges sink }
+    requires place { IsTrue (has_place (length graph.now.nodes) sink) }
+    ensures longer { IfOk result (λ longer. AreLongerRules graph.now (walk_of_rule path.now) longer.items) }
+    ensures short { IfOk result (λ longer. AllByRecursion (IsShort (MAX_WEIGHT + 1)) longer.items) }
+{
+    if graph.is_cut(sink) {
+        return Ok(Vec::new(alloc));
+    }
+    longer_of(alloc, graph, path, sink)
+}
+
+/// Whether a path whose last edge leads to the place may land there: at a cut, or at a definition.
+fn lands(graph: &FileGraph, sink: Place) -> bool
+    requires { IsTrue (has_place (length graph.now.nodes) sink) }
+    ensures { result ≡ (is_cut graph.now sink || is_definition_place (alone graph.now) 0 sink) }
+{
+    graph.is_cut(sink) || is_definition(graph, sink)
+}
+
+/// Whether the place is a definition.
+fn is_definition(graph: &FileGraph, place: Place) -> bool
+    requires { IsTrue (has_place (length graph.now.nodes) place) }
+    ensures { result ≡ is_definition_place (alone graph.now) 0 place }
+{
+    match place {
+        Place::Root | Place::Jump => false,
+        Place::At(node) => is_definition_kind(&graph.node(node).kind),
+    }
+}
+
+/// Whether a node of this kind is a definition.
+fn is_definition_kind(kind: &NodeKind) -> bool
+    ensures { result ≡ is_definition_kind kind.now }
+{
+    match kind {
+        NodeKind::Pop { definition, .. } | NodeKind::PopScoped { definition, .. } => *definition,
+        _ => false,
+    }
+}

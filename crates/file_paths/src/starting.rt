@@ -1,0 +1,106 @@
+ghost use Rattle.std.specs.Prelude.{◌≡◌, ◌<◌, ◌+◌, ◌++◌, length, IfOk, IfSome, OnOk, IsTrue, true, false};
+ghost use Rattle.std.specs.List.{AllByRecursion};
+ghost use Rattle.graph_nodes.specs.Graph.{has_place, is_reference, is_reference_kind};
+ghost use Rattle.graph_nodes.specs.Checked.{is_jump};
+ghost use Rattle.graph_nodes.specs.Cut.{is_cut};
+ghost use Rattle.partial_path.specs.declared.rule.Start.TheVariants.{After};
+ghost use Rattle.path_join.specs.Units.{place_spot};
+ghost use Rattle.file_paths.specs.declared.fault.TheConstants.{MAX_WEIGHT};
+ghost use Rattle.file_paths.specs.Walking.{no_edges};
+ghost use Rattle.file_paths.specs.Finding.{IsShort, AreLongerRules, AreFirstRules, starts_below, start_if, before_node};
+
+use crate::growing::longer_of;
+use graph_nodes::{FileGraph, NodeKind, Place};
+use partial_path::PartialPath;
+use path_join::{opening, unit};
+use std::alloc::{AllocError, Global};
+
+/// The paths of one edge, from each start of the file's walks: after the root, before each reference and
+/// after each cut node. The one error is want of memory.
+pub fn first_paths(alloc: Global, graph: &FileGraph) -> Result<Vec<PartialPath>, AllocError>
+    ensures first { IfOk result (λ first. AreFirstRules graph.now (starts_below graph.now (length graph.now.nodes)) first.items) }
+    ensures short { IfOk result (λ first. AllByRecursion (IsShort (MAX_WEIGHT + 1)) first.items) }
+{
+    let mut first = units_from(alloc, graph, Place::Root)?;
+    for node in 0..graph.node_count() {
+        push_before(alloc, graph, node, &mut first)?;
+        push_after(alloc, graph, node, &mut first)?;
+    }
+    Ok(first)
+}
+
+/// Adds the paths of one edge from before the node, where it is a reference.
+fn push_before(
+    alloc: Global,
+    graph: &FileGraph,
+    node: u32,
+    first: &mut Vec<PartialPath>,
+) -> Result<(), AllocError>
+    requires node { node < length graph.now.nodes }
+    requires first { AreFirstRules graph.now (starts_below graph.now node) first.old.items }
+    requires short { AllByRecursion (IsShort (MAX_WEIGHT + 1)) first.old.items }
+    ensures first { OnOk result (AreFirstRules graph.now (starts_below graph.now node ++ start_if (is_reference graph.now.nodes node) (before_node node)) first.new.items) }
+    ensures short { OnOk result (AllByRecursion (IsShort (MAX_WEIGHT + 1)) first.new.items) }
+{
+    if !is_reference(graph, node) {
+        return Ok(());
+    }
+    let opened = opening(alloc, graph, node)?;
+    let mut longer = longer_of(alloc, graph, &opened, Place::At(node))?;
+    first.append(&mut longer)
+}
+
+/// Adds the paths of one edge from after the node, where it is a cut node.
+fn push_after(
+    alloc: Global,
+    graph: &FileGraph,
+    node: u32,
+    first: &mut Vec<PartialPath>,
+) -> Result<(), AllocError>
+    requires node { node < length graph.now.nodes }
+    requires first { AreFirstRules graph.now (starts_below graph.now node ++ start_if (is_reference graph.now.nodes node) (before_node node)) first.old.items }
+    requires short { AllByRecursion (IsShort (MAX_WEIGHT + 1)) first.old.items }
+    ensures first { OnOk result (AreFirstRules graph.now (starts_below graph.now (node + 1)) first.new.items) }
+    ensures short { OnOk result (AllByRecursion (IsShort (MAX_WEIGHT + 1)) first.new.items) }
+{
+    if !graph.is_cut(Place::At(node)) {
+        return Ok(());
+    }
+    let mut longer = units_from(alloc, graph, Place::At(node))?;
+    first.append(&mut longer)
+}
+
+/// The paths of one edge from after the cut place, by the edges that leave it.
+fn units_from(alloc: Global, graph: &FileGraph, from: Place) -> Result<Vec<PartialPath>, AllocError>
+    requires place { IsTrue (has_place (length graph.now.nodes) from) }
+    requires cut { is_cut graph.now from ≡ true }
+    requires jump { is_jump from ≡ false }
+    ensures longer { IfOk result (λ longer. IfSome (place_spot from) (λ spot. AreLongerRules graph.now (no_edges (After spot)) longer.items)) }
+    ensures short { IfOk result (λ longer. AllByRecursion (IsShort (MAX_WEIGHT + 1)) longer.items) }
+{
+    // Tells that the graph is checked.
+    graph.node_count();
+    let mut longer = Vec::new(alloc);
+    for edge in graph.edges_from(from) {
+        longer.push(unit(alloc, graph, edge)?)?;
+    }
+    Ok(longer)
+}
+
+/// Whether the node at the position is a reference.
+fn is_reference(graph: &FileGraph, node: u32) -> bool
+    requires { node < length graph.now.nodes }
+    ensures { result ≡ is_reference graph.now.nodes node }
+{
+    is_reference_kind(&graph.node(node).kind)
+}
+
+/// Whether a node of this kind is a reference.
+fn is_reference_kind(kind: &NodeKind) -> bool
+    ensures { result ≡ is_reference_kind kind.now }
+{
+    match kind {
+        NodeKind::Push { reference, .. } | NodeKind::PushScoped { reference, .. } => *reference,
+        _ => false,
+    }
+}
