@@ -1,0 +1,4 @@
+pub mod Documents
+pub mod Store
+pub mod Buckets
+pub mod Inside
