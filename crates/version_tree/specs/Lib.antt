@@ -1,0 +1,7 @@
+pub mod Contents
+pub mod Passes
+pub mod Places
+pub mod Refused
+pub mod Repeats
+pub mod Verdict
+pub mod Views

@@ -30,6 +30,13 @@ impl PathText {
         })
     }
 
+    /// The same text once more; the one error is want of memory.
+    pub fn copy(&self, alloc: Global) -> Result<PathText, AllocError>
+        ensures { IfOk result (λ path. path ≡ self.now) }
+    {
+        PathText::of(alloc, self.as_str())
+    }
+
     /// The path as text.
     pub fn as_str(&self) -> &str
         ensures value { result.now ≡ self.now }
@@ -66,6 +73,13 @@ impl UserText {
         Ok(UserText {
             text: String::from_str(alloc, text)?,
         })
+    }
+
+    /// The same text once more; the one error is want of memory.
+    pub fn copy(&self, alloc: Global) -> Result<UserText, AllocError>
+        ensures { IfOk result (λ user. user ≡ self.now) }
+    {
+        UserText::of(alloc, self.as_str())
     }
 
     /// The user as text.

@@ -1,0 +1,10 @@
+pub mod Order
+pub mod Place
+pub mod Parts
+pub mod Found
+pub mod Weights
+pub mod Faults
+pub mod Rules
+pub mod Amend
+pub mod Least
+pub mod Twice

@@ -1,0 +1,61 @@
+use crate::text::{PathText, UserText};
+use partial_path::SharedPaths;
+use std::alloc::AllocError;
+
+/// How many files a version may have.
+pub const MAX_FILES: usize = 2_048;
+
+/// How heavy the files of a version may be together.
+pub const MAX_VERSION_WEIGHT: u64 = 24_000_000;
+
+/// The number of a version that no other can follow.
+pub const MAX_NUMBER: u32 = 1_000_000_000;
+
+/// A change of a version.
+#[derive(Drop)]
+pub enum Edit {
+    /// The file is put at the path, in place of one that is there.
+    Put { path: PathText, paths: SharedPaths },
+    /// The file at the path is removed.
+    Remove { path: PathText },
+    /// The user is granted what the prefix reaches.
+    Grant { user: UserText, prefix: PathText },
+    /// The user's grant of the prefix is taken away.
+    Revoke { user: UserText, prefix: PathText },
+    /// The user is denied what the prefix reaches.
+    Deny { user: UserText, prefix: PathText },
+    /// The user's deny of the prefix is taken away.
+    Undeny { user: UserText, prefix: PathText },
+}
+
+/// Why edits are refused, in the order in which the refusals are looked for.
+#[derive(Drop)]
+pub enum EditFault {
+    /// Two puts or removes name this path, the least such one.
+    Twice(PathText),
+    /// The first remove of a path that no row has.
+    Absent(PathText),
+    /// The first revoke of a grant that isn't there at that point.
+    GrantAbsent(UserText, PathText),
+    /// The first undeny of a deny that isn't there at that point.
+    DenyAbsent(UserText, PathText),
+    /// There would be more than `MAX_FILES` files: this many.
+    TooManyFiles(u64),
+    /// The files would be heavier together than `MAX_VERSION_WEIGHT`: this heavy.
+    TooHeavy(u64),
+    /// The version's number leaves none for the next.
+    Spent,
+    /// Memory was wanting.
+    NoMemory,
+}
+
+impl From<AllocError> for EditFault {
+    ghost use Rattle.std.specs.Prelude.{◌≡◌};
+    ghost use Rattle.version_tree.specs.declared.edit.EditFault.TheVariants.{NoMemory};
+
+    ghost from_gives = { λ _ e. e ≡ NoMemory };
+
+    fn from(_e: AllocError) -> EditFault {
+        EditFault::NoMemory
+    }
+}

@@ -1,0 +1,143 @@
+use crate::row_handle::RowHandle;
+use grants::Grants;
+use std::alloc::{AllocError, Global};
+use std::marker::Model;
+
+/// Rows in the order of their paths. A contract sees them as a list.
+#[derive(Drop)]
+pub(crate) struct SortedRows {
+    rows: Vec<RowHandle>,
+}
+
+impl Model for SortedRows {
+    ghost use Rattle.std.specs.Prelude.{List};
+    ghost use Rattle.version_tree.specs.Contents.{FileRow, IsInOrder};
+
+    ghost Value = { List FileRow };
+
+    ghost view = { λ s. s.rows.items };
+
+    ghost invariant = { λ s. IsInOrder s.rows.items };
+}
+
+impl SortedRows {
+    ghost use Rattle.std.specs.Prelude.{◌≡◌, ◌<◌, ◌+◌, ◌++◌, [], length, slice_get, Some, IfOk, IfErr, OnOk, OnErr};
+    ghost use Rattle.version_tree.specs.Contents.{FileRow, IsInOrder, has_path, with_row, without_row, covered};
+    ghost use Rattle.version_tree.specs.Verdict.{weight_of};
+    ghost use Rattle.partial_path.specs.PathSets.{FileRules};
+    ghost use Rattle.version_tree.specs.Places.{beside, IsAt, IsGapFor};
+
+    /// No rows. It takes no memory.
+    pub(crate) fn new(alloc: Global) -> SortedRows
+        ensures { result ≡ [] }
+    {
+        SortedRows {
+            rows: Vec::new(alloc),
+        }
+    }
+
+    /// These rows.
+    pub(crate) fn of(rows: Vec<RowHandle>) -> SortedRows
+        requires { IsInOrder rows.items }
+        ensures { result ≡ rows.items }
+    {
+        SortedRows { rows }
+    }
+
+    /// How many rows there are.
+    pub(crate) fn len(&self) -> usize
+        ensures count { result ≡ length self.now }
+        ensures order { IsInOrder self.now }
+    {
+        self.rows.len()
+    }
+
+    /// The row at that place.
+    pub(crate) fn row(&self, i: usize) -> &RowHandle
+        requires { i < length self.now }
+        ensures { slice_get self.now i ≡ Some result.now }
+    {
+        &self.rows[i]
+    }
+
+    /// Where the row with the path is, or where it would go, by halving.
+    pub(crate) fn find(&self, path: &str) -> Result<usize, usize>
+        ensures found { IfOk result (IsAt (beside path.now) self.now) }
+        ensures absent { IfErr result (IsGapFor (beside path.now) self.now) }
+        ensures order { IsInOrder self.now }
+    {
+        self.rows.binary_search_by(|row| row.order(path))
+    }
+
+    /// Whether a row has the path, by halving.
+    pub(crate) fn has(&self, path: &str) -> bool
+        ensures { result ≡ has_path path.now self.now }
+    {
+        self.find(path).is_ok()
+    }
+
+    /// Puts the row in, in place of one with its path. The one error is want of memory, and then
+    /// nothing has changed.
+    pub(crate) fn put(&mut self, row: RowHandle) -> Result<(), AllocError>
+        ensures ok { OnOk result (self.new ≡ with_row row.path row.file self.old) }
+        ensures err { OnErr result (self.new ≡ self.old) }
+    {
+        match self.find(row.path()) {
+            Ok(i) => {
+                self.rows[i] = row;
+                Ok(())
+            }
+            Err(i) => Ok(self.rows.insert(i, row)?),
+        }
+    }
+
+    /// Takes the row with the path out, where there is one.
+    pub(crate) fn remove(&mut self, path: &str)
+        ensures { self.new ≡ without_row path.now self.old }
+    {
+        if let Ok(i) = self.find(path) {
+            self.rows.remove(i);
+        }
+    }
+
+    /// The weight of the row with the path, 0 where there is none.
+    pub(crate) fn weight_at(&self, path: &str) -> u64
+        ensures without { result + weight_of (without_row path.now self.now) ≡ weight_of self.now }
+        ensures with { (file : FileRules) → result + weight_of (with_row path.now file self.now) ≡ weight_of self.now + file.weight }
+    {
+        match self.find(path) {
+            Ok(i) => u64::from(self.rows[i].weight()),
+            Err(_) => 0,
+        }
+    }
+
+    /// Adds those of the rows that the user may see, in their order. The one error is want of
+    /// memory.
+    pub(crate) fn grant(
+        &self,
+        grants: &Grants,
+        user: &str,
+        kept: &mut Vec<RowHandle>,
+    ) -> Result<(), AllocError>
+        ensures rows { OnOk result (kept.new.items ≡ kept.old.items ++ covered grants.now user.now self.now) }
+        ensures order { IsInOrder self.now }
+    {
+        for row in &self.rows {
+            if grants.covers(user, row.path()) {
+                kept.push(row.share()?)?;
+            }
+        }
+        Ok(())
+    }
+
+    /// The same rows once more, not copied. The one error is want of memory.
+    pub(crate) fn share(&self, alloc: Global) -> Result<SortedRows, AllocError>
+        ensures { IfOk result (λ rows. rows ≡ self.now) }
+    {
+        let mut rows = Vec::new(alloc);
+        for row in &self.rows {
+            rows.push(row.share()?)?;
+        }
+        Ok(SortedRows { rows })
+    }
+}
