@@ -1,3 +1,10 @@
 pub mod Faults
 pub mod Rows
 pub mod Replies
+pub mod Texts
+pub mod Members
+pub mod Answers
+pub mod Edits
+pub mod Requests
+pub mod Bounded
+pub mod Forms

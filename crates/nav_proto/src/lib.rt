@@ -1,14 +1,29 @@
-//! Replies and their texts: each reply is one line of compact JSON.
+//! The lines of a session: which request a line is, and which text a reply has.
 #![tactic(auto)]
 
+mod edits;
 mod faults;
+mod fields;
+mod forms;
+mod members;
+mod pieces;
 mod print;
+mod proto_fault;
+#[cfg(test)]
+mod read_tests;
+mod reading;
 mod reply;
+mod request;
 mod rows;
 #[cfg(test)]
 mod tests;
 mod text;
+mod words;
 
+pub use partial_path::Bounds;
 pub use print::print_reply;
+pub use proto_fault::ProtoFault;
+pub use reading::read_request;
 pub use reply::{FileError, PlainError, Reply, ShapePart};
-pub use text::ReplyText;
+pub use request::{Edits, FileEdit, Point, Request};
+pub use text::{DocText, ReplyText};

@@ -1,0 +1,91 @@
+ghost use Rattle.std.specs.Prelude.{◌≡◌, ◌≤◌, IfOk, None, Some, option_map, codes};
+ghost use Rattle.serde_json.specs.View.{view};
+ghost use Rattle.nav_proto.specs.Answers.{Gives};
+ghost use Rattle.nav_proto.specs.Members.{field, optional_field};
+ghost use Rattle.nav_proto.specs.Texts.{text_of, is_path, is_prefix, is_user, u32_of, number_of};
+
+use crate::ProtoFault;
+use crate::pieces::{is_path, is_prefix, is_user, number, wrong};
+use serde_json::Value;
+use std::alloc::Global;
+use version_tree::{PathText, UserText};
+
+/// The member `user`.
+#[tactic(auto, using(crate::proofs::Named::named))]
+pub(crate) fn user_field(alloc: Global, v: &Value) -> Result<UserText, ProtoFault>
+    ensures { Gives result (field (codes "user") (text_of is_user) (view v.now)) }
+{
+    match v.get("user").and_then(Value::as_str) {
+        Some(text) if is_user(text) => Ok(UserText::of(alloc, text)?),
+        _ => Err(wrong(alloc, "user")),
+    }
+}
+
+/// The member `prefix`.
+#[tactic(auto, using(crate::proofs::Named::named))]
+pub(crate) fn prefix_field(alloc: Global, v: &Value) -> Result<PathText, ProtoFault>
+    ensures { Gives result (field (codes "prefix") (text_of is_prefix) (view v.now)) }
+{
+    match v.get("prefix").and_then(Value::as_str) {
+        Some(text) if is_prefix(text) => Ok(PathText::of(alloc, text)?),
+        _ => Err(wrong(alloc, "prefix")),
+    }
+}
+
+/// The member `path`.
+#[tactic(auto, using(crate::proofs::Named::named))]
+pub(crate) fn path_field(alloc: Global, v: &Value) -> Result<PathText, ProtoFault>
+    ensures { Gives result (field (codes "path") (text_of is_path) (view v.now)) }
+{
+    match v.get("path").and_then(Value::as_str) {
+        Some(text) if is_path(text) => Ok(PathText::of(alloc, text)?),
+        _ => Err(wrong(alloc, "path")),
+    }
+}
+
+/// The number that is the member of this name.
+#[tactic(auto, using(crate::proofs::Named::named))]
+pub(crate) fn number_field(alloc: Global, v: &Value, name: &str) -> Result<u32, ProtoFault>
+    ensures { Gives result (field name.now u32_of (view v.now)) }
+{
+    match v.get(name).and_then(|found| number(found, 0, u32::MAX)) {
+        Some(n) => Ok(n),
+        None => Err(wrong(alloc, name)),
+    }
+}
+
+/// The number from 1 to `most` that is the member of this name, where absent the default.
+#[tactic(auto, using(crate::proofs::Named::named))]
+pub(crate) fn bound_field(
+    alloc: Global,
+    v: &Value,
+    name: &str,
+    most: u32,
+    default: u32,
+) -> Result<u32, ProtoFault>
+    requires { (1 ≤ default) × (default ≤ most) }
+    ensures gives { Gives result (optional_field name.now (number_of 1 most) default (view v.now)) }
+    ensures bounded { IfOk result (λ n. (1 ≤ n) × (n ≤ most)) }
+{
+    let Some(found) = v.get(name) else {
+        return Ok(default);
+    };
+    match number(found, 1, most) {
+        Some(bound) => Ok(bound),
+        None => Err(wrong(alloc, name)),
+    }
+}
+
+/// The member `base`, which may be absent.
+#[tactic(auto, using(crate::proofs::Named::named))]
+pub(crate) fn base_field(alloc: Global, v: &Value) -> Result<Option<u32>, ProtoFault>
+    ensures { Gives result (optional_field (codes "base") (λ d. option_map Some (u32_of d)) None (view v.now)) }
+{
+    let Some(found) = v.get("base") else {
+        return Ok(None);
+    };
+    match number(found, 0, u32::MAX) {
+        Some(base) => Ok(Some(base)),
+        None => Err(wrong(alloc, "base")),
+    }
+}

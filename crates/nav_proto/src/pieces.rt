@@ -1,0 +1,76 @@
+ghost use Rattle.std.specs.Prelude.{◌≡◌, ◌≤◌, nat_le, IfSome};
+ghost use Rattle.std.specs.List.{list_all, slice_split};
+ghost use Rattle.serde_json.specs.View.{view};
+ghost use Rattle.nav_proto.specs.Answers.{Names};
+ghost use Rattle.nav_proto.specs.Texts.{has_bytes, is_slash, is_part, is_path, is_prefix, is_user, number_of};
+
+use crate::{ProtoFault, ReplyText};
+use serde_json::Value;
+use std::alloc::Global;
+
+/// The fault that names this field, or want of memory.
+pub(crate) fn wrong(alloc: Global, name: &str) -> ProtoFault
+    ensures { Names name.now result }
+{
+    match ReplyText::of(alloc, name) {
+        Ok(field) => ProtoFault::BadRequest(field),
+        Err(_) => ProtoFault::NoMemory,
+    }
+}
+
+fn has_bytes(text: &str, most: usize) -> bool
+    ensures { result ≡ has_bytes most text.now }
+{
+    1 <= text.len() && text.len() <= most
+}
+
+fn is_part(part: &[u8]) -> bool
+    ensures { result ≡ is_part part.now }
+{
+    !(part.is_empty() || part == b".".as_slice() || part == b"..".as_slice())
+}
+
+fn has_parts(text: &[u8]) -> bool
+    ensures { result ≡ list_all is_part (slice_split is_slash text.now) }
+{
+    text.split(|byte| *byte == b'/').all(|part| is_part(part))
+}
+
+fn has_no_control(text: &[u8]) -> bool
+    ensures { result ≡ list_all (nat_le 32) text.now }
+{
+    text.iter().all(|byte| 32 <= *byte)
+}
+
+/// Whether the text is a path.
+#[tactic(auto, unfolding(crate::specs::Texts::is_path))]
+pub(crate) fn is_path(text: &str) -> bool
+    ensures { result ≡ is_path text.now }
+{
+    has_bytes(text, 512) && has_no_control(text.as_bytes()) && has_parts(text.as_bytes())
+}
+
+/// Whether the text is a path or empty.
+pub(crate) fn is_prefix(text: &str) -> bool
+    ensures { result ≡ is_prefix text.now }
+{
+    text == "" || is_path(text)
+}
+
+/// Whether the text is a user's.
+pub(crate) fn is_user(text: &str) -> bool
+    ensures { result ≡ is_user text.now }
+{
+    has_bytes(text, 256)
+}
+
+/// The value as a whole number between these two.
+pub(crate) fn number(v: &Value, low: u32, high: u32) -> Option<u32>
+    ensures is { result ≡ number_of low high (view v.now) }
+    ensures within { IfSome result (λ n. (low ≤ n) × (n ≤ high)) }
+{
+    match v.as_u64() {
+        Some(n) if low as u64 <= n && n <= high as u64 => Some(n as u32),
+        _ => None,
+    }
+}
