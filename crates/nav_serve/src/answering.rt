@@ -26,12 +26,14 @@ pub const ONCE_PATH: &str = "once.sg.json";
 /// accepted.
 ///
 /// Status 0: the reply was written. 3: the source failed, and nothing was written. 4: the sink failed.
-/// 5: memory was refused. 6: a line that has to be read is longer than a line may be.
+/// 5: memory was refused. 6: a line that has to be read is longer than a line may be, and nothing was
+/// written.
 pub fn once<S: Source, K: Sink>(alloc: Global, source: &mut S, sink: &mut K) -> u8
     ensures answered { result ≡ 0
         → WritesOutput command.Once (S.left source.old) (K.held sink.old) (K.held sink.new) }
     ensures begun { WritesBeginning command.Once (S.left source.old) (K.held sink.old) (K.held sink.new) }
     ensures silent { result ≡ 3 → K.held sink.new ≡ K.held sink.old }
+    ensures silent_long { result ≡ 6 → K.held sink.new ≡ K.held sink.old }
     ensures short { result ≡ 3 → StopsShort command.Once (S.left source.old) (S.left source.new) }
     ensures long { result ≡ 6 → IfSome (S.left source.old) (HasLongLine command.Once) }
     ensures not_long { result ≡ 0 → IfSome (S.left source.old) (λ input. ¬ HasLongLine command.Once input) }

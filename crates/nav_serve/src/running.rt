@@ -38,6 +38,7 @@ pub fn run<R, S: Source, K: Sink, H: House, L: Ledger>(
     ensures begun { IfSome (command_of (texts words.now))
         (λ command. WritesBeginning command (S.left source.old) (K.held sink.old) (K.held sink.new)) }
     ensures silent { result ≡ 3 → K.held sink.new ≡ K.held sink.old }
+    ensures silent_long { result ≡ 6 → K.held sink.new ≡ K.held sink.old }
     ensures short { result ≡ 3 → IfSome (command_of (texts words.now))
         (λ command. StopsShort command (S.left source.old) (S.left source.new)) }
     ensures long { result ≡ 6 → IfSome (command_of (texts words.now))

@@ -1,4 +1,7 @@
 //! What no clause says: that the commands answer with memory at hand, on inputs worked by hand.
+mod graphs;
+mod python;
+
 use crate::words::{Command, command_of};
 use crate::{once, upgrade};
 use nav_io::{MemSink, MemSource};
@@ -8,8 +11,8 @@ use std::test::Fail;
 /// A call of a source or a sink that never fails.
 const NEVER: u32 = 9_999;
 
-/// The status of a command on this input and what was written, where the source gives at most `piece`
-/// bytes at a read and fails its call `read`, and the sink likewise takes bytes and fails its call `write`.
+/// How a source and a sink behave: the source gives at most `piece` bytes at a read and fails its call
+/// `read`, and the sink takes at most `taken` bytes at a write and fails its call `write`.
 #[derive(Drop)]
 struct Outside {
     piece: u32,
@@ -18,6 +21,7 @@ struct Outside {
     write: u32,
 }
 
+/// The status of a command on this input, and what was written.
 fn served(
     alloc: Global,
     command: Command,

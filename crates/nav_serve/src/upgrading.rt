@@ -22,12 +22,13 @@ pub const UPGRADE_PATH: &str = "upgrade.sg.json";
 /// `bad_file` and its first fault. What follows the line is ignored.
 ///
 /// Status 0: the text or the reply was written. 3: the source failed, and nothing was written. 4: the
-/// sink failed. 5: memory was refused. 6: the line is longer than a line may be.
+/// sink failed. 5: memory was refused. 6: the line is longer than a line may be, and nothing was written.
 pub fn upgrade<S: Source, K: Sink>(alloc: Global, source: &mut S, sink: &mut K) -> u8
     ensures answered { result ≡ 0
         → WritesOutput command.Upgrade (S.left source.old) (K.held sink.old) (K.held sink.new) }
     ensures begun { WritesBeginning command.Upgrade (S.left source.old) (K.held sink.old) (K.held sink.new) }
     ensures silent { result ≡ 3 → K.held sink.new ≡ K.held sink.old }
+    ensures silent_long { result ≡ 6 → K.held sink.new ≡ K.held sink.old }
     ensures short { result ≡ 3 → StopsShort command.Upgrade (S.left source.old) (S.left source.new) }
     ensures long { result ≡ 6 → IfSome (S.left source.old) (HasLongLine command.Upgrade) }
     ensures not_long { result ≡ 0 → IfSome (S.left source.old) (λ input. ¬ HasLongLine command.Upgrade input) }
