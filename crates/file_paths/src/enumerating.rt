@@ -1,6 +1,6 @@
 ghost use Rattle.std.specs.Prelude.{◌≡◌, ◌≤◌, ◌<◌, ◌+◌, ◌||◌, length, ◌++◌, IfOk, IfErr, OnOk, OnErr, Err, IsTrue, ℕ};
 ghost use Rattle.std.specs.List.{AllByRecursion};
-ghost use Rattle.graph_nodes.specs.Graph.{has_place, is_definition_kind};
+ghost use Rattle.graph_nodes.specs.Graph.{has_place};
 ghost use Rattle.graph_nodes.specs.Cut.{is_cut};
 ghost use Rattle.partial_path.specs.Walks.{alone, is_definition_place, ends_landing, IsWalk, IsWeight, IsHeavier};
 ghost use Rattle.partial_path.specs.PathSets.{IsRuleOf, IsPathSet, AreFileRules, walk_of_rule};
@@ -11,7 +11,7 @@ ghost use Rattle.file_paths.specs.Finds.{AddsWalks, HasCause};
 use crate::fault::{MAX_WEIGHT, PathsFault};
 use crate::growing::longer_of;
 use crate::starting::first_paths;
-use graph_nodes::{FileGraph, NodeKind, Place, Steps};
+use graph_nodes::{FileGraph, Place, Steps};
 use partial_path::{FilePaths, PartialPath};
 use std::alloc::{AllocError, Global};
 use std::sync::ledger::Ledger;
@@ -155,16 +155,6 @@ fn is_definition(graph: &FileGraph, place: Place) -> bool
 {
     match place {
         Place::Root | Place::Jump => false,
-        Place::At(node) => is_definition_kind(&graph.node(node).kind),
-    }
-}
-
-/// Whether a node of this kind is a definition.
-fn is_definition_kind(kind: &NodeKind) -> bool
-    ensures { result ≡ is_definition_kind kind.now }
-{
-    match kind {
-        NodeKind::Pop { definition, .. } | NodeKind::PopScoped { definition, .. } => *definition,
-        _ => false,
+        Place::At(node) => graph.node(node).kind.is_definition(),
     }
 }

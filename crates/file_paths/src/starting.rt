@@ -1,6 +1,6 @@
 ghost use Rattle.std.specs.Prelude.{◌≡◌, ◌<◌, ◌+◌, ◌++◌, length, IfOk, IfSome, OnOk, IsTrue, true, false};
 ghost use Rattle.std.specs.List.{AllByRecursion};
-ghost use Rattle.graph_nodes.specs.Graph.{has_place, is_reference, is_reference_kind};
+ghost use Rattle.graph_nodes.specs.Graph.{has_place, is_reference};
 ghost use Rattle.graph_nodes.specs.Checked.{is_jump};
 ghost use Rattle.graph_nodes.specs.Cut.{is_cut};
 ghost use Rattle.partial_path.specs.declared.rule.Start.TheVariants.{After};
@@ -10,7 +10,7 @@ ghost use Rattle.file_paths.specs.Walking.{no_edges};
 ghost use Rattle.file_paths.specs.Finding.{IsShort, AreLongerRules, AreFirstRules, starts_below, start_if, before_node};
 
 use crate::growing::longer_of;
-use graph_nodes::{FileGraph, NodeKind, Place};
+use graph_nodes::{FileGraph, Place};
 use partial_path::PartialPath;
 use path_join::{opening, unit};
 use std::alloc::{AllocError, Global};
@@ -92,15 +92,5 @@ fn is_reference(graph: &FileGraph, node: u32) -> bool
     requires { node < length graph.now.nodes }
     ensures { result ≡ is_reference graph.now.nodes node }
 {
-    is_reference_kind(&graph.node(node).kind)
-}
-
-/// Whether a node of this kind is a reference.
-fn is_reference_kind(kind: &NodeKind) -> bool
-    ensures { result ≡ is_reference_kind kind.now }
-{
-    match kind {
-        NodeKind::Push { reference, .. } | NodeKind::PushScoped { reference, .. } => *reference,
-        _ => false,
-    }
+    graph.node(node).kind.is_reference()
 }

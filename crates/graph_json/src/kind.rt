@@ -1,6 +1,6 @@
 ghost use Rattle.std.specs.Prelude.{◌≡◌, codes};
 ghost use Rattle.std.specs.Option.{option_copied};
-ghost use Rattle.graph_nodes.specs.Graph.{is_exported_kind, is_reference_kind, is_definition_kind};
+ghost use Rattle.graph_nodes.specs.Graph.{is_exported_kind};
 ghost use Rattle.graph_json.specs.Printed.{kind_text, symbol_of};
 
 use graph_nodes::NodeKind;
@@ -16,24 +16,6 @@ pub(crate) fn word(kind: &NodeKind) -> &'static str
         NodeKind::Pop { .. } => "pop",
         NodeKind::PopScoped { .. } => "pop_scoped",
         NodeKind::Drops => "drop",
-    }
-}
-
-pub(crate) fn is_definition(kind: &NodeKind) -> bool
-    ensures { result ≡ is_definition_kind kind.now }
-{
-    match kind {
-        NodeKind::Pop { definition, .. } | NodeKind::PopScoped { definition, .. } => *definition,
-        _ => false,
-    }
-}
-
-pub(crate) fn is_reference(kind: &NodeKind) -> bool
-    ensures { result ≡ is_reference_kind kind.now }
-{
-    match kind {
-        NodeKind::Push { reference, .. } | NodeKind::PushScoped { reference, .. } => *reference,
-        _ => false,
     }
 }
 

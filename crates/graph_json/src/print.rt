@@ -3,12 +3,11 @@ ghost use Rattle.std.specs.Option.{option_copied};
 ghost use Rattle.json.specs.Json as json;
 ghost use Rattle.json.specs.Token as token;
 ghost use Rattle.json.specs.Tree.{json_tokens, items_tokens};
-ghost use Rattle.graph_nodes.specs.Graph.{is_exported_kind, is_reference_kind, is_definition_kind};
 ghost use Rattle.graph_json.specs.Pieces.{only_if};
 ghost use Rattle.graph_json.specs.Printed.{number_json, name_text, position_json, place_json, span_json, kind_text, symbol_of, scope_of, node_json, nodes_json, edge_json, edges_json, graph_json};
 ghost use Rattle.graph_json.specs.PrintSteps.{Adds, SpanFits, NodeFits, PlaceFits, EdgeFits, front_tokens, flag_tokens, value_tokens};
 
-use crate::kind::{is_definition, is_exported, is_reference, symbol, word};
+use crate::kind::{is_exported, symbol, word};
 use graph_nodes::{Edge, Node, NodeKind, Place, Span};
 use json::Writer;
 use std::alloc::{AllocError, Global};
@@ -132,7 +131,7 @@ fn put_front(
 ) -> Result<(), AllocError>
     ensures { Adds result out.old out.new (front_tokens named n kind.now) }
 {
-    put_flag(out, "definition", is_definition(kind))?;
+    put_flag(out, "definition", kind.is_definition())?;
     put_flag(out, "exported", is_exported(kind))?;
     out.key("kind")?;
     out.string(word(kind))?;
@@ -153,7 +152,7 @@ pub(crate) fn put_node(
 {
     out.begin_object()?;
     put_front(alloc, out, named, n, &node.kind)?;
-    put_flag(out, "reference", is_reference(&node.kind))?;
+    put_flag(out, "reference", node.kind.is_reference())?;
     put_scope(alloc, out, named, &node.kind)?;
     put_optional_span(out, &node.span)?;
     put_symbol(out, &node.kind)?;

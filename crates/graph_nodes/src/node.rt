@@ -99,6 +99,31 @@ pub enum NodeKind {
     Drops,
 }
 
+impl NodeKind {
+    ghost use Rattle.std.specs.Prelude.{◌≡◌};
+    ghost use Rattle.graph_nodes.specs.Graph.{is_reference_kind, is_definition_kind};
+
+    /// Whether a node of this kind is a reference, where a search may start.
+    pub fn is_reference(&self) -> bool
+        ensures { result ≡ is_reference_kind self.now }
+    {
+        match self {
+            NodeKind::Push { reference, .. } | NodeKind::PushScoped { reference, .. } => *reference,
+            _ => false,
+        }
+    }
+
+    /// Whether a node of this kind is a definition, which a search may find.
+    pub fn is_definition(&self) -> bool
+        ensures { result ≡ is_definition_kind self.now }
+    {
+        match self {
+            NodeKind::Pop { definition, .. } | NodeKind::PopScoped { definition, .. } => *definition,
+            _ => false,
+        }
+    }
+}
+
 /// A node of a file's graph, with the part of the file that it stands for where it has one.
 #[derive(Debug, Drop)]
 pub struct Node {

@@ -1,5 +1,4 @@
 use crate::path::PartialPath;
-use crate::places::is_definition;
 use crate::rule::Start;
 use graph_nodes::{FileGraph, Node, Place};
 use std::marker::Model;
@@ -108,7 +107,7 @@ impl FilePaths {
         requires { n < length self.now.graph.nodes }
         ensures { result ≡ is_definition self.now.graph.nodes n }
     {
-        is_definition(&self.graph.node(n).kind)
+        self.graph.node(n).kind.is_definition()
     }
 
     /// The precedence of the edge at the position. It takes constant time.

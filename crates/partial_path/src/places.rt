@@ -1,11 +1,10 @@
 ghost use Rattle.std.specs.Prelude.{◌≡◌, ◌↔◌, ◌&&◌, nat_eq, length, IsTrue, option_copied};
-ghost use Rattle.graph_nodes.specs.Graph.{is_reference_kind, is_definition_kind};
 ghost use Rattle.graph_nodes.specs.Whole.{node_of, edge_of, is_definition_of};
 ghost use Rattle.partial_path.specs.Spots.{is_definition_spot};
 ghost use Rattle.partial_path.specs.Runs.{IsAtDefinition};
 
 use crate::config::{Config, EdgeAt, Spot};
-use graph_nodes::{Edge, FileGraph, Node, NodeKind};
+use graph_nodes::{Edge, FileGraph, Node};
 use stacks_vars::NodeAt;
 
 /// The node of the files; None where there is none.
@@ -32,26 +31,6 @@ pub fn edge_at(files: &[FileGraph], at: EdgeAt) -> Option<&Edge>
     }
 }
 
-/// Whether a node of this kind is a reference.
-pub(crate) fn is_reference(kind: &NodeKind) -> bool
-    ensures { result ≡ is_reference_kind kind.now }
-{
-    match kind {
-        NodeKind::Push { reference, .. } | NodeKind::PushScoped { reference, .. } => *reference,
-        _ => false,
-    }
-}
-
-/// Whether a node of this kind is a definition.
-pub(crate) fn is_definition(kind: &NodeKind) -> bool
-    ensures { result ≡ is_definition_kind kind.now }
-{
-    match kind {
-        NodeKind::Pop { definition, .. } | NodeKind::PopScoped { definition, .. } => *definition,
-        _ => false,
-    }
-}
-
 /// Whether the spot is a definition of the files.
 pub fn is_definition_spot(files: &[FileGraph], spot: Spot) -> bool
     ensures { result ≡ is_definition_spot files.now spot }
@@ -60,7 +39,7 @@ pub fn is_definition_spot(files: &[FileGraph], spot: Spot) -> bool
         return false;
     };
     match node_at(files, at) {
-        Some(node) => is_definition(&node.kind),
+        Some(node) => node.kind.is_definition(),
         None => false,
     }
 }

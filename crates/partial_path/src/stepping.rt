@@ -5,7 +5,7 @@ ghost use Rattle.partial_path.specs.Spots.{at_node};
 ghost use Rattle.partial_path.specs.Step.{action_of, enter_jump, enter_place, stands_at, follow, step, is_cut_edge, start};
 
 use crate::config::{Config, EdgeAt, Spot};
-use crate::places::{edge_at, is_reference, node_at};
+use crate::places::{edge_at, node_at};
 use graph_nodes::{Edge, FileGraph, NodeKind, Place};
 use stacks_vars::{NodeAt, Stacks, drop_scopes, jump, pop, pop_scoped, push, push_scoped};
 use std::alloc::{AllocError, Global};
@@ -35,7 +35,7 @@ pub fn start(alloc: Global, files: &[FileGraph], at: NodeAt) -> Result<Option<Co
     let Some(node) = node_at(files, at) else {
         return Ok(None);
     };
-    if !is_reference(&node.kind) {
+    if !node.kind.is_reference() {
         return Ok(None);
     }
     let entered = enter_node(alloc, at.file, &node.kind, Stacks::new(alloc))?;

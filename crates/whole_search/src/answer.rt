@@ -1,6 +1,6 @@
 ghost use Rattle.std.specs.Prelude.{◌≡◌, ◌<◌, ◌^◌, ◌↔◌, length, All, IsTrue, IsSomeAnd, IfOk, OnOk};
 ghost use Rattle.graph_nodes.specs.Checked.{IsChecked};
-ghost use Rattle.graph_nodes.specs.Graph.{is_reference, is_reference_kind};
+ghost use Rattle.graph_nodes.specs.Graph.{is_reference};
 ghost use Rattle.graph_nodes.specs.Whole.{is_reference_of};
 ghost use Rattle.partial_path.specs.Spots.{node_at};
 ghost use Rattle.partial_path.specs.Step.{start};
@@ -12,7 +12,7 @@ use crate::leads::Leads;
 use crate::query::Query;
 use crate::rows::rows_of;
 use crate::walk::walk;
-use graph_nodes::{FileGraph, Node, NodeKind};
+use graph_nodes::{FileGraph, Node};
 use partial_path::{Bounds, Config, start};
 use stacks_vars::NodeAt;
 use std::alloc::Global;
@@ -92,17 +92,8 @@ fn is_reference_at(nodes: &[Node], n: usize) -> bool
     ensures { result ≡ is_reference nodes.now n }
 {
     match nodes.get(n) {
-        Some(node) => is_reference_kind(&node.kind),
+        Some(node) => node.kind.is_reference(),
         None => false,
-    }
-}
-
-fn is_reference_kind(kind: &NodeKind) -> bool
-    ensures { result ≡ is_reference_kind kind.now }
-{
-    match kind {
-        NodeKind::Push { reference, .. } | NodeKind::PushScoped { reference, .. } => *reference,
-        _ => false,
     }
 }
 

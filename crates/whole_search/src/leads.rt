@@ -1,10 +1,10 @@
 ghost use Rattle.std.specs.Prelude.{◌≡◌, ℕ, ◌<◌, length, IfOk, IsTrue};
 ghost use Rattle.std.specs.List.{list_any};
-ghost use Rattle.graph_nodes.specs.Graph.{has_place, is_definition_kind};
+ghost use Rattle.graph_nodes.specs.Graph.{has_place};
 ghost use Rattle.graph_nodes.specs.Out.{edges_from};
 ghost use Rattle.whole_search.specs.Leads.{is_landing, mark_at, leads_on, leads_by, AreMarks};
 
-use graph_nodes::{FileGraph, NodeKind, Place};
+use graph_nodes::{FileGraph, Place};
 use partial_path::Spot;
 use std::alloc::{AllocError, Global};
 use std::marker::Model;
@@ -112,17 +112,7 @@ fn is_landing(graph: &FileGraph, n: u32) -> bool
     requires { n < length graph.now.nodes }
     ensures { result ≡ is_landing graph.now (Place.At n) }
 {
-    graph.is_cut(Place::At(n)) || is_definition(&graph.node(n).kind)
-}
-
-/// Whether a node of this kind is a definition.
-fn is_definition(kind: &NodeKind) -> bool
-    ensures { result ≡ is_definition_kind kind.now }
-{
-    match kind {
-        NodeKind::Pop { definition, .. } | NodeKind::PopScoped { definition, .. } => *definition,
-        _ => false,
-    }
+    graph.is_cut(Place::At(n)) || graph.node(n).kind.is_definition()
 }
 
 /// The mark at the position; true past the last one.
