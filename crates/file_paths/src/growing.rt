@@ -53,14 +53,7 @@ fn one_more(
     ensures short { IfOk result (λ found. IfSome found (IsShort (MAX_WEIGHT + 1))) }
 {
     let step = unit(alloc, graph, edge)?;
-    is_rule(path);
-    is_rule(&step);
+    // Each start tells that its path is a rule.
+    let _ = (path.start(), step.start());
     join(alloc, path, &step)
-}
-
-/// What a path is seen as is a rule.
-fn is_rule(path: &PartialPath)
-    ensures { IsRule path.now }
-{
-    let _ = path.start();
 }

@@ -82,35 +82,40 @@ impl PartialPath {
 
     /// Where the path ends.
     pub fn end(&self) -> End
-        ensures { result ≡ self.now.end }
+        ensures value { result ≡ self.now.end }
+        ensures rule { IsRule self.now }
     {
         self.end
     }
 
     /// What the path asks of the stacks.
     pub fn pre(&self) -> &Pre
-        ensures { result.now ≡ self.now.pre }
+        ensures value { result.now ≡ self.now.pre }
+        ensures rule { IsRule self.now }
     {
         &self.pre
     }
 
     /// What the path makes of the stacks.
     pub fn post(&self) -> &Post
-        ensures { result.now ≡ self.now.post }
+        ensures value { result.now ≡ self.now.post }
+        ensures rule { IsRule self.now }
     {
         &self.post
     }
 
     /// The greatest number of symbols on the way, less those that the path leaves as they are.
     pub fn peak(&self) -> u32
-        ensures { result ≡ self.now.peak }
+        ensures value { result ≡ self.now.peak }
+        ensures rule { IsRule self.now }
     {
         self.peak
     }
 
     /// The edges that the path stands for, the first first.
     pub fn edges(&self) -> &[EdgeAt]
-        ensures { result.now ≡ self.now.edges }
+        ensures value { result.now ≡ self.now.edges }
+        ensures rule { IsRule self.now }
     {
         self.edges.items()
     }

@@ -25,16 +25,9 @@ pub fn join(
     ensures joined { IfOk result (λ found. IfSome found (IsJoin p.now q.now)) }
     ensures none { IfOk result (λ found. found ≡ None → NonePasses p.now q.now) }
 {
-    is_rule(p);
-    is_rule(q);
+    // Each start tells that its path is a rule.
+    let _ = (p.start(), q.start());
     join_as_defined(alloc, p, q)
-}
-
-/// What a path is seen as is a rule.
-fn is_rule(path: &PartialPath)
-    ensures { IsRule path.now }
-{
-    let _ = path.start();
 }
 
 /// The join by its definition.

@@ -17,7 +17,7 @@ overflow_cast-weight g c =
     omega (
       arith,
       short_fits (MAX_WEIGHT + 1) c.in-Some.path.edges c.edges.result.now
-          (short_last (MAX_WEIGHT + 1) c.loop-path.begun.items c.pop.new.self.items c.in-Some.path c.in-Some.ensures.items c.loop-path.invariant.short).1.edges c.edges.ensures,
+          (short_last (MAX_WEIGHT + 1) c.loop-path.begun.items c.pop.new.self.items c.in-Some.path c.in-Some.ensures.items c.loop-path.invariant.short).1.edges c.edges.ensures.value,
     )
 
 pub overflow_add-weight : goal.overflow_add-weight
@@ -26,7 +26,7 @@ overflow_add-weight g c =
       arith,
       c.loop-path.invariant.light,
       short_fits (MAX_WEIGHT + 1) c.in-Some.path.edges c.edges.result.now
-          (short_last (MAX_WEIGHT + 1) c.loop-path.begun.items c.pop.new.self.items c.in-Some.path c.in-Some.ensures.items c.loop-path.invariant.short).1.edges c.edges.ensures,
+          (short_last (MAX_WEIGHT + 1) c.loop-path.begun.items c.pop.new.self.items c.in-Some.path c.in-Some.ensures.items c.loop-path.invariant.short).1.edges c.edges.ensures.value,
     )
 
 pub returns-then-weight-gt-MAX_WEIGHT-clause-fault : goal.returns-then-weight-gt-MAX_WEIGHT-clause-fault
@@ -34,50 +34,50 @@ returns-then-weight-gt-MAX_WEIGHT-clause-fault g c = (
   refl,
   taken_heavy c.args.graph.now c.loop-path.paths.items c.pop.new.self.items c.in-Some.path c.loop-path.weight c.edges.result.now c.args.steps.now c.tick.new.self
       (takes c.args.graph.now c.loop-path.paths.items c.loop-path.begun.items c.pop.new.self.items c.in-Some.path c.loop-path.weight c.edges.result.now c.args.steps.now c.loop-path.steps c.tick.new.self
-      c.loop-path.invariant.counting c.in-Some.ensures.items c.edges.ensures c.tick.ensures) MAX_WEIGHT c.if-weight-gt-MAX_WEIGHT.true,
+      c.loop-path.invariant.counting c.in-Some.ensures.items c.edges.ensures.value c.tick.ensures) MAX_WEIGHT c.if-weight-gt-MAX_WEIGHT.true,
 )
 
 pub returns-then-weight-gt-MAX_WEIGHT-clause-few : goal.returns-then-weight-gt-MAX_WEIGHT-clause-few
 returns-then-weight-gt-MAX_WEIGHT-clause-few g c =
     taken_few c.args.graph.now c.loop-path.paths.items c.pop.new.self.items c.in-Some.path c.loop-path.weight c.edges.result.now c.args.steps.now c.tick.new.self
     (takes c.args.graph.now c.loop-path.paths.items c.loop-path.begun.items c.pop.new.self.items c.in-Some.path c.loop-path.weight c.edges.result.now c.args.steps.now c.loop-path.steps c.tick.new.self
-    c.loop-path.invariant.counting c.in-Some.ensures.items c.edges.ensures c.tick.ensures) MAX_WEIGHT c.loop-path.invariant.light
+    c.loop-path.invariant.counting c.in-Some.ensures.items c.edges.ensures.value c.tick.ensures) MAX_WEIGHT c.loop-path.invariant.light
 
 pub returns-then-weight-gt-MAX_WEIGHT-clause-fewer : goal.returns-then-weight-gt-MAX_WEIGHT-clause-fewer
 returns-then-weight-gt-MAX_WEIGHT-clause-fewer g c =
     λ whole weighs. taken_within c.args.graph.now c.loop-path.paths.items c.pop.new.self.items c.in-Some.path c.loop-path.weight c.edges.result.now c.args.steps.now c.tick.new.self
     (takes c.args.graph.now c.loop-path.paths.items c.loop-path.begun.items c.pop.new.self.items c.in-Some.path c.loop-path.weight c.edges.result.now c.args.steps.now c.loop-path.steps c.tick.new.self
-    c.loop-path.invariant.counting c.in-Some.ensures.items c.edges.ensures c.tick.ensures) whole weighs
+    c.loop-path.invariant.counting c.in-Some.ensures.items c.edges.ensures.value c.tick.ensures) whole weighs
 
 pub returns-in_err-keep-clause-few : goal.returns-in_err-keep-clause-few
 returns-in_err-keep-clause-few g c =
     taken_few c.args.graph.now c.loop-path.paths.items c.pop.new.self.items c.in-Some.path c.loop-path.weight c.edges.result.now c.args.steps.now c.tick.new.self
     (takes c.args.graph.now c.loop-path.paths.items c.loop-path.begun.items c.pop.new.self.items c.in-Some.path c.loop-path.weight c.edges.result.now c.args.steps.now c.loop-path.steps c.tick.new.self
-    c.loop-path.invariant.counting c.in-Some.ensures.items c.edges.ensures c.tick.ensures) MAX_WEIGHT c.loop-path.invariant.light
+    c.loop-path.invariant.counting c.in-Some.ensures.items c.edges.ensures.value c.tick.ensures) MAX_WEIGHT c.loop-path.invariant.light
 
 pub returns-in_err-keep-clause-fewer : goal.returns-in_err-keep-clause-fewer
 returns-in_err-keep-clause-fewer g c =
     λ whole weighs. taken_within c.args.graph.now c.loop-path.paths.items c.pop.new.self.items c.in-Some.path c.loop-path.weight c.edges.result.now c.args.steps.now c.tick.new.self
     (takes c.args.graph.now c.loop-path.paths.items c.loop-path.begun.items c.pop.new.self.items c.in-Some.path c.loop-path.weight c.edges.result.now c.args.steps.now c.loop-path.steps c.tick.new.self
-    c.loop-path.invariant.counting c.in-Some.ensures.items c.edges.ensures c.tick.ensures) whole weighs
+    c.loop-path.invariant.counting c.in-Some.ensures.items c.edges.ensures.value c.tick.ensures) whole weighs
 
 pub keep-requires-clause-walk : goal.keep-requires-clause-walk
 keep-requires-clause-walk g c =
     taken_walk c.args.graph.now c.loop-path.paths.items c.pop.new.self.items c.in-Some.path c.loop-path.weight c.edges.result.now c.args.steps.now c.tick.new.self
     (takes c.args.graph.now c.loop-path.paths.items c.loop-path.begun.items c.pop.new.self.items c.in-Some.path c.loop-path.weight c.edges.result.now c.args.steps.now c.loop-path.steps c.tick.new.self
-    c.loop-path.invariant.counting c.in-Some.ensures.items c.edges.ensures c.tick.ensures)
+    c.loop-path.invariant.counting c.in-Some.ensures.items c.edges.ensures.value c.tick.ensures)
 
 pub keep-requires-clause-exact : goal.keep-requires-clause-exact
 keep-requires-clause-exact g c =
     taken_rule c.args.graph.now c.loop-path.paths.items c.pop.new.self.items c.in-Some.path c.loop-path.weight c.edges.result.now c.args.steps.now c.tick.new.self
     (takes c.args.graph.now c.loop-path.paths.items c.loop-path.begun.items c.pop.new.self.items c.in-Some.path c.loop-path.weight c.edges.result.now c.args.steps.now c.loop-path.steps c.tick.new.self
-    c.loop-path.invariant.counting c.in-Some.ensures.items c.edges.ensures c.tick.ensures)
+    c.loop-path.invariant.counting c.in-Some.ensures.items c.edges.ensures.value c.tick.ensures)
 
 pub keep-requires-clause-short : goal.keep-requires-clause-short
 keep-requires-clause-short g c =
     taken_short c.args.graph.now c.loop-path.paths.items c.pop.new.self.items c.in-Some.path c.loop-path.weight c.edges.result.now c.args.steps.now c.tick.new.self
     (takes c.args.graph.now c.loop-path.paths.items c.loop-path.begun.items c.pop.new.self.items c.in-Some.path c.loop-path.weight c.edges.result.now c.args.steps.now c.loop-path.steps c.tick.new.self
-    c.loop-path.invariant.counting c.in-Some.ensures.items c.edges.ensures c.tick.ensures) MAX_WEIGHT (short_last (MAX_WEIGHT + 1) c.loop-path.begun.items c.pop.new.self.items c.in-Some.path c.in-Some.ensures.items c.loop-path.invariant.short).1 c.if-weight-gt-MAX_WEIGHT.false
+    c.loop-path.invariant.counting c.in-Some.ensures.items c.edges.ensures.value c.tick.ensures) MAX_WEIGHT (short_last (MAX_WEIGHT + 1) c.loop-path.begun.items c.pop.new.self.items c.in-Some.path c.in-Some.ensures.items c.loop-path.invariant.short).1 c.if-weight-gt-MAX_WEIGHT.false
 
 pub keep-requires-clause-begun : goal.keep-requires-clause-begun
 keep-requires-clause-begun g c =
@@ -87,13 +87,13 @@ pub loop-path-smaller : goal.loop-path-smaller
 loop-path-smaller g c =
     taken_smaller c.args.graph.now c.loop-path.paths.items c.pop.new.self.items c.in-Some.path c.loop-path.weight c.edges.result.now c.args.steps.now c.tick.new.self
     (takes c.args.graph.now c.loop-path.paths.items c.loop-path.begun.items c.pop.new.self.items c.in-Some.path c.loop-path.weight c.edges.result.now c.args.steps.now c.loop-path.steps c.tick.new.self
-    c.loop-path.invariant.counting c.in-Some.ensures.items c.edges.ensures c.tick.ensures) MAX_WEIGHT c.loop-path.invariant.light
+    c.loop-path.invariant.counting c.in-Some.ensures.items c.edges.ensures.value c.tick.ensures) MAX_WEIGHT c.loop-path.invariant.light
 
 pub loop-path-preserved : goal.loop-path-preserved
 loop-path-preserved g c = record {
   counting = taken_kept c.args.graph.now c.loop-path.paths.items c.pop.new.self.items c.in-Some.path c.loop-path.weight c.edges.result.now c.args.steps.now c.tick.new.self
       (takes c.args.graph.now c.loop-path.paths.items c.loop-path.begun.items c.pop.new.self.items c.in-Some.path c.loop-path.weight c.edges.result.now c.args.steps.now c.loop-path.steps c.tick.new.self
-      c.loop-path.invariant.counting c.in-Some.ensures.items c.edges.ensures c.tick.ensures) c.keep.new.begun.items c.keep.new.paths.items c.in_ok-keep.ensures.longer c.in_ok-keep.ensures.kept;
+      c.loop-path.invariant.counting c.in-Some.ensures.items c.edges.ensures.value c.tick.ensures) c.keep.new.begun.items c.keep.new.paths.items c.in_ok-keep.ensures.longer c.in_ok-keep.ensures.kept;
   short = c.in_ok-keep.ensures.begun;
   light = c.if-weight-gt-MAX_WEIGHT.false;
 }

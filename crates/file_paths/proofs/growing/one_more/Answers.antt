@@ -27,5 +27,5 @@ returns-clause-short c =
     (λ found h.
     IfSome_then found h
     (λ j join.
-    next_short MAX_WEIGHT c.args.edge c.args.path.now c.in_ok-step.step j c.requires.short c.is_rule.ensures c.is_rule-2.ensures c.in_ok-step.ensures.peak c.in_ok-step.ensures.edges join))
+    next_short MAX_WEIGHT c.args.edge c.args.path.now c.in_ok-step.step j c.requires.short c.start.ensures.rule c.start-2.ensures.rule c.in_ok-step.ensures.peak c.in_ok-step.ensures.edges join))
     c.join.ensures.joined

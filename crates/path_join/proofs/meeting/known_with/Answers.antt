@@ -21,7 +21,7 @@ returns-then-not-branch-2 c =
     let outs : c.items-outs.result.now ≡ c.args.p.now.post.symbols = cc in
     let count : c.len.result + c.saturating_sub-handed.result ≡ length c.args.p.now.pre.symbols + (length c.args.q.now.pre.symbols - length c.args.p.now.post.symbols) = cc in
     let met : meet_scopes c.meet_made.new.known c.args.asked.now c.args.p.now.post.scopes ≡ None =
-    ap (λ out. meet_scopes c.meet_made.new.known c.args.asked.now out) (ap (λ post. post.scopes) (sym c.post-2.ensures))
+    ap (λ out. meet_scopes c.meet_made.new.known c.args.asked.now out) (ap (λ post. post.scopes) (sym c.post-2.ensures.value))
     ∙ c.in_ok-meet_scopes.ensures ∙ ap (λ met. kept_if met c.meet_scopes.new.self) c.if-not-branch-2.true in
     sym (known-met c.args.p.now c.args.q.now c.args.asked.now _ c.in_ok-known.known _ _ _ c.in_ok-known.ensures pats outs made count ∙ met)
 
@@ -33,6 +33,6 @@ returns c =
     let outs : c.items-outs.result.now ≡ c.args.p.now.post.symbols = cc in
     let count : c.len.result + c.saturating_sub-handed.result ≡ length c.args.p.now.pre.symbols + (length c.args.q.now.pre.symbols - length c.args.p.now.post.symbols) = cc in
     let met : meet_scopes c.meet_made.new.known c.args.asked.now c.args.p.now.post.scopes ≡ Some c.meet_scopes.new.self =
-    ap (λ out. meet_scopes c.meet_made.new.known c.args.asked.now out) (ap (λ post. post.scopes) (sym c.post-2.ensures))
+    ap (λ out. meet_scopes c.meet_made.new.known c.args.asked.now out) (ap (λ post. post.scopes) (sym c.post-2.ensures.value))
     ∙ c.in_ok-meet_scopes.ensures ∙ ap (λ met. kept_if met c.meet_scopes.new.self) c.if-not-branch-2.false in
     sym (known-met c.args.p.now c.args.q.now c.args.asked.now _ c.in_ok-known.known _ _ _ c.in_ok-known.ensures pats outs made count ∙ met)
