@@ -118,7 +118,8 @@ impl NodeKind {
         ensures { result ≡ is_definition_kind self.now }
     {
         match self {
-            NodeKind::Pop { definition, .. } | NodeKind::PopScoped { definition, .. } => *definition,
+            NodeKind::Pop { definition, .. } | NodeKind::PopScoped { definition, .. } =>
+                *definition,
             _ => false,
         }
     }
