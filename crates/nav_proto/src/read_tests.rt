@@ -209,7 +209,7 @@ fn grants_and_denies_are_read(rt: HostRuntime) -> Result<(), Fail> {
 }
 
 #[test]
-fn queries_name_a_path(rt: HostRuntime) -> Result<(), Fail> {
+fn queries_name_a_path_and_a_place(rt: HostRuntime) -> Result<(), Fail> {
     let alloc = rt.alloc();
     let table = [
         (
@@ -237,6 +237,17 @@ fn queries_name_a_path(rt: HostRuntime) -> Result<(), Fail> {
             "{\"do\":\"define\",\"path\":\"a.py\",\"line\":1}",
             "bad column",
         ),
+    ];
+    for (line, wanted) in table {
+        assert_eq!(rt; shown(alloc, line)?.as_str(), wanted, "{line}");
+    }
+    Ok(())
+}
+
+#[test]
+fn paths_of_queries_are_well_formed(rt: HostRuntime) -> Result<(), Fail> {
+    let alloc = rt.alloc();
+    let table = [
         ("{\"do\":\"define\",\"node\":0}", "bad path"),
         ("{\"do\":\"define\",\"path\":\"\",\"node\":0}", "bad path"),
         ("{\"do\":\"define\",\"path\":\"/a\",\"node\":0}", "bad path"),
@@ -258,17 +269,6 @@ fn queries_name_a_path(rt: HostRuntime) -> Result<(), Fail> {
             "{\"do\":\"define\",\"path\":\"a\\nb\",\"node\":0}",
             "bad path",
         ),
-    ];
-    for (line, wanted) in table {
-        assert_eq!(rt; shown(alloc, line)?.as_str(), wanted, "{line}");
-    }
-    Ok(())
-}
-
-#[test]
-fn queries_name_a_point(rt: HostRuntime) -> Result<(), Fail> {
-    let alloc = rt.alloc();
-    let table = [
         (
             "{\"do\":\"define\",\"path\":\"a\\u001f\",\"node\":0}",
             "bad path",
@@ -282,6 +282,17 @@ fn queries_name_a_point(rt: HostRuntime) -> Result<(), Fail> {
             "define a b\\c\u{7f} node 0 within 128 48",
         ),
         ("{\"do\":\"define\",\"path\":[],\"node\":\"0\"}", "bad path"),
+    ];
+    for (line, wanted) in table {
+        assert_eq!(rt; shown(alloc, line)?.as_str(), wanted, "{line}");
+    }
+    Ok(())
+}
+
+#[test]
+fn places_of_queries_are_whole_numbers_below_2_to_the_32(rt: HostRuntime) -> Result<(), Fail> {
+    let alloc = rt.alloc();
+    let table = [
         (
             "{\"do\":\"define\",\"path\":\"a\",\"node\":4294967296}",
             "bad node",
@@ -304,6 +315,17 @@ fn queries_name_a_point(rt: HostRuntime) -> Result<(), Fail> {
             "{\"do\":\"define\",\"path\":\"a\",\"node\":null,\"line\":0,\"column\":0}",
             "bad node",
         ),
+    ];
+    for (line, wanted) in table {
+        assert_eq!(rt; shown(alloc, line)?.as_str(), wanted, "{line}");
+    }
+    Ok(())
+}
+
+#[test]
+fn a_place_is_a_node_or_a_line_and_a_column(rt: HostRuntime) -> Result<(), Fail> {
+    let alloc = rt.alloc();
+    let table = [
         (
             "{\"do\":\"define\",\"path\":\"a\",\"node\":0,\"line\":0,\"column\":0}",
             "bad column",
@@ -328,7 +350,7 @@ fn queries_name_a_point(rt: HostRuntime) -> Result<(), Fail> {
 }
 
 #[test]
-fn bounds_are_in_range(rt: HostRuntime) -> Result<(), Fail> {
+fn bounds_stand_beside_a_place(rt: HostRuntime) -> Result<(), Fail> {
     let alloc = rt.alloc();
     let table = [
         (
@@ -348,6 +370,25 @@ fn bounds_are_in_range(rt: HostRuntime) -> Result<(), Fail> {
             "define a node 0 within 129 48",
         ),
         (
+            "{\"do\":\"define\",\"path\":\"a\",\"line\":0,\"edges\":0}",
+            "bad column",
+        ),
+        (
+            "{\"do\":\"hello\",\"user\":\"ann\",\"edges\":1}",
+            "bad edges",
+        ),
+    ];
+    for (line, wanted) in table {
+        assert_eq!(rt; shown(alloc, line)?.as_str(), wanted, "{line}");
+    }
+    Ok(())
+}
+
+#[test]
+fn bounds_are_in_range(rt: HostRuntime) -> Result<(), Fail> {
+    let alloc = rt.alloc();
+    let table = [
+        (
             "{\"do\":\"define\",\"path\":\"a\",\"node\":0,\"edges\":0}",
             "bad edges",
         ),
@@ -366,14 +407,6 @@ fn bounds_are_in_range(rt: HostRuntime) -> Result<(), Fail> {
         (
             "{\"do\":\"define\",\"path\":\"a\",\"node\":0,\"depth\":97,\"a\":1}",
             "bad depth",
-        ),
-        (
-            "{\"do\":\"define\",\"path\":\"a\",\"line\":0,\"edges\":0}",
-            "bad column",
-        ),
-        (
-            "{\"do\":\"hello\",\"user\":\"ann\",\"edges\":1}",
-            "bad edges",
         ),
     ];
     for (line, wanted) in table {
@@ -428,7 +461,7 @@ fn commits_are_read(rt: HostRuntime) -> Result<(), Fail> {
 }
 
 #[test]
-fn edits_are_read(rt: HostRuntime) -> Result<(), Fail> {
+fn edits_put_or_remove_one_file(rt: HostRuntime) -> Result<(), Fail> {
     let alloc = rt.alloc();
     let table = [
         (
@@ -459,6 +492,17 @@ fn edits_are_read(rt: HostRuntime) -> Result<(), Fail> {
             "{\"do\":\"commit\",\"edits\":[{\"remove\":\"a\"},{\"remove\":\"\"}],\"a\":1}",
             "bad edits",
         ),
+    ];
+    for (line, wanted) in table {
+        assert_eq!(rt; shown(alloc, line)?.as_str(), wanted, "{line}");
+    }
+    Ok(())
+}
+
+#[test]
+fn members_beside_edits_are_checked(rt: HostRuntime) -> Result<(), Fail> {
+    let alloc = rt.alloc();
+    let table = [
         ("{\"do\":\"commit\",\"base\":-1,\"edits\":[]}", "bad base"),
         ("{\"do\":\"commit\",\"base\":null}", "bad base"),
         ("{\"do\":\"commit\",\"base\":\"3\",\"edits\":0}", "bad base"),

@@ -26,9 +26,8 @@ fn rows(rows: Vec<Row>, limit: bool) -> Reply {
     })
 }
 
-// Each row of the table of replies.
 #[test]
-fn each_reply_has_its_text(rt: HostRuntime) -> Result<(), Fail> {
+fn versions_and_rows_have_their_text(rt: HostRuntime) -> Result<(), Fail> {
     let alloc = rt.alloc();
     let span = Span {
         from_line: 1,
@@ -54,6 +53,17 @@ fn each_reply_has_its_text(rt: HostRuntime) -> Result<(), Fail> {
             rows(two, false),
             "{\"limit\":false,\"rows\":[{\"node\":0,\"path\":\"a.py\",\"span\":null},{\"node\":12,\"path\":\"b/c.py\",\"span\":[1,0,2,4294967295]}]}"
         ),
+    ]?;
+    for (reply, text) in table {
+        assert!(rt; print_reply(alloc, &reply)?.as_str() == text, "{text}");
+    }
+    Ok(())
+}
+
+#[test]
+fn errors_have_their_text(rt: HostRuntime) -> Result<(), Fail> {
+    let alloc = rt.alloc();
+    let table = vec![in alloc;
         (
             Reply::Plain(PlainError::BadJson),
             "{\"error\":\"bad_json\"}"
@@ -74,6 +84,17 @@ fn each_reply_has_its_text(rt: HostRuntime) -> Result<(), Fail> {
             "{\"error\":\"no_definition\"}"
         ),
         (Reply::Plain(PlainError::Crowded), "{\"error\":\"crowded\"}"),
+    ]?;
+    for (reply, text) in table {
+        assert!(rt; print_reply(alloc, &reply)?.as_str() == text, "{text}");
+    }
+    Ok(())
+}
+
+#[test]
+fn errors_with_members_have_their_text(rt: HostRuntime) -> Result<(), Fail> {
+    let alloc = rt.alloc();
+    let table = vec![in alloc;
         (
             Reply::BadRequest(ReplyText::of(alloc, "x\ny")?),
             "{\"error\":\"bad_request\",\"field\":\"x\\ny\"}"
@@ -106,9 +127,17 @@ fn each_reply_has_its_text(rt: HostRuntime) -> Result<(), Fail> {
     Ok(())
 }
 
-// Each row of the table of file faults; a fault of a part has a row for each part.
+/// The reply to a commit that puts a file with this fault.
+fn refused(alloc: Global, fault: FileError) -> Result<ReplyText, AllocError> {
+    let reply = Reply::BadFile {
+        path: path(alloc, "é\".py")?,
+        fault,
+    };
+    print_reply(alloc, &reply)
+}
+
 #[test]
-fn each_file_fault_has_its_text(rt: HostRuntime) -> Result<(), Fail> {
+fn faults_of_any_file_have_their_text(rt: HostRuntime) -> Result<(), Fail> {
     let alloc = rt.alloc();
     let table = [
         (
@@ -119,6 +148,21 @@ fn each_file_fault_has_its_text(rt: HostRuntime) -> Result<(), Fail> {
             FileError::Large(1048577),
             "{\"bytes\":1048577,\"error\":\"bad_file\",\"fault\":\"large\",\"path\":\"é\\\".py\"}",
         ),
+        (
+            FileError::Heavy(1000001),
+            "{\"error\":\"bad_file\",\"fault\":\"heavy\",\"path\":\"é\\\".py\",\"weight\":1000001}",
+        ),
+    ];
+    for (fault, text) in table {
+        assert!(rt; refused(alloc, fault)?.as_str() == text, "{text}");
+    }
+    Ok(())
+}
+
+#[test]
+fn faults_of_json_shape_and_names_have_their_text(rt: HostRuntime) -> Result<(), Fail> {
+    let alloc = rt.alloc();
+    let table = [
         (
             FileError::Json,
             "{\"error\":\"bad_file\",\"fault\":\"json\",\"path\":\"é\\\".py\"}",
@@ -135,6 +179,29 @@ fn each_file_fault_has_its_text(rt: HostRuntime) -> Result<(), Fail> {
             FileError::Shape(ShapePart::Edge(5)),
             "{\"edge\":5,\"error\":\"bad_file\",\"fault\":\"shape\",\"path\":\"é\\\".py\"}",
         ),
+        (
+            FileError::SameName(1),
+            "{\"error\":\"bad_file\",\"fault\":\"same_name\",\"node\":1,\"path\":\"é\\\".py\"}",
+        ),
+        (
+            FileError::UnknownName(ShapePart::Node(9)),
+            "{\"error\":\"bad_file\",\"fault\":\"unknown_name\",\"node\":9,\"path\":\"é\\\".py\"}",
+        ),
+        (
+            FileError::UnknownName(ShapePart::Edge(0)),
+            "{\"edge\":0,\"error\":\"bad_file\",\"fault\":\"unknown_name\",\"path\":\"é\\\".py\"}",
+        ),
+    ];
+    for (fault, text) in table {
+        assert!(rt; refused(alloc, fault)?.as_str() == text, "{text}");
+    }
+    Ok(())
+}
+
+#[test]
+fn faults_of_nodes_and_edges_have_their_text(rt: HostRuntime) -> Result<(), Fail> {
+    let alloc = rt.alloc();
+    let table = [
         (
             FileError::TooManyNodes(16385),
             "{\"error\":\"bad_file\",\"fault\":\"too_many_nodes\",\"nodes\":16385,\"path\":\"é\\\".py\"}",
@@ -155,6 +222,17 @@ fn each_file_fault_has_its_text(rt: HostRuntime) -> Result<(), Fail> {
             FileError::BadScope(2),
             "{\"error\":\"bad_file\",\"fault\":\"bad_scope\",\"node\":2,\"path\":\"é\\\".py\"}",
         ),
+    ];
+    for (fault, text) in table {
+        assert!(rt; refused(alloc, fault)?.as_str() == text, "{text}");
+    }
+    Ok(())
+}
+
+#[test]
+fn faults_of_modules_have_their_text(rt: HostRuntime) -> Result<(), Fail> {
+    let alloc = rt.alloc();
+    let table = [
         (
             FileError::NotAscii(3),
             "{\"error\":\"bad_file\",\"fault\":\"not_ascii\",\"line\":3,\"path\":\"é\\\".py\"}",
@@ -183,29 +261,9 @@ fn each_file_fault_has_its_text(rt: HostRuntime) -> Result<(), Fail> {
             FileError::BadName,
             "{\"error\":\"bad_file\",\"fault\":\"bad_name\",\"path\":\"é\\\".py\"}",
         ),
-        (
-            FileError::Heavy(1000001),
-            "{\"error\":\"bad_file\",\"fault\":\"heavy\",\"path\":\"é\\\".py\",\"weight\":1000001}",
-        ),
-        (
-            FileError::SameName(1),
-            "{\"error\":\"bad_file\",\"fault\":\"same_name\",\"node\":1,\"path\":\"é\\\".py\"}",
-        ),
-        (
-            FileError::UnknownName(ShapePart::Node(9)),
-            "{\"error\":\"bad_file\",\"fault\":\"unknown_name\",\"node\":9,\"path\":\"é\\\".py\"}",
-        ),
-        (
-            FileError::UnknownName(ShapePart::Edge(0)),
-            "{\"edge\":0,\"error\":\"bad_file\",\"fault\":\"unknown_name\",\"path\":\"é\\\".py\"}",
-        ),
     ];
     for (fault, text) in table {
-        let reply = Reply::BadFile {
-            path: path(alloc, "é\".py")?,
-            fault,
-        };
-        assert!(rt; print_reply(alloc, &reply)?.as_str() == text, "{text}");
+        assert!(rt; refused(alloc, fault)?.as_str() == text, "{text}");
     }
     Ok(())
 }

@@ -4,6 +4,7 @@ use stacks_vars::{NodeAt, ScopeStack, Stacks, Symbol, SymbolItem};
 use std::alloc::Global;
 use std::test::Fail;
 
+mod faults;
 mod unconnected;
 
 fn at(file: u32, node: u32) -> Spot {
@@ -165,6 +166,14 @@ fn steps_along_edges(rt: HostRuntime) -> Result<(), Fail> {
         let next = step(alloc, files, from, EdgeAt { file, edge })?;
         assert!(rt; is(alloc, &next, wanted)?, "edge {edge} of file {file}");
     }
+    Ok(())
+}
+
+#[test]
+fn starts_at_references_alone(rt: HostRuntime) -> Result<(), Fail> {
+    let alloc = rt.alloc();
+    let files = files(alloc)?;
+    let files = files.as_slice();
     // A file and a node, and whether a path starts there.
     let starts = [
         (0, 0, Some((at(0, 0), "x|"))),
@@ -176,6 +185,14 @@ fn steps_along_edges(rt: HostRuntime) -> Result<(), Fail> {
         let found = start(alloc, files, NodeAt { file, node })?;
         assert!(rt; is(alloc, &found, wanted)?, "node {node} of file {file}");
     }
+    Ok(())
+}
+
+#[test]
+fn tells_cuts_and_results(rt: HostRuntime) -> Result<(), Fail> {
+    let alloc = rt.alloc();
+    let files = files(alloc)?;
+    let files = files.as_slice();
     for edge in 0..10 {
         let is_cut = matches!(edge, 1 | 2 | 4 | 6 | 8 | 9);
         assert_eq!(rt;

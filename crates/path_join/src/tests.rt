@@ -1,83 +1,15 @@
 ghost use Rattle.std.specs.Prelude.{◌≡◌, ◌<◌, ◌^◌, All, IsTrue, true};
 ghost use Rattle.partial_path.specs.Moved.{Fits, FitsNode, FitsEnd, FitsSymbol};
 
+mod graphs;
+
 use crate::{join, opening, unit};
-use graph_nodes::{Edge, FileGraph, Name, Node, NodeKind, Place};
+use graph_nodes::{FileGraph, NodeKind};
+use graphs::{file_of, number};
 use partial_path::{Config, EdgeAt, End, PartialPath, Spot, step};
 use stacks_vars::{NodeAt, ScopeStack, Stacks, SymOut, Symbol, SymbolItem};
 use std::alloc::{AllocError, Global};
 use std::test::Fail;
-
-/// The kind of node of that name; a push_scoped node attaches the scope 4.
-fn kind_of(name: &str, symbol: Name) -> NodeKind {
-    match name {
-        "reference" => NodeKind::Push {
-            symbol,
-            reference: true,
-        },
-        "push" => NodeKind::Push {
-            symbol,
-            reference: false,
-        },
-        "push_scoped" => NodeKind::PushScoped {
-            symbol,
-            scope: 4,
-            reference: false,
-        },
-        "pop" => NodeKind::Pop {
-            symbol,
-            definition: true,
-        },
-        "pop_scoped" => NodeKind::PopScoped {
-            symbol,
-            definition: false,
-        },
-        "drop" => NodeKind::Drops,
-        _ => NodeKind::Scope { exported: true },
-    }
-}
-
-fn nodes_of(alloc: Global, kinds: &[(&str, &str)]) -> Result<Vec<Node>, Fail> {
-    let mut nodes = Vec::new(alloc);
-    for (name, symbol) in kinds {
-        let kind = kind_of(name, Name::of(alloc, symbol)?);
-        nodes.push(Node { kind, span: None })?;
-    }
-    Ok(nodes)
-}
-
-/// Edges between places; 100 is the root and 200 the jump.
-fn edges_of(alloc: Global, ends: &[(u32, u32)]) -> Result<Vec<Edge>, Fail> {
-    let mut edges = Vec::new(alloc);
-    for (source, sink) in ends {
-        edges.push(Edge {
-            source: place(*source),
-            sink: place(*sink),
-            precedence: 0,
-        })?;
-    }
-    Ok(edges)
-}
-
-/// The file alone of these nodes and edges.
-fn file_of(alloc: Global, nodes: Vec<Node>, edges: Vec<Edge>) -> Result<Vec<FileGraph>, Fail> {
-    let mut files = Vec::new(alloc);
-    if nodes.len() > 100 || edges.len() > 100 {
-        return Ok(files);
-    }
-    if let Ok(graph) = FileGraph::check(alloc, nodes, edges) {
-        files.push(graph)?;
-    }
-    Ok(files)
-}
-
-fn place(number: u32) -> Place {
-    match number {
-        100 => Place::Root,
-        200 => Place::Jump,
-        node => Place::At(node),
-    }
-}
 
 fn spot(number: u32) -> Spot {
     match number {
@@ -124,10 +56,13 @@ fn config_of(alloc: Global, number: u32, text: &str) -> Result<Config, Fail> {
     })
 }
 
-/// Whether it stands there with those stacks; None stands for no result.
-fn is(alloc: Global, found: &Option<Config>, wanted: Option<(u32, &str)>) -> Result<bool, Fail> {
-    match (found, wanted) {
-        (Some(found), Some((number, text))) => Ok(found.same(&config_of(alloc, number, text)?)),
+/// Whether it stands where the text says, as `4 x|6` does: at node 4, or at the root for 100, with those
+/// stacks. `none` says that there is no result.
+fn is(alloc: Global, found: &Option<Config>, wanted: &str) -> Result<bool, Fail> {
+    match (found, wanted.split_once(' ')) {
+        (Some(found), Some((place, text))) => {
+            Ok(found.same(&config_of(alloc, number(place), text)?))
+        }
         (None, None) => Ok(true),
         _ => Ok(false),
     }
@@ -271,13 +206,9 @@ fn run_of(
     alloc: Global,
     files: &[FileGraph],
     from: Config,
-    first: u32,
     edges: &[u32],
 ) -> Result<Option<Config>, AllocError> {
-    let edge = first;
-    let Some(mut at) = step(alloc, files, from, EdgeAt { file: 0, edge })? else {
-        return Ok(None);
-    };
+    let mut at = from;
     for edge in edges {
         let edge = EdgeAt {
             file: 0,
@@ -296,23 +227,36 @@ fn led(
     alloc: Global,
     files: &[FileGraph],
     from: &Config,
-    first: u32,
     edges: &[u32],
 ) -> Result<Option<Config>, AllocError> {
-    let Some(graph) = files.first() else {
+    let (Some(graph), Some((first, rest))) = (files.first(), edges.split_first()) else {
         return Ok(None);
     };
-    match path_of(alloc, graph, first, edges)? {
+    match path_of(alloc, graph, *first, rest)? {
         Some(path) => applied(alloc, &path, from),
         None => Ok(None),
     }
 }
 
+/// Whether a row holds, such as `0 2: p[4]x|6 = 1 x|4`: the joined path of these edges' units, and the run
+/// of the edges, both lead from the root with the first stacks to where the text says.
+fn holds(alloc: Global, files: &[FileGraph], row: &str) -> Result<bool, Fail> {
+    let (edge_text, rest) = row.split_once(": ").unwrap_or((row, ""));
+    let (text, wanted) = rest.split_once(" = ").unwrap_or((rest, ""));
+    let mut edges = Vec::new(alloc);
+    for edge in edge_text.split(' ') {
+        edges.push(number(edge))?;
+    }
+    let from = config_of(alloc, 100, text)?;
+    let joined = led(alloc, files, &from, edges.as_slice())?;
+    let run = run_of(alloc, files, from, edges.as_slice())?;
+    Ok(is(alloc, &joined, wanted)? && is(alloc, &run, wanted)?)
+}
+
 #[test]
 fn symbols_that_differ_join_to_nothing(rt: HostRuntime) -> Result<(), Fail> {
     let alloc = rt.alloc();
-    let nodes = nodes_of(alloc, &[("push", "x"), ("pop", "y")])?;
-    let files = file_of(alloc, nodes, edges_of(alloc, &[(100, 0), (0, 1)])?)?;
+    let files = file_of(alloc, "push x; pop y | root>0, 0>1")?;
     let Some(graph) = files.as_slice().first() else {
         assert!(rt; false, "no graph");
         return Ok(());
@@ -323,90 +267,79 @@ fn symbols_that_differ_join_to_nothing(rt: HostRuntime) -> Result<(), Fail> {
     Ok(())
 }
 
-#[test]
-fn opens_and_applies(rt: HostRuntime) -> Result<(), Fail> {
-    let alloc = rt.alloc();
-    let kinds = [
-        ("reference", "m"),
-        ("push_scoped", "()"),
-        ("pop_scoped", "()"),
-        ("drop", ""),
-        ("scope", ""),
-        ("pop", "m"),
-    ];
-    let edges = edges_of(alloc, &[(0, 1), (1, 2), (2, 200), (4, 5)])?;
-    let files = file_of(alloc, nodes_of(alloc, &kinds)?, edges)?;
-    let Some(graph) = files.as_slice().first() else {
-        assert!(rt; false, "no graph");
-        return Ok(());
+/// Where the opening of node 0 with the units of these edges behind it leads from before that node with
+/// empty stacks, and whether it ends by stack; none where there is no such path.
+fn opened(
+    alloc: Global,
+    files: &[FileGraph],
+    edges: &[u32],
+) -> Result<Option<(Option<Config>, bool)>, Fail> {
+    let Some(graph) = files.first() else {
+        return Ok(None);
     };
     let Some(path) = opening_at(alloc, graph, 0)? else {
+        return Ok(None);
+    };
+    let Some(path) = extended(alloc, graph, path, edges)? else {
+        return Ok(None);
+    };
+    let found = applied(alloc, &path, &config_of(alloc, 0, "|")?)?;
+    Ok(Some((found, matches!(path.end(), End::ByStack))))
+}
+
+#[test]
+fn an_opening_enters_its_reference_alone(rt: HostRuntime) -> Result<(), Fail> {
+    let alloc = rt.alloc();
+    let files = file_of(alloc, "push x R; pop y D | 0>1")?;
+    let Some((found, by_stack)) = opened(alloc, files.as_slice(), &[])? else {
         assert!(rt; false, "no opening");
         return Ok(());
     };
-    let Some(path) = extended(alloc, graph, path, &[0, 1, 2])? else {
+    assert!(rt; is(alloc, &found, "0 x|")? && !by_stack);
+    // The edge's sink pops another symbol.
+    assert!(rt; opened(alloc, files.as_slice(), &[0])?.is_none());
+    Ok(())
+}
+
+#[test]
+fn opens_and_applies(rt: HostRuntime) -> Result<(), Fail> {
+    let alloc = rt.alloc();
+    let text =
+        "push m R; push_scoped () 4; pop_scoped () D; drop; scope E; pop m D | 0>1, 1>2, 2>jump, 4>5";
+    let files = file_of(alloc, text)?;
+    let Some((found, by_stack)) = opened(alloc, files.as_slice(), &[0, 1, 2])? else {
         assert!(rt; false, "no join");
         return Ok(());
     };
-    assert!(rt; matches!(path.end(), End::ByStack));
-    let found = applied(alloc, &path, &config_of(alloc, 0, "|")?)?;
-    assert!(rt; is(alloc, &found, Some((4, "m|")))?);
+    assert!(rt; is(alloc, &found, "4 m|")? && by_stack);
     Ok(())
 }
 
 #[test]
 fn joined_paths_lead_where_their_edges_lead(rt: HostRuntime) -> Result<(), Fail> {
     let alloc = rt.alloc();
-    let kinds = [
-        ("scope", ""),
-        ("push", "x"),
-        ("drop", ""),
-        ("pop_scoped", "p"),
-        ("scope", ""),
-        ("pop", "x"),
-        ("push_scoped", "p"),
-    ];
-    let ends = [
-        (100, 3),
-        (3, 2),
-        (3, 1),
-        (1, 100),
-        (2, 1),
-        (3, 200),
-        (100, 5),
-        (5, 100),
-        (5, 200),
-        (1, 5),
-        (100, 6),
-        (6, 200),
-        (4, 3),
-        (0, 4),
-    ];
-    let files = file_of(alloc, nodes_of(alloc, &kinds)?, edges_of(alloc, &ends)?)?;
-    let files = files.as_slice();
-    // The first edge and the others, the stacks that they are followed from, and where they lead.
-    let rows: [(u32, &[u32], &str, Option<(u32, &str)>); 13] = [
-        (0, &[2, 3], "p[45]z|6", Some((100, "xz|45"))),
-        (0, &[1, 4, 3], "p[45]|6", Some((100, "x|"))),
-        (0, &[5], "p[45]z|6", Some((4, "z|5"))),
-        (0, &[5], "p[]z|6", None),
-        (0, &[2], "z[4]|", None),
-        (6, &[7, 0, 5], "xp[45]|6", Some((4, "|5"))),
-        (6, &[8], "xz|45", Some((4, "z|5"))),
-        (0, &[2, 9, 8], "p[45]|", Some((4, "|5"))),
-        (6, &[7, 0, 2, 3], "xp[45]z|6", Some((100, "xz|45"))),
-        (10, &[11, 12], "|41", Some((3, "|441"))),
-        (10, &[11, 12], "|14", None),
-        (6, &[8, 12, 5], "xp[17]|4", Some((1, "|7"))),
-        (6, &[8, 13], "x|4", None),
-    ];
-    for (first, edges, text, wanted) in rows {
-        let from = config_of(alloc, 100, text)?;
-        let found = led(alloc, files, &from, first, edges)?;
-        assert!(rt; is(alloc, &found, wanted)?, "joined from {text}");
-        let found = run_of(alloc, files, from, first, edges)?;
-        assert!(rt; is(alloc, &found, wanted)?, "run from {text}");
-    }
+    let nodes = "scope E; push x; drop; pop_scoped p D; scope E; pop x D; push_scoped p 4";
+    let edges =
+        "root>3, 3>2, 3>1, 1>root, 2>1, 3>jump, root>5, 5>root, 5>jump, 1>5, root>6, 6>jump, 4>3, 0>4";
+    let files = file_of(alloc, format!(in alloc; "{nodes} | {edges}")?.as_str())?;
     assert_eq!(rt; files.len(), 1);
+    let rows = [
+        "0 2 3: p[45]z|6 = 100 xz|45",
+        "0 1 4 3: p[45]|6 = 100 x|",
+        "0 5: p[45]z|6 = 4 z|5",
+        "0 5: p[]z|6 = none",
+        "0 2: z[4]| = none",
+        "6 7 0 5: xp[45]|6 = 4 |5",
+        "6 8: xz|45 = 4 z|5",
+        "0 2 9 8: p[45]| = 4 |5",
+        "6 7 0 2 3: xp[45]z|6 = 100 xz|45",
+        "10 11 12: |41 = 3 |441",
+        "10 11 12: |14 = none",
+        "6 8 12 5: xp[17]|4 = 1 |7",
+        "6 8 13: x|4 = none",
+    ];
+    for row in rows {
+        assert!(rt; holds(alloc, files.as_slice(), row)?, "{row}");
+    }
     Ok(())
 }

@@ -33,13 +33,25 @@ fn told(alloc: Global, rows: &[Hit], limit: bool) -> Result<String, Fail> {
 }
 
 #[test]
-fn answers_small_graphs(rt: HostRuntime) -> Result<(), Fail> {
+fn symbols_match_with_their_scopes(rt: HostRuntime) -> Result<(), Fail> {
     let rows = [
         ("push x R; pop x D | 0>1", "0/1 whole"),
         ("push x R; pop y D | 0>1", "whole"),
         // A symbol with attached scopes and a plain one don't match.
         ("push_scoped x 1 R; scope E; pop x D | 0>2", "whole"),
         ("push x R; pop_scoped x D | 0>1", "whole"),
+        ("scope; pop x D | 0>1", "no reference"),
+    ];
+    for (graph, wanted) in rows {
+        let told = answer(rt.alloc(), graph, Bounds::usual())?;
+        assert_eq!(rt; told.as_str(), wanted, "{graph}");
+    }
+    Ok(())
+}
+
+#[test]
+fn paths_go_on_at_the_root_and_at_jumps(rt: HostRuntime) -> Result<(), Fail> {
+    let rows = [
         // Three files, by way of the root.
         (
             "push x R; push .; push a | 0>1, 1>2, 2>root & pop a; pop .; pop x; push y; push .; push b | root>0, 0-5, 5>root & pop b; pop .; pop y D | root>0, 0>1, 1>2",
@@ -54,6 +66,17 @@ fn answers_small_graphs(rt: HostRuntime) -> Result<(), Fail> {
             "push m R; push_scoped () 4; pop_scoped (); drop; scope E; pop m D | 0>1, 1>2, 2>3, 3>jump, 4>5",
             "whole",
         ),
+    ];
+    for (graph, wanted) in rows {
+        let told = answer(rt.alloc(), graph, Bounds::usual())?;
+        assert_eq!(rt; told.as_str(), wanted, "{graph}");
+    }
+    Ok(())
+}
+
+#[test]
+fn rounds_end(rt: HostRuntime) -> Result<(), Fail> {
+    let rows = [
         // A round adds a symbol each time.
         (
             "push x R; scope; push a; pop x D | 0>1, 1>2, 2>1, 1>3",
@@ -61,6 +84,17 @@ fn answers_small_graphs(rt: HostRuntime) -> Result<(), Fail> {
         ),
         // A round that comes back to an equal configuration isn't straight.
         ("push x R; scope; pop x D | 0>1, 1>1, 1>2", "0/2 whole"),
+    ];
+    for (graph, wanted) in rows {
+        let told = answer(rt.alloc(), graph, Bounds::usual())?;
+        assert_eq!(rt; told.as_str(), wanted, "{graph}");
+    }
+    Ok(())
+}
+
+#[test]
+fn rows_are_unshadowed_sorted_and_apart(rt: HostRuntime) -> Result<(), Fail> {
+    let rows = [
         // Shadowing.
         (
             "push x R; scope; pop x D; pop x D | 0>1, 1>2/1, 1>3/2",
@@ -75,7 +109,6 @@ fn answers_small_graphs(rt: HostRuntime) -> Result<(), Fail> {
             "push x R; scope; pop x D | 0>1, 1>root, 1>2 *2 & pop x D; pop x D | root>1, root>0",
             "0/2 1/0 1/1 whole",
         ),
-        ("scope; pop x D | 0>1", "no reference"),
     ];
     for (graph, wanted) in rows {
         let told = answer(rt.alloc(), graph, Bounds::usual())?;
@@ -85,7 +118,7 @@ fn answers_small_graphs(rt: HostRuntime) -> Result<(), Fail> {
 }
 
 #[test]
-fn keeps_to_its_bounds(rt: HostRuntime) -> Result<(), Fail> {
+fn edges_and_symbols_are_bounded(rt: HostRuntime) -> Result<(), Fail> {
     let deep = "push s R; push s *47; pop s *47; pop s D | 0-95";
     let deeper = "push s R; push s *48; pop s *48; pop s D | 0-97";
     let long = "push x R; scope *127; pop x D | 0-128";
@@ -99,68 +132,69 @@ fn keeps_to_its_bounds(rt: HostRuntime) -> Result<(), Fail> {
         (longer, 128, 48, "limit"),
         (longer, 129, 48, "0/129 whole"),
         (round, 128, 96, "0/3 limit"),
-        // The count of runs: at most 8,192, of closed ones and complete ones.
+    ];
+    for (graph, edges, depth, wanted) in rows {
+        let told = answer(rt.alloc(), graph, Bounds { edges, depth })?;
+        assert_eq!(rt; told.as_str(), wanted, "{graph}");
+    }
+    Ok(())
+}
+
+/// Closed runs count, and complete ones.
+#[test]
+fn more_than_8192_runs_are_crowded(rt: HostRuntime) -> Result<(), Fail> {
+    let rows = [
         (
             "push x R; scope *13; pop x D | 0>1, 1-13 *2, 13>14 *2",
-            128,
-            48,
             "0/14 whole",
         ),
         (
             "push x R; scope *13; pop x D | 0>1, 1-13 *2, 13>14 *3",
-            128,
-            48,
             "crowded",
         ),
         (
             "push x R; scope *13; pop x D | 0>13, 13-1 *2, 13>14 *2",
-            128,
-            48,
             "0/14 whole",
         ),
         (
             "push x R; scope *13; pop x D | 0>13, 13-1 *2, 13>14 *3",
-            128,
-            48,
             "crowded",
         ),
         (
             "push x R; scope E *13; pop x D | 0>1, 1-13 *2, 1>14",
-            128,
-            48,
             "0/14 whole",
         ),
         (
             "push x R; scope E *13; pop x D | 0>1, 1-13 *2, 1>14 *2",
-            128,
-            48,
             "crowded",
         ),
+    ];
+    for (graph, wanted) in rows {
+        let told = answer(rt.alloc(), graph, Bounds::usual())?;
+        assert_eq!(rt; told.as_str(), wanted, "{graph}");
+    }
+    Ok(())
+}
+
+#[test]
+fn large_files_are_answered(rt: HostRuntime) -> Result<(), Fail> {
+    let rows = [
         // As long and as deep as a file can make it.
-        (
-            "push x R; scope *16382; pop x D | 0-16383",
-            128,
-            48,
-            "limit",
-        ),
-        ("push x R; push y *16383 | 0-16383", 128, 48, "whole"),
+        ("push x R; scope *16382; pop x D | 0-16383", "limit"),
+        ("push x R; push y *16383 | 0-16383", "whole"),
         // Ladders from which nothing can be reached: alone, beside a definition, and behind a cut.
-        ("push x R; scope *40 | 0>1, 1-40 *2", 128, 48, "whole"),
+        ("push x R; scope *40 | 0>1, 1-40 *2", "whole"),
         (
             "push x R; scope *40; pop x D | 0>1, 1-40 *2, 0>41",
-            128,
-            48,
             "0/41 whole",
         ),
         (
             "push x R; scope E; scope *40; pop x D | 0>1, 1>2, 2-41 *2, 1>42",
-            128,
-            48,
             "0/42 whole",
         ),
     ];
-    for (graph, edges, depth, wanted) in rows {
-        let told = answer(rt.alloc(), graph, Bounds { edges, depth })?;
+    for (graph, wanted) in rows {
+        let told = answer(rt.alloc(), graph, Bounds::usual())?;
         assert_eq!(rt; told.as_str(), wanted, "{graph}");
     }
     Ok(())

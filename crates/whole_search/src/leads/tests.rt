@@ -1,5 +1,5 @@
 use super::*;
-use graph_nodes::{Edge, Name, Node};
+use graph_nodes::{Edge, Name, Node, NodeKind};
 use stacks_vars::NodeAt;
 use std::test::Fail;
 

@@ -20,9 +20,21 @@ fn plain_answer(
     }
 }
 
+/// The answer of the search to a graph within so many edges and symbols, and that of the plain enumeration,
+/// which tries lists of at most so many edges.
+fn both(
+    alloc: Global,
+    graph: &str,
+    bounds: Bounds,
+    longest: u32,
+) -> Result<(String, String), Fail> {
+    let files = files_of(alloc, graph)?;
+    let plain = plain_answer(alloc, &files, bounds, longest)?;
+    Ok((answer(alloc, graph, bounds)?, plain))
+}
+
 #[test]
-fn answers_as_a_plain_enumeration_does(rt: HostRuntime) -> Result<(), Fail> {
-    let alloc = rt.alloc();
+fn rounds_answer_as_enumerated(rt: HostRuntime) -> Result<(), Fail> {
     // A graph, the bounds, and how long the lists are that are tried.
     let rows = [
         // Rounds: through a turning node, through an exported scope, through the root, of one edge.
@@ -52,6 +64,18 @@ fn answers_as_a_plain_enumeration_does(rt: HostRuntime) -> Result<(), Fail> {
             12,
         ),
         ("push x R; pop x D; push x | 0>1, 1>2, 2>1", 5, 2, 9),
+    ];
+    for (graph, edges, depth, longest) in rows {
+        let (told, plain) = both(rt.alloc(), graph, Bounds { edges, depth }, longest)?;
+        assert_eq!(rt; told.as_str(), plain.as_str(), "{graph}");
+    }
+    Ok(())
+}
+
+#[test]
+fn jumps_answer_as_enumerated(rt: HostRuntime) -> Result<(), Fail> {
+    // A graph, the bounds, and how long the lists are that are tried.
+    let rows = [
         // Jumps, back to a scope that pushes it once more too.
         (
             "push x R; push_scoped c 4; pop_scoped c; drop; scope E; pop x D | 0>1, 1>2, 2>jump, 2>3, 3>5, 4>5",
@@ -65,6 +89,18 @@ fn answers_as_a_plain_enumeration_does(rt: HostRuntime) -> Result<(), Fail> {
             2,
             12,
         ),
+    ];
+    for (graph, edges, depth, longest) in rows {
+        let (told, plain) = both(rt.alloc(), graph, Bounds { edges, depth }, longest)?;
+        assert_eq!(rt; told.as_str(), plain.as_str(), "{graph}");
+    }
+    Ok(())
+}
+
+#[test]
+fn precedences_answer_as_enumerated(rt: HostRuntime) -> Result<(), Fail> {
+    // A graph, the bounds, and how long the lists are that are tried.
+    let rows = [
         // Parallel edges, and precedences at the first difference and at a later one.
         (
             "push x R; scope; pop x D; pop x D | 0>1 *2, 1>2 *2, 1>3/1",
@@ -97,6 +133,18 @@ fn answers_as_a_plain_enumeration_does(rt: HostRuntime) -> Result<(), Fail> {
             3,
             6,
         ),
+    ];
+    for (graph, edges, depth, longest) in rows {
+        let (told, plain) = both(rt.alloc(), graph, Bounds { edges, depth }, longest)?;
+        assert_eq!(rt; told.as_str(), plain.as_str(), "{graph}");
+    }
+    Ok(())
+}
+
+#[test]
+fn bounds_answer_as_enumerated(rt: HostRuntime) -> Result<(), Fail> {
+    // A graph, the bounds, and how long the lists are that are tried.
+    let rows = [
         // The bounds: one edge and one symbol too many.
         ("push x R; scope; scope; pop x D | 0>1, 1>2, 2>3", 3, 1, 6),
         ("push x R; scope; scope; pop x D | 0>1, 1>2, 2>3", 2, 1, 6),
@@ -112,6 +160,18 @@ fn answers_as_a_plain_enumeration_does(rt: HostRuntime) -> Result<(), Fail> {
             2,
             7,
         ),
+    ];
+    for (graph, edges, depth, longest) in rows {
+        let (told, plain) = both(rt.alloc(), graph, Bounds { edges, depth }, longest)?;
+        assert_eq!(rt; told.as_str(), plain.as_str(), "{graph}");
+    }
+    Ok(())
+}
+
+#[test]
+fn files_and_counts_answer_as_enumerated(rt: HostRuntime) -> Result<(), Fail> {
+    // A graph, the bounds, and how long the lists are that are tried.
+    let rows = [
         // Several files, by way of the root.
         (
             "push x R; scope | 0>root, 0>1/2, 1>root & pop x D; push x | root>0, 0>1, 1>root & pop x D | root>0/1",
@@ -134,11 +194,8 @@ fn answers_as_a_plain_enumeration_does(rt: HostRuntime) -> Result<(), Fail> {
         ),
     ];
     for (graph, edges, depth, longest) in rows {
-        let bounds = Bounds { edges, depth };
-        let files = files_of(alloc, graph)?;
-        let wanted = plain_answer(alloc, &files, bounds, longest)?;
-        let told = answer(alloc, graph, bounds)?;
-        assert_eq!(rt; told.as_str(), wanted.as_str(), "{graph}");
+        let (told, plain) = both(rt.alloc(), graph, Bounds { edges, depth }, longest)?;
+        assert_eq!(rt; told.as_str(), plain.as_str(), "{graph}");
     }
     Ok(())
 }
