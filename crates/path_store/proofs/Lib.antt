@@ -5,3 +5,4 @@ pub mod Sweeps
 pub mod Apart
 pub mod Pushed
 pub mod Members
+mod Appended

@@ -25,7 +25,7 @@ itself : (p q : Bool) → p ≡ true → q ≡ true → (p && q) ≡ true
 itself true q h e = e
 itself false q h e = search h
 
-same_itself : (a : Doc) → same_doc a a ≡ true
+pub same_itself : (a : Doc) → same_doc a a ≡ true
 same_itself a = itself (bytes_eq a.path a.path) (bytes_eq a.bytes a.bytes) ((bytes_eq-Decides a.path a.path).1 refl) ((bytes_eq-Decides a.bytes a.bytes).1 refl)
 
 same_from : (a b : Doc) → a ≡ b → same_doc a b ≡ true

@@ -28,6 +28,15 @@ AreDistinct (k ∷ ks) = (find_doc k.doc ks ≡ None) × AreDistinct ks
 abbrev pub with_doc : Doc → FileRules → List Kept → List Kept
 with_doc doc paths ks = cond (is_some (find_doc doc ks)) ks (ks ++ kept_of doc paths ∷ [])
 
+-- the pairs with those of others, put last one after the other
+abbrev pub with_docs : List Kept → List Kept → List Kept
+with_docs [] ks = ks
+with_docs (k ∷ more) ks = with_docs more (with_doc k.doc k.paths ks)
+
+-- the pairs with some of others, the first of them, put last one after the other
+abbrev pub HasSomeOf : List Kept → List Kept → List Kept → Type 0
+HasSomeOf more old new = (some : List Kept) × (rest : List Kept) × (more ≡ some ++ rest) × (new ≡ with_docs some old)
+
 -- what a pair costs: the weight of its paths, and the bytes of its document
 abbrev pub cost_of_pair : Kept → ℕ
 cost_of_pair k = k.paths.weight + length k.doc.bytes

@@ -38,6 +38,18 @@ impl Document {
         })
     }
 
+    /// The same document once more: its path and bytes are copied, and its digest is not made again. The
+    /// one error is want of memory.
+    pub fn copy(&self, alloc: Global) -> Result<Document, AllocError>
+        ensures { IfOk result (λ doc. doc ≡ self.now) }
+    {
+        Ok(Document {
+            path: String::from_str(alloc, self.path())?,
+            bytes: Vec::from_slice(alloc, self.bytes())?,
+            digest: *self.digest(),
+        })
+    }
+
     /// The path.
     pub fn path(&self) -> &str
         ensures { result.now ≡ self.now.path }

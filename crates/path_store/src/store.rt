@@ -35,9 +35,10 @@ impl Model for PathStore {
 }
 
 impl PathStore {
-    ghost use Rattle.std.specs.Prelude.{◌≡◌, [], ◌∷◌, ◌++◌, None, drop, nat_lt, OnOk, OnErr};
+    ghost use Rattle.std.specs.Prelude.{◌≡◌, [], ◌∷◌, ◌++◌, None, drop, length, nat_lt, OnOk, OnErr};
+    ghost use Rattle.std.specs.List.{slice_get};
     ghost use Rattle.std.specs.Option.{option_copied};
-    ghost use Rattle.path_store.specs.Store.{AreDistinct, find_doc, with_doc, cost_of, swept};
+    ghost use Rattle.path_store.specs.Store.{AreDistinct, find_doc, with_doc, with_docs, HasSomeOf, cost_of, swept};
 
     /// No documents. It takes no memory.
     pub fn new(alloc: Global) -> PathStore
@@ -50,6 +51,13 @@ impl PathStore {
             total: 0,
             buckets: Buckets::new(alloc),
         }
+    }
+
+    /// How many documents are kept.
+    pub fn len(&self) -> usize
+        ensures { result ≡ length self.now }
+    {
+        self.kept.len()
     }
 
     /// The paths kept for this document; `None` exactly where none is kept with its path and its bytes.
@@ -78,10 +86,22 @@ impl PathStore {
         ensures ok { OnOk result (self.new ≡ with_doc doc paths self.old) }
         ensures err { OnErr result (self.new ≡ self.old) }
     {
-        if self.find(&doc).is_some() {
-            return Ok(());
+        self.keep_pair(alloc, Held::of(doc, paths))
+    }
+
+    #[tactic(auto, using(crate::proofs::Appended::moved_none, crate::proofs::Appended::moved_more, crate::proofs::Appended::moved_all, crate::proofs::Appended::moved_some, crate::proofs::Appended::moved_shorter))]
+    /// Keeps all that the other store keeps, the oldest first, as by `keep`. The one error is want of
+    /// memory or of numbers to count with, and then as many of the other's oldest pairs are kept as
+    /// there was memory for. It takes time for the other's pairs alone, and copies no document.
+    pub fn append(&mut self, alloc: Global, newer: PathStore) -> Result<(), AllocError>
+        ensures ok { OnOk result (self.new ≡ with_docs newer self.old) }
+        ensures err { OnErr result (HasSomeOf newer self.old self.new) }
+    {
+        let mut newer = newer;
+        while let Some(held) = newer.pop_oldest() {
+            self.keep_pair(alloc, held)?;
         }
-        self.push(alloc, Held::of(doc, paths))
+        Ok(())
     }
 
     /// Drops the oldest pairs while the weights of all paths and the bytes of all documents together
@@ -91,8 +111,20 @@ impl PathStore {
         ensures { self.new ≡ swept cost self.old }
     {
         while self.costs_more(cost) {
-            self.drop_oldest();
+            self.pop_oldest();
         }
+    }
+
+    // Keeps the pair, as the newest; where its document is held, nothing changes. The one error is want
+    // of memory or numbers, and then nothing has changed.
+    fn keep_pair(&mut self, alloc: Global, held: Held) -> Result<(), AllocError>
+        ensures ok { OnOk result (self.new ≡ with_doc held.doc held.paths self.old) }
+        ensures err { OnErr result (self.new ≡ self.old) }
+    {
+        if self.find(held.doc()).is_some() {
+            return Ok(());
+        }
+        self.push(alloc, held)
     }
 
     // Puts the pair last. The one error is want of memory or numbers, and then nothing has changed.
@@ -118,15 +150,16 @@ impl PathStore {
         cost < self.total
     }
 
-    // Drops the oldest pair, where there is one.
-    fn drop_oldest(&mut self)
-        ensures { self.new ≡ drop 1 self.old }
+    // Takes the oldest pair out, where there is one.
+    fn pop_oldest(&mut self) -> Option<Held>
+        ensures pair { result ≡ slice_get self.old 0 }
+        ensures rest { self.new ≡ drop 1 self.old }
     {
-        if let Some(held) = self.kept.pop_front() {
-            self.buckets.drop_first(held.doc().digest());
-            self.first += 1;
-            self.total -= held.cost();
-        }
+        let held = self.kept.pop_front()?;
+        self.buckets.drop_first(held.doc().digest());
+        self.first += 1;
+        self.total -= held.cost();
+        Some(held)
     }
 }
 
