@@ -8,3 +8,5 @@ pub mod Rules
 pub mod Amend
 pub mod Least
 pub mod Twice
+pub mod Joined
+pub mod ByBlock

@@ -2,6 +2,8 @@
 //! it; and the rows and flag of an answer.
 #![tactic(auto)]
 
+mod block;
+mod blocks;
 mod checks;
 mod edit;
 mod passes;
@@ -10,6 +12,8 @@ mod row;
 mod row_handle;
 mod sorted_rows;
 mod store;
+#[cfg(test)]
+mod tests;
 mod text;
 mod version;
 mod view;

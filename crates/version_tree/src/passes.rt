@@ -94,7 +94,7 @@ fn row_step(alloc: Global, rows: Store, edit: &Edit) -> Result<Store, AllocError
 {
     match edit {
         Edit::Put { path, paths } => rows.with(alloc, path, paths),
-        Edit::Remove { path } => Ok(rows.without(path.as_str())),
+        Edit::Remove { path } => rows.without(alloc, path.as_str()),
         _ => Ok(rows),
     }
 }

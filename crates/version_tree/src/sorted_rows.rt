@@ -21,7 +21,7 @@ impl Model for SortedRows {
 }
 
 impl SortedRows {
-    ghost use Rattle.std.specs.Prelude.{◌≡◌, ◌<◌, ◌+◌, ◌++◌, [], length, slice_get, Some, IfOk, IfErr, OnOk, OnErr};
+    ghost use Rattle.std.specs.Prelude.{◌≡◌, ◌<◌, ◌≤◌, ◌+◌, ◌++◌, [], length, take, drop, slice_get, Some, IfOk, IfErr, OnOk, OnErr};
     ghost use Rattle.version_tree.specs.Contents.{FileRow, IsInOrder, has_path, with_row, without_row, covered};
     ghost use Rattle.version_tree.specs.Verdict.{weight_of};
     ghost use Rattle.partial_path.specs.PathSets.{FileRules};
@@ -109,6 +109,16 @@ impl SortedRows {
             Ok(i) => u64::from(self.rows[i].weight()),
             Err(_) => 0,
         }
+    }
+
+    /// The first rows, so many, and the others. The one error is want of memory.
+    pub(crate) fn split_at(self, at: usize) -> Result<(SortedRows, SortedRows), AllocError>
+        requires { at ≤ length self }
+        ensures { IfOk result (λ parts. (parts.0 ≡ take at self) × (parts.1 ≡ drop at self)) }
+    {
+        let SortedRows { mut rows } = self;
+        let later = rows.split_off(at)?;
+        Ok((SortedRows { rows }, SortedRows { rows: later }))
     }
 
     /// Adds those of the rows that the user may see, in their order. The one error is want of

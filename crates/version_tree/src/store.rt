@@ -1,5 +1,5 @@
+use crate::blocks::Blocks;
 use crate::row_handle::RowHandle;
-use crate::sorted_rows::SortedRows;
 use crate::text::PathText;
 use grants::Grants;
 use partial_path::SharedPaths;
@@ -9,20 +9,21 @@ use std::marker::Model;
 /// The rows of a version, with the sum of their weights. A contract sees the rows.
 #[derive(Drop)]
 pub(crate) struct Store {
-    rows: SortedRows,
+    blocks: Blocks,
     weight: u64,
 }
 
 impl Model for Store {
     ghost use Rattle.std.specs.Prelude.{◌≡◌, List};
+    ghost use Rattle.version_tree.specs.Blocks.{all_rows};
     ghost use Rattle.version_tree.specs.Contents.{FileRow};
     ghost use Rattle.version_tree.specs.Verdict.{weight_of};
 
     ghost Value = { List FileRow };
 
-    ghost view = { λ s. s.rows };
+    ghost view = { λ s. all_rows s.blocks };
 
-    ghost invariant = { λ s. s.weight ≡ weight_of s.rows };
+    ghost invariant = { λ s. s.weight ≡ weight_of (all_rows s.blocks) };
 }
 
 impl Store {
@@ -35,7 +36,7 @@ impl Store {
         ensures { result ≡ [] }
     {
         Store {
-            rows: SortedRows::new(alloc),
+            blocks: Blocks::new(alloc),
             weight: 0,
         }
     }
@@ -45,7 +46,7 @@ impl Store {
         ensures count { result ≡ length self.now }
         ensures order { IsInOrder self.now }
     {
-        self.rows.len()
+        self.blocks.len()
     }
 
     /// The weights of the rows together.
@@ -59,7 +60,7 @@ impl Store {
     pub(crate) fn has(&self, path: &str) -> bool
         ensures { result ≡ has_path path.now self.now }
     {
-        self.rows.has(path)
+        self.blocks.has(path)
     }
 
     /// The same rows once more, not copied. The one error is want of memory.
@@ -67,7 +68,7 @@ impl Store {
         ensures { IfOk result (λ rows. rows ≡ self.now) }
     {
         Ok(Store {
-            rows: self.rows.share(alloc)?,
+            blocks: self.blocks.share(alloc)?,
             weight: self.weight,
         })
     }
@@ -82,22 +83,23 @@ impl Store {
     ) -> Result<Store, AllocError>
         ensures { IfOk result (λ rows. rows ≡ with_row path.now paths.now self) }
     {
-        let Store { mut rows, weight } = self;
+        let Store { blocks, weight } = self;
         let row = RowHandle::of(alloc, path, paths)?;
-        let left = weight - rows.weight_at(path.as_str());
+        let left = weight - blocks.weight_at(path.as_str());
         let weight = left.checked_add(u64::from(row.weight())).ok_or(AllocError)?;
-        rows.put(row)?;
-        Ok(Store { rows, weight })
+        let blocks = blocks.with(alloc, row)?;
+        Ok(Store { blocks, weight })
     }
 
-    /// These rows without the one with the path, where there is one.
-    pub(crate) fn without(self, path: &str) -> Store
-        ensures { result ≡ without_row path.now self }
+    /// These rows without the one with the path, where there is one. The one error is want of
+    /// memory.
+    pub(crate) fn without(self, alloc: Global, path: &str) -> Result<Store, AllocError>
+        ensures { IfOk result (λ rows. rows ≡ without_row path.now self) }
     {
-        let Store { mut rows, weight } = self;
-        let weight = weight - rows.weight_at(path);
-        rows.remove(path);
-        Store { rows, weight }
+        let Store { blocks, weight } = self;
+        let weight = weight - blocks.weight_at(path);
+        let blocks = blocks.without(alloc, path)?;
+        Ok(Store { blocks, weight })
     }
 
     /// Adds those of the rows that the user may see, in their order. The one error is want of
@@ -111,6 +113,6 @@ impl Store {
         ensures rows { OnOk result (kept.new.items ≡ kept.old.items ++ covered grants.now user.now self.now) }
         ensures order { IsInOrder self.now }
     {
-        self.rows.grant(grants, user, kept)
+        self.blocks.grant(grants, user, kept)
     }
 }

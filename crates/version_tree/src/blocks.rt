@@ -1,0 +1,222 @@
+ghost use Rattle.std.specs.Prelude.{◌≡◌, ◌<◌, ◌≤◌, ◌+◌, ◌++◌, length, take, drop, IfOk, OnOk};
+ghost use Rattle.std.specs.List.{AllByRecursion};
+ghost use Rattle.version_tree.specs.Blocks.{IsBlock, all_rows};
+ghost use Rattle.version_tree.specs.declared.block.TheConstants.{BLOCK_ROWS};
+
+use crate::block::{BLOCK_ROWS, Block};
+use crate::row_handle::RowHandle;
+use crate::sorted_rows::SortedRows;
+use grants::Grants;
+use std::alloc::{AllocError, Global};
+use std::marker::Model;
+
+/// Rows in the order of their paths, in blocks that versions share: a change copies the handles of
+/// one block, and no other row. Blocks that have become small are not joined. A contract sees the
+/// list of the blocks.
+#[derive(Drop)]
+pub(crate) struct Blocks {
+    blocks: Vec<Block>,
+    // How many rows the blocks have together.
+    count: usize,
+}
+
+impl Model for Blocks {
+    ghost use Rattle.std.specs.Prelude.{◌≡◌, List, length};
+    ghost use Rattle.version_tree.specs.Contents.{FileRow};
+    ghost use Rattle.version_tree.specs.Blocks.{AreBlocks, all_rows};
+
+    ghost Value = { List (List FileRow) };
+
+    ghost view = { λ b. b.blocks.items };
+
+    ghost invariant = { λ b. AreBlocks b.blocks.items × (b.count ≡ length (all_rows b.blocks.items)) };
+}
+
+impl Blocks {
+    ghost use Rattle.std.specs.Prelude.{◌≡◌, ◌<◌, ◌≤◌, ◌+◌, ◌++◌, [], length, take, drop, IfOk, IfErr, OnOk, MatchOption};
+    ghost use Rattle.partial_path.specs.PathSets.{FileRules};
+    ghost use Rattle.version_tree.specs.Contents.{IsInOrder, has_path, with_row, without_row, covered};
+    ghost use Rattle.version_tree.specs.Verdict.{weight_of};
+    ghost use Rattle.version_tree.specs.Places.{IsAt, IsGapFor};
+    ghost use Rattle.version_tree.specs.Blocks.{AreBlocks, IsBlockFor, all_rows, first_beside};
+    ghost use Rattle.version_tree.specs.declared.block.TheConstants.{BLOCK_ROWS};
+
+    /// No blocks. It takes no memory.
+    pub(crate) fn new(alloc: Global) -> Blocks
+        ensures { result ≡ [] }
+    {
+        Blocks {
+            blocks: Vec::new(alloc),
+            count: 0,
+        }
+    }
+
+    /// How many rows there are.
+    pub(crate) fn len(&self) -> usize
+        ensures count { result ≡ length (all_rows self.now) }
+        ensures order { IsInOrder (all_rows self.now) }
+    {
+        self.count
+    }
+
+    // The block that begins with the path, or how many blocks begin with a lower one, by halving.
+    fn find(&self, path: &str) -> Result<usize, usize>
+        ensures found { IfOk result (IsAt (first_beside path.now) self.now) }
+        ensures absent { IfErr result (IsGapFor (first_beside path.now) self.now) }
+        ensures blocks { AreBlocks self.now }
+    {
+        self.blocks.binary_search_by(|block| block.order(path))
+    }
+
+    // The block that a row with the path is in, where there is one, or would go to; `None` where
+    // there is no block.
+    fn place(&self, path: &str) -> Option<usize>
+        ensures { MatchOption result (self.now ≡ []) (IsBlockFor path.now self.now) }
+    {
+        if self.blocks.is_empty() {
+            return None;
+        }
+        match self.find(path) {
+            Ok(i) => Some(i),
+            Err(i) => Some(i.saturating_sub(1)),
+        }
+    }
+
+    /// Whether a row has the path, by halving.
+    pub(crate) fn has(&self, path: &str) -> bool
+        ensures { result ≡ has_path path.now (all_rows self.now) }
+    {
+        match self.place(path) {
+            Some(i) => self.blocks[i].rows().has(path),
+            None => false,
+        }
+    }
+
+    /// The weight of the row with the path, 0 where there is none.
+    pub(crate) fn weight_at(&self, path: &str) -> u64
+        ensures without { result + weight_of (without_row path.now (all_rows self.now)) ≡ weight_of (all_rows self.now) }
+        ensures with { (file : FileRules) → result + weight_of (with_row path.now file (all_rows self.now)) ≡ weight_of (all_rows self.now) + file.weight }
+    {
+        match self.place(path) {
+            Some(i) => self.blocks[i].rows().weight_at(path),
+            None => 0,
+        }
+    }
+
+    /// The same blocks once more, not copied. The one error is want of memory.
+    pub(crate) fn share(&self, alloc: Global) -> Result<Blocks, AllocError>
+        ensures { IfOk result (λ blocks. blocks ≡ self.now) }
+    {
+        let mut blocks = Vec::new(alloc);
+        for block in &self.blocks {
+            blocks.push(block.share()?)?;
+        }
+        Ok(Blocks {
+            blocks,
+            count: self.count,
+        })
+    }
+
+    /// These rows with this one, in place of one with its path: one block is copied, and split in
+    /// two halves where it has become too large. The one error is want of memory; more rows than 64
+    /// bits can count are told as such.
+    pub(crate) fn with(self, alloc: Global, row: RowHandle) -> Result<Blocks, AllocError>
+        ensures { IfOk result (λ after. all_rows after ≡ with_row row.path row.file (all_rows self)) }
+    {
+        let Some(i) = self.place(row.path()) else {
+            return Blocks::of_one(alloc, row);
+        };
+        let mut rows = self.blocks[i].rows().share(alloc)?;
+        rows.put(row)?;
+        self.replaced(alloc, i, rows)
+    }
+
+    /// These rows without the one with the path, where there is one: one block is copied, and left
+    /// out where it has become empty. The one error is want of memory.
+    pub(crate) fn without(self, alloc: Global, path: &str) -> Result<Blocks, AllocError>
+        ensures { IfOk result (λ after. all_rows after ≡ without_row path.now (all_rows self)) }
+    {
+        let Some(i) = self.place(path) else {
+            return Ok(self);
+        };
+        let mut rows = self.blocks[i].rows().share(alloc)?;
+        rows.remove(path);
+        self.replaced(alloc, i, rows)
+    }
+
+    // One block of one row.
+    fn of_one(alloc: Global, row: RowHandle) -> Result<Blocks, AllocError>
+        ensures { IfOk result (λ after. all_rows after ≡ with_row row.path row.file []) }
+    {
+        let mut rows = SortedRows::new(alloc);
+        rows.put(row)?;
+        Ok(Blocks {
+            blocks: in_blocks(alloc, rows)?,
+            count: 1,
+        })
+    }
+
+    // These rows with those in place of the rows of the block at the place.
+    fn replaced(self, alloc: Global, i: usize, rows: SortedRows) -> Result<Blocks, AllocError>
+        requires in_range { i < length self }
+        requires few { length rows ≤ BLOCK_ROWS + 1 }
+        requires order { IsInOrder (all_rows (take i self) ++ (rows ++ all_rows (drop (i + 1) self))) }
+        ensures { IfOk result (λ after. all_rows after ≡ all_rows (take i self) ++ (rows ++ all_rows (drop (i + 1) self))) }
+    {
+        let Blocks { mut blocks, count } = self;
+        let left = count - blocks[i].rows().len();
+        let count = left.checked_add(rows.len()).ok_or(AllocError)?;
+        let parts = in_blocks(alloc, rows)?;
+        replace(&mut blocks, i, parts)?;
+        Ok(Blocks { blocks, count })
+    }
+
+    /// Adds those of the rows that the user may see, in their order. The one error is want of
+    /// memory.
+    pub(crate) fn grant(
+        &self,
+        grants: &Grants,
+        user: &str,
+        kept: &mut Vec<RowHandle>,
+    ) -> Result<(), AllocError>
+        ensures rows { OnOk result (kept.new.items ≡ kept.old.items ++ covered grants.now user.now (all_rows self.now)) }
+        ensures order { IsInOrder (all_rows self.now) }
+    {
+        for block in &self.blocks {
+            block.rows().grant(grants, user, kept)?;
+        }
+        Ok(())
+    }
+}
+
+// These rows in blocks: none, one, or two halves where they are too many for one.
+fn in_blocks(alloc: Global, rows: SortedRows) -> Result<Vec<Block>, AllocError>
+    requires { length rows ≤ BLOCK_ROWS + 1 }
+    ensures rows { IfOk result (λ blocks. all_rows blocks.items ≡ rows) }
+    ensures sizes { IfOk result (λ blocks. AllByRecursion IsBlock blocks.items) }
+{
+    let mut blocks = Vec::new(alloc);
+    if rows.len() == 0 {
+        return Ok(blocks);
+    }
+    if rows.len() <= BLOCK_ROWS {
+        blocks.push(Block::of(alloc, rows)?)?;
+        return Ok(blocks);
+    }
+    let (lower, upper) = rows.split_at(BLOCK_ROWS / 2)?;
+    blocks.push(Block::of(alloc, lower)?)?;
+    blocks.push(Block::of(alloc, upper)?)?;
+    Ok(blocks)
+}
+
+// Puts the parts in place of the block at the place. The one error is want of memory.
+fn replace(blocks: &mut Vec<Block>, i: usize, mut parts: Vec<Block>) -> Result<(), AllocError>
+    requires { i < length blocks.old.items }
+    ensures { OnOk result (blocks.new.items ≡ take i blocks.old.items ++ (parts.items ++ drop (i + 1) blocks.old.items)) }
+{
+    let mut after = blocks.split_off(i + 1)?;
+    blocks.truncate(i);
+    blocks.append(&mut parts)?;
+    blocks.append(&mut after)?;
+    Ok(())
+}
