@@ -1,0 +1,5 @@
+use Rattle.index_gate.proofs.tests.again.Given as goal
+
+-- the ledger is the one that was opened here
+abbrev pub ghosts-again_on : goal.ghosts-again_on
+ghosts-again_on a = record { name = a.blank.name; parts = a.blank.parts }

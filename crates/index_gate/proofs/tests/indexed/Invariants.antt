@@ -1,0 +1,5 @@
+use Rattle.index_gate.proofs.tests.indexed.Given as goal
+
+-- the ledger is the one that was opened here
+abbrev pub ghosts-indexed_on : goal.ghosts-indexed_on
+ghosts-indexed_on g a = record { name = a.blank.name; parts = a.blank.parts }

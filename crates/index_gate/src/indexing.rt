@@ -1,0 +1,170 @@
+ghost use Rattle.std.specs.Prelude.{◌≡◌, ◌≢◌, ◌≤◌, ◌+◌, ◌++◌, ℕ, true, length, drop, IfOk, IfErr, OnOk, OnErr};
+ghost use Rattle.partial_path.specs.PathSets.{FileRules};
+ghost use Rattle.path_store.specs.Store.{kept_of, with_doc};
+ghost use Rattle.index_gate.specs.declared.fault.IndexFault.TheVariants.{NoMemory};
+ghost use Rattle.index_gate.specs.Indexed.{IsIndexed, AreIndexed, AreFilesOf, HasCause, AddsMissing, AddsSome, CountsWalks, CountsAllWalks, IsDocWeight, AreDocWeights, docs_of, has_doc, missing};
+ghost use Rattle.index_gate.specs.Stops.{Stops, Refuses, Finds, Adds};
+
+use crate::fault::{FileFault, IndexFault};
+use crate::reading::read_document;
+use crate::stop::Stop;
+use file_paths::{PathsFault, enumerate};
+use graph_nodes::{Name, Steps};
+use nav_io::Gate;
+use partial_path::{FilePaths, SharedPaths};
+use path_store::{Document, PathStore};
+use std::alloc::{AllocError, Global};
+use std::sync::ledger::Ledger;
+
+/// The paths of each document's graph, in the order of the documents. A document that the store keeps is
+/// neither read nor walked again; each other one is indexed and kept once, however often it stands among
+/// the documents, and the store then has these at its end, in their order.
+///
+/// The first document with a fault is told with its first fault, in the order of `FileFault`; then the
+/// store is as it was. `NoMemory` comes where memory is refused, and may come in place of any answer; then
+/// the store may keep the first of the new documents. Each document that is indexed is a job between
+/// `enter` and `leave` of the gate, with its number from 0. One step is counted for each walk made. It
+/// takes time for the documents that the store doesn't keep, and for the others that of finding them.
+pub fn index_all<R, G: Gate, L: Ledger>(
+    _rt: &R,
+    alloc: Global,
+    docs: &[Document],
+    store: &mut PathStore,
+    gate: &G,
+    steps: &mut Steps<L>,
+) -> Result<Vec<SharedPaths>, IndexFault>
+    requires indexed { AreIndexed store.old }
+
+    // The answer.
+    ensures files { IfOk result (λ files. AreFilesOf docs.now files.items) }
+    ensures fault { IfErr result (HasCause docs.now) }
+
+    // The store.
+    ensures indexed { AreIndexed store.new }
+    ensures added { OnOk result (AddsMissing docs.now store.old store.new) }
+    ensures unchanged { IfErr result (λ e. e ≢ NoMemory → store.new ≡ store.old) }
+    ensures some { OnErr result (AddsSome docs.now store.old store.new) }
+
+    // The steps.
+    ensures steps { OnOk result (CountsAllWalks (drop (length store.old) store.new) steps.old steps.new) }
+    ensures fewer { (total : ℕ) → AreDocWeights (missing (docs_of store.old) docs.now) total → steps.new ≤ steps.old + total }
+{
+    let mut fresh = PathStore::new(alloc);
+    let mut files = Vec::new(alloc);
+    for doc in docs {
+        let paths = paths_for(alloc, doc, store, &mut fresh, gate, steps)?;
+        files.push(paths)?;
+    }
+    store.append(alloc, fresh)?;
+    Ok(files)
+}
+
+/// The paths of the document: those that a store keeps, else the ones that are found now and kept among
+/// the fresh ones.
+#[tactic(auto, using(crate::proofs::Adding::held_adds, crate::proofs::Adding::fresh_adds, crate::proofs::Adding::new_adds, crate::proofs::Adding::not_held, crate::proofs::Adding::weight_none))]
+fn paths_for<G: Gate, L: Ledger>(
+    alloc: Global,
+    doc: &Document,
+    store: &PathStore,
+    fresh: &mut PathStore,
+    gate: &G,
+    steps: &mut Steps<L>,
+) -> Result<SharedPaths, IndexFault>
+    requires store { AreIndexed store.now }
+    requires fresh { AreIndexed fresh.old }
+    ensures file { IfOk result (λ file. IsIndexed (kept_of doc.now file)) }
+    ensures adds { OnOk result (Adds (docs_of store.now) doc.now fresh.old fresh.new steps.old steps.new) }
+    ensures fault { IfErr result (Refuses doc.now) }
+    ensures same { has_doc (docs_of store.now ++ docs_of fresh.old) doc.now ≡ true → steps.new ≡ steps.old }
+    ensures fewer { (weight : ℕ) → IsDocWeight doc.now weight → steps.new ≤ steps.old + weight }
+{
+    if let Some(paths) = find_shared(store, doc)? {
+        return Ok(paths);
+    }
+    if let Some(paths) = find_shared(fresh, doc)? {
+        return Ok(paths);
+    }
+    let paths = index_new(alloc, doc, fresh.len(), gate, steps)?;
+    keep_new(alloc, doc, &paths, fresh)?;
+    Ok(paths)
+}
+
+// The paths that the store keeps for the document, held once more; the one error is want of memory.
+#[tactic(auto, using(crate::proofs::Adding::finds_none))]
+fn find_shared(store: &PathStore, doc: &Document) -> Result<Option<SharedPaths>, AllocError>
+    requires { AreIndexed store.now }
+    ensures { IfOk result (Finds store.now doc.now) }
+{
+    match store.find(doc) {
+        Some(paths) => Ok(Some(paths.share()?)),
+        None => Ok(None),
+    }
+}
+
+// Keeps a copy of the document with these paths; the one error is want of memory.
+fn keep_new(
+    alloc: Global,
+    doc: &Document,
+    paths: &SharedPaths,
+    fresh: &mut PathStore,
+) -> Result<(), AllocError>
+    ensures { OnOk result (fresh.new ≡ with_doc doc.now paths.now fresh.old) }
+{
+    fresh.keep(alloc, doc.copy(alloc)?, paths.share()?)
+}
+
+/// The paths of a document that no store keeps, as the job of that number.
+fn index_new<G: Gate, L: Ledger>(
+    alloc: Global,
+    doc: &Document,
+    job: usize,
+    gate: &G,
+    steps: &mut Steps<L>,
+) -> Result<SharedPaths, IndexFault>
+    ensures file { IfOk result (λ file. IsIndexed (kept_of doc.now file)) }
+    ensures steps { IfOk result (λ file. CountsWalks file steps.old steps.new) }
+    ensures fault { IfErr result (Refuses doc.now) }
+    ensures fewer { (weight : ℕ) → IsDocWeight doc.now weight → steps.new ≤ steps.old + weight }
+{
+    gate.enter(job);
+    let found = index_one(alloc, doc, steps);
+    gate.leave(job);
+    match found {
+        Ok(paths) => Ok(SharedPaths::of(alloc, paths)?),
+        Err(stop) => Err(refusal(alloc, doc, stop)),
+    }
+}
+
+// The paths of the document's graph.
+#[tactic(auto, using(crate::proofs::Adding::weight_none))]
+fn index_one<L: Ledger>(
+    alloc: Global,
+    doc: &Document,
+    steps: &mut Steps<L>,
+) -> Result<FilePaths, Stop>
+    ensures file { IfOk result (λ file. IsIndexed (kept_of doc.now file)) }
+    ensures steps { IfOk result (λ file. CountsWalks file steps.old steps.new) }
+    ensures fault { IfErr result (Stops doc.now) }
+    ensures fewer { (weight : ℕ) → IsDocWeight doc.now weight → steps.new ≤ steps.old + weight }
+{
+    let graph = read_document(alloc, doc)?;
+    match enumerate(alloc, graph, steps) {
+        Ok(paths) => Ok(paths),
+        Err(PathsFault::Heavy(weight)) => Err(Stop::Fault(FileFault::Heavy(weight))),
+        Err(PathsFault::NoMemory) => Err(Stop::NoMemory),
+    }
+}
+
+// The answer where the work on the document ended so.
+fn refusal(alloc: Global, doc: &Document, stop: Stop) -> IndexFault
+    requires { Stops doc.now stop }
+    ensures { Refuses doc.now result }
+{
+    match stop {
+        Stop::NoMemory => IndexFault::NoMemory,
+        Stop::Fault(fault) => match Name::of(alloc, doc.path()) {
+            Ok(path) => IndexFault::BadFile { path, fault },
+            Err(_) => IndexFault::NoMemory,
+        },
+    }
+}
