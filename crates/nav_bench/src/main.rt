@@ -4,12 +4,17 @@
 //! The case stands on the first line of standard input, and what it needs behind it. `parse N` reads the
 //! rest as a module of the Python subset N times, and prints how many statements it has, or its fault.
 //! `translate N` reads it N times and makes its graph each time, as that of `module.py`, and prints how
-//! many nodes and edges that has, or the fault.
+//! many nodes and edges that has, or the fault. `read N` reads the rest as a graph file N times; `walk N`
+//! also finds its paths each time, and prints its weight and how many paths it has. `index N` makes N
+//! documents of the rest and indexes them; `again N` then does so ten times more, when all are kept. Both
+//! print how many files that gave.
 #![tactic(auto)]
 
-use py_graph::{TransFault, translate};
-use py_subset::{Module, PyFault, parse};
-use std::alloc::Global;
+mod graphs;
+mod modules;
+
+use graphs::{index, walk};
+use modules::{parsed, translated};
 use std::io::{Read, Result as IoResult};
 use std::str;
 
@@ -18,35 +23,54 @@ fn times(case: &[u8], word: &str) -> Option<u32> {
     str::from_utf8(case).ok()?.strip_prefix(word)?.parse().ok()
 }
 
-/// Reads the text so many times, and once at least, and gives what the last time gave.
-fn parsed(alloc: Global, text: &[u8], times: u32) -> Result<Module, PyFault> {
-    if text.len() > u32::MAX as usize {
-        return Err(PyFault::NoMemory);
+/// Prints the weight and the number of paths of a file.
+fn print_walked(rt: &HostRuntime, walked: Option<(u32, usize)>) -> IoResult<()> {
+    match walked {
+        Some((weight, paths)) => println!(rt; "weight: {weight}, paths: {paths}"),
+        None => println!(rt; "no graph"),
     }
-    for _ in 1..times {
-        parse(alloc, text)?;
-    }
-    parse(alloc, text)
 }
 
-/// Reads the text and makes its graph so many times, and once at least: the last graph's numbers of
-/// nodes and edges.
-fn translated(alloc: Global, text: &[u8], times: u32) -> Result<(u32, u32), TransFault> {
-    let mut counts = graph_of(alloc, text)?;
-    for _ in 1..times {
-        counts = graph_of(alloc, text)?;
+/// Prints how many files were indexed.
+fn print_indexed(rt: &HostRuntime, files: Option<usize>) -> IoResult<()> {
+    match files {
+        Some(files) => println!(rt; "files: {files}"),
+        None => println!(rt; "not indexed"),
     }
-    Ok(counts)
 }
 
-fn graph_of(alloc: Global, text: &[u8]) -> Result<(u32, u32), TransFault> {
-    match parsed(alloc, text, 1) {
-        Ok(module) => {
-            let graph = translate(alloc, "module.py", &module)?;
-            Ok((graph.node_count(), graph.edge_count()))
-        }
-        Err(_) => Err(TransFault::NoMemory),
+/// Runs the case on the text and prints what it gave.
+fn run_case(rt: &HostRuntime, case: &[u8], text: &[u8]) -> IoResult<()> {
+    let alloc = rt.alloc();
+    if let Some(times) = times(case, "parse ") {
+        return match parsed(alloc, text, times) {
+            Ok(module) => println!(rt; "statements: {}", module.body.len()),
+            Err(fault) => println!(rt; "fault: {fault:?}"),
+        };
     }
+    if let Some(times) = times(case, "translate ") {
+        return match translated(alloc, text, times) {
+            Ok((nodes, edges)) => println!(rt; "nodes: {nodes}, edges: {edges}"),
+            Err(fault) => println!(rt; "fault: {fault:?}"),
+        };
+    }
+    if let Some(times) = times(case, "read ") {
+        let read = walk(alloc, text, times, false);
+        return print_walked(rt, read);
+    }
+    if let Some(times) = times(case, "walk ") {
+        let found = walk(alloc, text, times, true);
+        return print_walked(rt, found);
+    }
+    if let Some(count) = times(case, "index ") {
+        let files = index(alloc, text, count, 0);
+        return print_indexed(rt, files);
+    }
+    if let Some(count) = times(case, "again ") {
+        let files = index(alloc, text, count, 10);
+        return print_indexed(rt, files);
+    }
+    println!(rt; "no such case")
 }
 
 fn main(rt: HostRuntime) -> IoResult<()> {
@@ -61,17 +85,5 @@ fn main(rt: HostRuntime) -> IoResult<()> {
     } else {
         &input[end..]
     };
-    if let Some(times) = times(&input[..end], "parse ") {
-        return match parsed(rt.alloc(), text, times) {
-            Ok(module) => println!(rt; "statements: {}", module.body.len()),
-            Err(fault) => println!(rt; "fault: {fault:?}"),
-        };
-    }
-    if let Some(times) = times(&input[..end], "translate ") {
-        return match translated(rt.alloc(), text, times) {
-            Ok((nodes, edges)) => println!(rt; "nodes: {nodes}, edges: {edges}"),
-            Err(fault) => println!(rt; "fault: {fault:?}"),
-        };
-    }
-    println!(rt; "no such case")
+    run_case(&rt, &input[..end], text)
 }

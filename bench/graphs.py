@@ -1,0 +1,73 @@
+#!/usr/bin/env python3
+"""Times the finding of a file's paths and the indexing of documents, and prints one table; every figure is of this one run.
+
+usage: bench/graphs.py [PROGRAM]     (crates/nav_bench/out/nav_bench, as bench/graphs.sh leaves it)
+
+Walks are timed without the reading of the graph: the time of `read` is taken off that of `walk`. Documents
+are timed through the call that indexes them, over a store that keeps none of them and over one that keeps all.
+"""
+
+import json
+import subprocess
+import sys
+import time
+
+PROGRAM = sys.argv[1] if len(sys.argv) > 1 else "crates/nav_bench/out/nav_bench"
+DOCUMENTS = 1_000
+
+
+def ladder(scopes):
+    """A reference before scopes, each next one reached by two edges: its text, and how many walks it has."""
+    nodes = [{"kind": "push", "symbol": "x", "reference": True}] + [{"kind": "scope"}] * scopes
+    edges = [[0, 1, 0]] + [[n, n + 1, 0] for n in range(1, scopes) for _ in range(2)]
+    return json.dumps({"nodes": nodes, "edges": edges}), 2**scopes - 1
+
+
+def groups(count):
+    """Groups of five nodes behind the root, one after the other; each node ends one walk."""
+    nodes, edges = [], []
+    for group in range(count):
+        first = 5 * group
+        nodes += [
+            {"kind": "pop", "symbol": f"m{group}", "definition": True},
+            {"kind": "scope"},
+            {"kind": "push", "symbol": "p"},
+            {"kind": "pop", "symbol": "p"},
+            {"kind": "pop", "symbol": f"z{group}", "definition": True},
+        ]
+        edges += [["root", first, 0]] + [[first + n, first + n + 1, 0] for n in range(4)]
+    return json.dumps({"nodes": nodes, "edges": edges}), 5 * count
+
+
+def answer(case, times, text):
+    done = subprocess.run([PROGRAM], input=f"{case} {times}\n{text}".encode(), stdout=subprocess.PIPE, check=True)
+    return done.stdout.decode().strip()
+
+
+def seconds(case, times, text):
+    """The least of three runs."""
+    took = []
+    for _ in range(3):
+        start = time.perf_counter()
+        answer(case, times, text)
+        took.append(time.perf_counter() - start)
+    return min(took)
+
+
+def main():
+    for name, (text, walks), times in [("a ladder of 16 scopes", ladder(16), 5), ("500 nodes in groups of five", groups(100), 500)]:
+        said = answer("walk", 1, text)
+        read = seconds("read", times, text) / times
+        found = seconds("walk", times, text) / times
+        line = f"{name:30} {said:34} {walks / (found - read) / 1e6:6.2f} million walks/s"
+        print(f"{line}, {(found - read) / read:8.2f} times the reading of the file")
+    text, _ = groups(100)
+    none = seconds("index", 0, text)
+    first = seconds("index", DOCUMENTS, text) - none
+    again = (seconds("again", DOCUMENTS, text) - first - none) / 10
+    name = f"{DOCUMENTS:,} such files of {len(text):,} bytes"
+    print(f"{name:30} {DOCUMENTS / first:10,.0f} documents/s, {DOCUMENTS / again:10,.0f} documents/s where they are kept, {first / again:.0f} times as many")
+
+
+if __name__ == "__main__":
+    main()

@@ -1,0 +1,5 @@
+use Rattle.nav_bench.proofs.graphs.index.Given as goal
+
+-- the ledger is the one that was opened here
+abbrev pub ghosts-indexed : goal.ghosts-indexed
+ghosts-indexed a = record { name = a.blank.name; parts = a.blank.parts }

@@ -1,0 +1,89 @@
+//! The cases of graph files.
+
+ghost use Rattle.std.specs.Prelude.{◌≡◌, ◌<◌};
+
+use file_paths::enumerate;
+use graph_json::read_graph;
+use graph_nodes::{FileGraph, Steps};
+use index_gate::{IndexFault, index_all};
+use nav_io::Unguarded;
+use path_store::{Document, PathStore};
+use std::alloc::Global;
+use std::marker::Brand;
+use std::sync::ledger::{Blank, Ledger};
+
+/// Reads the text as a graph file.
+fn graph(alloc: Global, text: &[u8]) -> Option<FileGraph> {
+    if text.len() > u32::MAX as usize {
+        return None;
+    }
+    read_graph(alloc, text).ok()
+}
+
+/// Reads the text so many times as a graph file, and finds all its paths each time where they are asked
+/// for: the last file's weight and number of paths, 0 and 0 where no paths are asked for. `None` where
+/// there is no graph, or it is too heavy.
+pub fn walk(alloc: Global, text: &[u8], times: u32, walks: bool) -> Option<(u32, usize)> {
+    walked::<Brand>(alloc, text, times, walks, Blank::new(1))
+}
+
+fn walked<L: Ledger>(
+    alloc: Global,
+    text: &[u8],
+    times: u32,
+    walks: bool,
+    blank: Blank,
+) -> Option<(u32, usize)>
+    requires name { blank.name ≡ L.name }
+    requires parts { blank.parts ≡ L.parts }
+    requires some { 0 < blank.parts }
+{
+    let mut steps = Steps::<L>::new(blank);
+    let mut last = (0, 0);
+    for _ in 0..times {
+        let graph = graph(alloc, text)?;
+        if walks {
+            let file = enumerate(alloc, graph, &mut steps).ok()?;
+            last = (file.weight(), file.paths().len());
+        }
+    }
+    Some(last)
+}
+
+/// So many documents of this text, each at a path of its own.
+fn documents(alloc: Global, text: &[u8], count: u32) -> Option<Vec<Document>> {
+    let mut docs = Vec::new(alloc);
+    for number in 0..count {
+        let path = format!(in alloc; "f{number}.sg.json").ok()?;
+        let doc = Document::new(alloc, path.as_str(), text).ok()?;
+        docs.push(doc).ok()?;
+    }
+    Some(docs)
+}
+
+/// Indexes so many documents of this text over a store that keeps none, and then so many times again:
+/// how many files that gave the last time.
+pub fn index(alloc: Global, text: &[u8], count: u32, again: u32) -> Option<usize> {
+    indexed::<Brand>(alloc, text, count, again, Blank::new(1))
+}
+
+fn indexed<L: Ledger>(
+    alloc: Global,
+    text: &[u8],
+    count: u32,
+    again: u32,
+    blank: Blank,
+) -> Option<usize>
+    requires name { blank.name ≡ L.name }
+    requires parts { blank.parts ≡ L.parts }
+    requires some { 0 < blank.parts }
+{
+    let docs = documents(alloc, text, count)?;
+    let mut store = PathStore::new(alloc);
+    let mut steps = Steps::<L>::new(blank);
+    let mut files = index_all(&(), alloc, &docs, &mut store, &Unguarded, &mut steps).ok()?;
+    for _ in 0..again {
+        files = index_all(&(), alloc, &docs, &mut store, &Unguarded, &mut steps).ok()?;
+    }
+    Some(files.len())
+}

@@ -1,0 +1,36 @@
+//! The cases of Python modules.
+
+use py_graph::{TransFault, translate};
+use py_subset::{Module, PyFault, parse};
+use std::alloc::Global;
+
+/// Reads the text so many times, and once at least, and gives what the last time gave.
+pub fn parsed(alloc: Global, text: &[u8], times: u32) -> Result<Module, PyFault> {
+    if text.len() > u32::MAX as usize {
+        return Err(PyFault::NoMemory);
+    }
+    for _ in 1..times {
+        parse(alloc, text)?;
+    }
+    parse(alloc, text)
+}
+
+/// Reads the text and makes its graph so many times, and once at least: the last graph's numbers of
+/// nodes and edges.
+pub fn translated(alloc: Global, text: &[u8], times: u32) -> Result<(u32, u32), TransFault> {
+    let mut counts = graph_of(alloc, text)?;
+    for _ in 1..times {
+        counts = graph_of(alloc, text)?;
+    }
+    Ok(counts)
+}
+
+fn graph_of(alloc: Global, text: &[u8]) -> Result<(u32, u32), TransFault> {
+    match parsed(alloc, text, 1) {
+        Ok(module) => {
+            let graph = translate(alloc, "module.py", &module)?;
+            Ok((graph.node_count(), graph.edge_count()))
+        }
+        Err(_) => Err(TransFault::NoMemory),
+    }
+}
