@@ -4,6 +4,7 @@ ghost use Rattle.grants.specs.Steps.{is_cut, verdict_at};
 
 use crate::rule_set::RuleSet;
 use std::alloc::{AllocError, Global};
+use std::fmt;
 use std::marker::Model;
 
 /// Why a grant or a deny can't be taken away.
@@ -13,6 +14,15 @@ pub enum GrantFault {
     Absent,
     /// Memory was wanting.
     NoMemory,
+}
+
+impl fmt::Display for GrantFault {
+    fn fmt<W: fmt::Write>(&self, f: &mut fmt::Formatter<W>) -> fmt::Result {
+        f.write_str(match self {
+            GrantFault::Absent => "there is none of this user and prefix",
+            GrantFault::NoMemory => "memory was refused",
+        })
+    }
 }
 
 /// The grants and the denies, each a set of pairs of a user and a prefix.

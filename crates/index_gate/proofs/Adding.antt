@@ -1,19 +1,18 @@
 -- What one document adds.
-use Rattle.std.specs.Prelude.{ℕ, ◌+◌, ◌≤◌, Bool, true, false, ◌||◌, List, [], ◌∷◌, ◌++◌, None, Some, Result, Ok, MatchResult}
+use Rattle.std.specs.Prelude.{ℕ, ◌+◌, ◌≤◌, Bool, true, false, List, [], ◌∷◌, ◌++◌, None, Some, Result, Ok, MatchResult}
 use Rattle.std.specs.Option.{is_some}
 use Rattle.std.proofs.Common.{◌≡◌, refl, sym, subst, ◌∙◌, true≢false, inl, inr, arith}
-use Rattle.std.proofs.lemmas.List.Folds.{list_any-append}
 use Rattle.graph_nodes.specs.Graph.{Graph}
 use Rattle.partial_path.specs.PathSets.{FileRules}
 use Rattle.partial_path.specs.Walks.{IsWeight}
 use Rattle.file_paths.specs.Finds.{AddsWalks}
-use Rattle.path_store.specs.Documents.{Doc, same_doc}
+use Rattle.path_store.specs.Documents.{Doc}
 use Rattle.path_store.specs.Store.{Kept, kept_of, find_doc, with_doc}
 use Rattle.index_gate.specs.declared.fault.FileFault.{FileFault}
 use Rattle.index_gate.specs.Graphs.{graph_of_doc}
 use Rattle.index_gate.specs.Indexed.{IsIndexed, AreIndexed, docs_of, has_doc, CountsWalks, IsDocWeight}
 use Rattle.index_gate.specs.Stops.{Finds, Adds}
-use Rattle.index_gate.proofs.Held.{held_none, held_some, held_found, found_indexed}
+use Rattle.index_gate.proofs.Held.{held_none, held_some, held_found, found_indexed, has_left, has_right, has_neither}
 
 -- what a store finds
 pub finds_some : (ks : List Kept) (doc : Doc) (file : FileRules) → Some file ≡ find_doc doc ks → AreIndexed ks → Finds ks doc (Some file)
@@ -22,38 +21,20 @@ finds_some ks doc file e all = (held_some doc ks file (sym e), found_indexed doc
 pub finds_none : (ks : List Kept) (doc : Doc) → None ≡ find_doc doc ks → Finds ks doc None
 finds_none ks doc e = held_none doc ks (sym e)
 
-has_both : (b : Bool) (xs ys : List Doc) (doc : Doc) → (has_doc xs doc || has_doc ys doc) ≡ b → has_doc (xs ++ ys) doc ≡ b
-has_both b xs ys doc e = list_any-append (λ (other : Doc). same_doc other doc) xs ys ∙ e
-
-or_left : (a b : Bool) → a ≡ true → (a || b) ≡ true
-or_left true b e = refl
-or_left false b e = cc
-
-or_right : (a b : Bool) → b ≡ true → (a || b) ≡ true
-or_right true b e = refl
-or_right false b e = e
-
-or_none : (a b : Bool) → a ≡ false → b ≡ false → (a || b) ≡ false
-or_none true b e f = e
-or_none false b e f = f
-
 -- a document that the store holds, or that was added before
 pub held_adds : (store fresh : List Kept) (doc : Doc) (steps : ℕ) → has_doc (docs_of store) doc ≡ true → Adds (docs_of store) doc fresh fresh steps steps
 held_adds store fresh doc steps e = inl record {
-  there = has_both true (docs_of store) (docs_of fresh) doc (or_left (has_doc (docs_of store) doc) (has_doc (docs_of fresh) doc) e);
+  there = has_left (docs_of store) (docs_of fresh) doc e;
   pairs = refl;
   steps = refl;
 }
 
 pub fresh_adds : (store fresh : List Kept) (doc : Doc) (steps : ℕ) → has_doc (docs_of fresh) doc ≡ true → Adds (docs_of store) doc fresh fresh steps steps
 fresh_adds store fresh doc steps e = inl record {
-  there = has_both true (docs_of store) (docs_of fresh) doc (or_right (has_doc (docs_of store) doc) (has_doc (docs_of fresh) doc) e);
+  there = has_right (docs_of store) (docs_of fresh) doc e;
   pairs = refl;
   steps = refl;
 }
-
-neither : (store fresh : List Kept) (doc : Doc) → has_doc (docs_of store) doc ≡ false → has_doc (docs_of fresh) doc ≡ false → has_doc (docs_of store ++ docs_of fresh) doc ≡ false
-neither store fresh doc e f = has_both false (docs_of store) (docs_of fresh) doc (or_none (has_doc (docs_of store) doc) (has_doc (docs_of fresh) doc) e f)
 
 -- another document
 with_other : (b : Bool) (doc : Doc) (file : FileRules) (ks : List Kept) → is_some (find_doc doc ks) ≡ b → b ≡ false → with_doc doc file ks ≡ ks ++ kept_of doc file ∷ []
@@ -62,7 +43,7 @@ with_other b doc file ks e f = rw (e ∙ f) refl
 pub new_adds : (store fresh new : List Kept) (doc : Doc) (file : FileRules) (before after : ℕ) → has_doc (docs_of store) doc ≡ false → has_doc (docs_of fresh) doc ≡ false
     → IsIndexed (kept_of doc file) → CountsWalks file before after → new ≡ with_doc doc file fresh → Adds (docs_of store) doc fresh new before after
 new_adds store fresh new doc file before after e f indexed steps put = inr record {
-  absent = neither store fresh doc e f;
+  absent = has_neither (docs_of store) (docs_of fresh) doc e f;
   file = file;
   indexed = indexed;
   pairs = put ∙ with_other (has_doc (docs_of fresh) doc) doc file fresh (held_found doc fresh) f;
@@ -72,7 +53,7 @@ new_adds store fresh new doc file before after e f indexed steps put = inr recor
 -- it isn't held, so nothing need be shown of one that is
 pub not_held : (store fresh : List Kept) (doc : Doc) (before after : ℕ) → has_doc (docs_of store) doc ≡ false → has_doc (docs_of fresh) doc ≡ false
     → has_doc (docs_of store ++ docs_of fresh) doc ≡ true → after ≡ before
-not_held store fresh doc before after e f there = absurd (true≢false (sym there ∙ neither store fresh doc e f))
+not_held store fresh doc before after e f there = absurd (true≢false (sym there ∙ has_neither (docs_of store) (docs_of fresh) doc e f))
 
 -- no step, or as many as the graph weighs
 pub weight_none : (doc : Doc) (steps : ℕ) → (weight : ℕ) → IsDocWeight doc weight → steps ≤ steps + weight

@@ -4,10 +4,11 @@ use Rattle.std.specs.Option.{is_some}
 use Rattle.std.specs.List.{AllByRecursion}
 use Rattle.std.proofs.Common.{◌≡◌, refl, sym, ap, subst, ◌∙◌}
 use Rattle.std.proofs.lemmas.List.{map-append}
+use Rattle.std.proofs.lemmas.List.Folds.{list_any-append}
 use Rattle.partial_path.specs.PathSets.{FileRules}
 use Rattle.path_store.specs.Documents.{Doc, same_doc}
 use Rattle.path_store.specs.Store.{Kept, kept_of, find_doc, StandsIn}
-use Rattle.path_store.proofs.Members.{found}
+use Rattle.path_store.proofs.Members.{found, same_itself}
 use Rattle.index_gate.specs.Indexed.{IsIndexed, AreIndexed, docs_of, has_doc}
 
 -- a document is held exactly where it is found
@@ -24,6 +25,31 @@ held_none doc ks e = sym (held_found doc ks) ∙ ap is_some e
 
 pub held_some : (doc : Doc) (ks : List Kept) (paths : FileRules) → find_doc doc ks ≡ Some paths → has_doc (docs_of ks) doc ≡ true
 held_some doc ks paths e = sym (held_found doc ks) ∙ ap is_some e
+
+or_left : (a b : Bool) → a ≡ true → (a || b) ≡ true
+or_left true b e = refl
+or_left false b e = cc
+
+or_right : (a b : Bool) → b ≡ true → (a || b) ≡ true
+or_right true b e = refl
+or_right false b e = e
+
+or_none : (a b : Bool) → a ≡ false → b ≡ false → (a || b) ≡ false
+or_none true b e f = e
+or_none false b e f = f
+
+-- one of these documents, or of those
+pub has_left : (xs ys : List Doc) (doc : Doc) → has_doc xs doc ≡ true → has_doc (xs ++ ys) doc ≡ true
+has_left xs ys doc e = list_any-append (λ (other : Doc). same_doc other doc) xs ys ∙ or_left (has_doc xs doc) (has_doc ys doc) e
+
+pub has_right : (xs ys : List Doc) (doc : Doc) → has_doc ys doc ≡ true → has_doc (xs ++ ys) doc ≡ true
+has_right xs ys doc e = list_any-append (λ (other : Doc). same_doc other doc) xs ys ∙ or_right (has_doc xs doc) (has_doc ys doc) e
+
+pub has_neither : (xs ys : List Doc) (doc : Doc) → has_doc xs doc ≡ false → has_doc ys doc ≡ false → has_doc (xs ++ ys) doc ≡ false
+has_neither xs ys doc e f = list_any-append (λ (other : Doc). same_doc other doc) xs ys ∙ or_none (has_doc xs doc) (has_doc ys doc) e f
+
+pub has_itself : (doc : Doc) (more : List Doc) → has_doc (doc ∷ more) doc ≡ true
+has_itself doc more = or_left (same_doc doc doc) (has_doc more doc) (same_itself doc)
 
 -- what all pairs are, the one in the middle is
 middle : (P : Kept → Type 0) (before : List Kept) (k : Kept) (after : List Kept) → AllByRecursion P (before ++ k ∷ after) → P k

@@ -9,6 +9,10 @@ use Rattle.path_store.specs.Store.{Kept, find_doc, with_doc, with_docs}
 use Rattle.index_gate.specs.Indexed.{docs_of, has_doc, missing}
 use Rattle.index_gate.proofs.Held.{held_found, docs_more}
 
+-- one document more
+pub missing_if : (b : Bool) (held docs : List Doc) (doc : Doc) → has_doc held doc ≡ b → missing held (doc ∷ docs) ≡ cond b (missing held docs) (doc ∷ missing (held ++ doc ∷ []) docs)
+missing_if b held docs doc e = rw e refl
+
 -- documents that aren't held, no one twice
 abbrev pub AreNew : List Doc → List Doc → Type 0
 AreNew held [] = ⊤

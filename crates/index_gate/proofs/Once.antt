@@ -1,36 +1,18 @@
 -- Documents that were added are missing no more; a document has at most one fault.
-use Rattle.std.specs.Prelude.{ℕ, Bool, true, false, cond, ◌||◌, List, [], ◌∷◌, ◌++◌, length, drop, Result, Ok, Err}
+use Rattle.std.specs.Prelude.{ℕ, Bool, true, false, cond, List, [], ◌∷◌, ◌++◌, length, drop, Result, Ok, Err}
 use Rattle.std.proofs.Common.{◌≡◌, refl, sym, ap, subst, ◌∙◌, inl, inr}
 use Rattle.std.proofs.lemmas.List.{append_assoc, append-nil}
 use Rattle.std.proofs.Math.Seq.{drop-append_seam}
-use Rattle.std.proofs.lemmas.List.Folds.{list_any-append}
 use Rattle.graph_nodes.specs.Graph.{Graph}
 use Rattle.partial_path.specs.Walks.{IsHeavier}
 use Rattle.file_paths.specs.declared.fault.TheConstants.{MAX_WEIGHT}
-use Rattle.path_store.specs.Documents.{Doc, same_doc}
+use Rattle.path_store.specs.Documents.{Doc}
 use Rattle.path_store.specs.Store.{Kept}
-use Rattle.path_store.proofs.Members.{same_itself}
 use Rattle.index_gate.specs.declared.fault.FileFault.{FileFault}
 use Rattle.index_gate.specs.Graphs.{graph_of_doc}
 use Rattle.index_gate.specs.Indexed.{HasFault, HasNoFault, has_doc, missing, docs_of, AddsMissing, CountsAllWalks}
-use Rattle.index_gate.proofs.Held.{docs_both}
-
-or_left : (a b : Bool) → a ≡ true → (a || b) ≡ true
-or_left true b e = refl
-or_left false b e = cc
-
-or_right : (a b : Bool) → b ≡ true → (a || b) ≡ true
-or_right true b e = refl
-or_right false b e = e
-
-has_left : (xs ys : List Doc) (doc : Doc) → has_doc xs doc ≡ true → has_doc (xs ++ ys) doc ≡ true
-has_left xs ys doc e = list_any-append (λ (other : Doc). same_doc other doc) xs ys ∙ or_left (has_doc xs doc) (has_doc ys doc) e
-
-has_right : (xs ys : List Doc) (doc : Doc) → has_doc ys doc ≡ true → has_doc (xs ++ ys) doc ≡ true
-has_right xs ys doc e = list_any-append (λ (other : Doc). same_doc other doc) xs ys ∙ or_right (has_doc xs doc) (has_doc ys doc) e
-
-has_itself : (doc : Doc) (more : List Doc) → has_doc (doc ∷ more) doc ≡ true
-has_itself doc more = or_left (same_doc doc doc) (has_doc more doc) (same_itself doc)
+use Rattle.index_gate.proofs.Held.{docs_both, has_left, has_right, has_itself}
+use Rattle.index_gate.proofs.Missing.{missing_if}
 
 -- each of the documents is held, or among those that are missing
 passed_if : (b : Bool) (all docs : List Doc) (doc : Doc) → has_doc all doc ≡ true → missing all docs ≡ [] → missing all (doc ∷ docs) ≡ []
@@ -46,13 +28,10 @@ held_if false held docs doc e none more =
     passed_if true (held ++ doc ∷ rest) docs doc (has_right held (doc ∷ rest) doc (has_itself doc rest))
     (subst (λ ds. missing ds docs ≡ []) (append_assoc held (doc ∷ []) rest) more)
 
-missing_is : (b : Bool) (held docs : List Doc) (doc : Doc) → has_doc held doc ≡ b → missing held (doc ∷ docs) ≡ cond b (missing held docs) (doc ∷ missing (held ++ doc ∷ []) docs)
-missing_is b held docs doc e = rw e refl
-
 pub added_held : (held docs : List Doc) → missing (held ++ missing held docs) docs ≡ []
 added_held held [] = refl
 added_held held (doc ∷ docs) =
-    subst (λ ds. missing (held ++ ds) (doc ∷ docs) ≡ []) (sym (missing_is (has_doc held doc) held docs doc refl))
+    subst (λ ds. missing (held ++ ds) (doc ∷ docs) ≡ []) (sym (missing_if (has_doc held doc) held docs doc refl))
     (held_if (has_doc held doc) held docs doc refl (added_held held docs) (added_held (held ++ doc ∷ []) docs))
 
 same_fault : (a b : FileFault) (r : Result Graph FileFault) → r ≡ Err a → r ≡ Err b → a ≡ b

@@ -12,7 +12,7 @@ use Rattle.index_gate.specs.declared.fault.IndexFault.TheVariants as fault
 use Rattle.index_gate.specs.Indexed.{IsIndexed, AreIndexed, AreFilesOf, HasNoFault, HasCause, docs_of, has_doc, missing, AddsMissing, AddsSome, CountsAllWalks, CountsWalks, IsDocWeight, AreDocWeights}
 use Rattle.index_gate.specs.Stops.{Refuses, Adds, AddsNone, AddsOne}
 use Rattle.index_gate.proofs.Held.{indexed_more, indexed_both, indexed_some, docs_more, docs_both}
-use Rattle.index_gate.proofs.Missing.{AreNew, missing_new, new_first, with_all_new}
+use Rattle.index_gate.proofs.Missing.{AreNew, missing_if, missing_new, new_first, with_all_new}
 
 -- some documents are done and have their files; what was added for them, with what is still missing of
 -- those that are left, is what is missing of all
@@ -51,9 +51,6 @@ weights_split [] ys total w = (0, total, refl, w, omega arith)
 weights_split (x ∷ xs) ys total w =
     let rest = weights_split xs ys w.1 w.3 in
     (w.0 + rest.0, rest.1, (w.0, rest.0, w.2, rest.2, refl), rest.3, let e : total ≡ w.0 + w.1 = w.4 in let f : w.1 ≡ rest.0 + rest.1 = rest.4 in omega (arith, e, f))
-
-missing_if : (b : Bool) (held docs : List Doc) (doc : Doc) → has_doc held doc ≡ b → missing held (doc ∷ docs) ≡ cond b (missing held docs) (doc ∷ missing (held ++ doc ∷ []) docs)
-missing_if b held docs doc e = rw e refl
 
 -- a document that is held is passed over
 pub passed : (held docs done left : List Doc) (files : List FileRules) (fresh new : List Kept) (before now after : ℕ) (doc : Doc) (file : FileRules)

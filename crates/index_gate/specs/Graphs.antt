@@ -1,5 +1,5 @@
 -- The graph of a document, or why it has none. What a document's paths weigh plays no part here.
-use Rattle.std.specs.Prelude.{codes, ℕ, eqb, Bool, ◌||◌, nat_lt, if◌then◌else◌, List, length, Result, Ok, Err}
+use Rattle.std.specs.Prelude.{codes, ℕ, eqb, nat_lt, if◌then◌else◌, List, length, Option, None, Some, Result, Ok, Err}
 use Rattle.std.specs.List.{ends_with}
 use Rattle.graph_nodes.specs.Graph.{Graph}
 use Rattle.graph_nodes.specs.declared.node.Node.{Node}
@@ -15,13 +15,15 @@ use Rattle.path_store.specs.Documents.{Doc}
 use Rattle.index_gate.specs.declared.fault.FileFault.{FileFault}
 use Rattle.index_gate.specs.declared.fault.FileFault.TheVariants.{UnknownKind, TooLarge, Text, Python, Named}
 use Rattle.index_gate.specs.declared.fault.TheConstants.{MAX_BYTES}
+use Rattle.index_gate.specs.declared.kind.DocumentKind.{DocumentKind}
+use Rattle.index_gate.specs.declared.kind.DocumentKind.TheVariants.{GraphFile, PythonModule}
 
--- the path of a graph file ends with `.sg.json`, that of a Python module with `.py`
-abbrev pub is_graph_path : List ℕ → Bool
-is_graph_path path = ends_with eqb path (codes ".sg.json")
-
-abbrev pub is_module_path : List ℕ → Bool
-is_module_path path = ends_with eqb path (codes ".py")
+-- the kind of the file at a path: a graph file's path ends with `.sg.json`, a Python module's with `.py`
+abbrev pub kind_of : List ℕ → Option DocumentKind
+kind_of path =
+    if ends_with eqb path (codes ".sg.json") then Some GraphFile
+    else if ends_with eqb path (codes ".py") then Some PythonModule
+    else None
 
 -- the graph that a text reads as
 abbrev pub from_text : Result (List Node × List Edge) GraphTextFault → Result Graph FileFault
@@ -38,17 +40,17 @@ abbrev pub from_module : List ℕ → Result Module PyFault → Result Graph Fil
 from_module path (Ok whole) = from_table (graph_of path whole)
 from_module path (Err fault) = Err (Python fault)
 
--- the graph of the bytes, as the path tells their kind
-unfoldable pub graph_of_kind : Doc → Result Graph FileFault
-graph_of_kind doc =
-    if is_graph_path doc.path then from_text (graph_from doc.bytes)
-    else if is_module_path doc.path then from_module doc.path (parse_of doc.bytes)
-    else Err UnknownKind
+-- the graph of the bytes of a document of this kind
+unfoldable pub graph_of_kind : DocumentKind → Doc → Result Graph FileFault
+graph_of_kind GraphFile doc = from_text (graph_from doc.bytes)
+graph_of_kind PythonModule doc = from_module doc.path (parse_of doc.bytes)
 
--- the graph of the bytes, where they are not too many
-abbrev pub graph_of_few : Doc → Result Graph FileFault
-graph_of_few doc = if nat_lt MAX_BYTES (length doc.bytes) then Err (TooLarge (length doc.bytes)) else graph_of_kind doc
+-- the graph of a document whose path tells this kind, where its bytes are not too many
+abbrev pub graph_told : Option DocumentKind → Doc → Result Graph FileFault
+graph_told None doc = Err UnknownKind
+graph_told (Some kind) doc =
+    if nat_lt MAX_BYTES (length doc.bytes) then Err (TooLarge (length doc.bytes)) else graph_of_kind kind doc
 
 -- the graph of a document: its kind is looked at first, then its size, then its bytes
 abbrev pub graph_of_doc : Doc → Result Graph FileFault
-graph_of_doc doc = if is_graph_path doc.path || is_module_path doc.path then graph_of_few doc else Err UnknownKind
+graph_of_doc doc = graph_told (kind_of doc.path) doc

@@ -22,10 +22,11 @@ use Rattle.index_gate.specs.declared.fault.IndexFault.{IndexFault}
 use Rattle.index_gate.specs.declared.fault.IndexFault.TheVariants.{BadFile, NoMemory}
 use Rattle.index_gate.specs.Graphs.{graph_of_doc}
 
--- a document has this fault: it has no graph for this reason, or its graph is too heavy
+-- a document's graph is heavier than a file may be
 abbrev pub IsTooHeavy : Doc → Type 0
 IsTooHeavy doc = (g : Graph) × (graph_of_doc doc ≡ Ok g) × IsHeavier MAX_WEIGHT g
 
+-- a document has this fault: it has no graph for this reason, or its graph is too heavy
 abbrev pub HasFault : Doc → FileFault → Type 0
 HasFault doc fault = (graph_of_doc doc ≡ Err fault) ⊎ ((fault ≡ Heavy (MAX_WEIGHT + 1)) × IsTooHeavy doc)
 

@@ -3,6 +3,7 @@ use graph_nodes::Name;
 use py_graph::TransFault;
 use py_subset::PyFault;
 use std::alloc::{AllocError, AllocFailed};
+use std::fmt;
 
 /// How many bytes a document may have.
 pub const MAX_BYTES: usize = 1_048_576;
@@ -25,6 +26,19 @@ pub enum FileFault {
     Heavy(u32),
 }
 
+impl fmt::Display for FileFault {
+    fn fmt<W: fmt::Write>(&self, f: &mut fmt::Formatter<W>) -> fmt::Result {
+        match self {
+            FileFault::UnknownKind => f.write_str("the path has no ending that is known"),
+            FileFault::TooLarge(bytes) => write!(f, "{bytes} bytes are too many"),
+            FileFault::Text(fault) => write!(f, "{fault}"),
+            FileFault::Python(fault) => write!(f, "{fault}"),
+            FileFault::Named(fault) => write!(f, "{fault}"),
+            FileFault::Heavy(_) => f.write_str("the file's walks have too many edges together"),
+        }
+    }
+}
+
 /// Why documents aren't indexed.
 #[derive(Debug, Drop)]
 pub enum IndexFault {
@@ -32,6 +46,15 @@ pub enum IndexFault {
     BadFile { path: Name, fault: FileFault },
     /// Memory was refused.
     NoMemory,
+}
+
+impl fmt::Display for IndexFault {
+    fn fmt<W: fmt::Write>(&self, f: &mut fmt::Formatter<W>) -> fmt::Result {
+        match self {
+            IndexFault::BadFile { path, fault } => write!(f, "{}: {fault}", path.as_str()),
+            IndexFault::NoMemory => f.write_str("memory was refused"),
+        }
+    }
 }
 
 impl From<AllocError> for IndexFault {

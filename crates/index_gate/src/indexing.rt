@@ -24,7 +24,11 @@ use std::sync::ledger::Ledger;
 /// store is as it was. `NoMemory` comes where memory is refused, and may come in place of any answer; then
 /// the store may keep the first of the new documents. Each document that is indexed is a job between
 /// `enter` and `leave` of the gate, with its number from 0. One step is counted for each walk made. It
-/// takes time for the documents that the store doesn't keep, and for the others that of finding them.
+/// takes time for the documents that the store doesn't keep, and for the others that of finding them. The
+/// store copies the path and the bytes of each document that it comes to keep.
+///
+/// What a document's graph is, what its faults are and which paths a graph has stands in words in
+/// `docs/DEFINITIONS.md`, and in this crate's `specs/`.
 pub fn index_all<R, G: Gate, L: Ledger>(
     _rt: &R,
     alloc: Global,

@@ -3,6 +3,7 @@
 
 mod fault;
 mod indexing;
+mod kind;
 mod laws;
 mod reading;
 mod stop;

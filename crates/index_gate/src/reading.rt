@@ -2,11 +2,12 @@ ghost use Rattle.std.specs.Prelude.{◌≡◌, ◌<◌, ◌≤◌, ◌^◌, ◌|
 ghost use Rattle.graph_json.specs.Reading.{graph_from};
 ghost use Rattle.py_subset.specs.Whole.{parse_of};
 ghost use Rattle.py_graph.specs.Modules.{graph_of};
-ghost use Rattle.index_gate.specs.Graphs.{is_graph_path, is_module_path, from_text, from_table, from_module, graph_of_kind, graph_of_doc};
+ghost use Rattle.index_gate.specs.Graphs.{from_text, from_table, from_module, graph_of_kind, graph_of_doc};
 ghost use Rattle.index_gate.specs.Indexed.{is_text_memory};
 ghost use Rattle.index_gate.specs.Stops.{Gives, text_stop};
 
 use crate::fault::{FileFault, MAX_BYTES};
+use crate::kind::{DocumentKind, kind_of};
 use crate::stop::Stop;
 use graph_json::{GraphTextFault, read_graph};
 use graph_nodes::{FileGraph, GraphFault};
@@ -19,43 +20,24 @@ use std::alloc::Global;
 pub(crate) fn read_document(alloc: Global, doc: &Document) -> Result<FileGraph, Stop>
     ensures { Gives result (graph_of_doc doc.now) }
 {
-    if !is_graph_path(doc.path()) && !is_module_path(doc.path()) {
+    let Some(kind) = kind_of(doc.path()) else {
         return Err(Stop::Fault(FileFault::UnknownKind));
-    }
+    };
     if doc.bytes().len() > MAX_BYTES {
         return Err(Stop::Fault(FileFault::TooLarge(doc.bytes().len() as u64)));
     }
-    read_kind(alloc, doc)
+    read_kind(alloc, kind, doc)
 }
 
-// Whether a file with this path is a graph file.
-#[tactic(auto, using(std::proofs::lemmas::Str::Pattern::ends_text))]
-fn is_graph_path(path: &str) -> bool
-    ensures { result ≡ is_graph_path path.now }
-{
-    path.ends_with(".sg.json")
-}
-
-// Whether a file with this path is a Python module.
-#[tactic(auto, using(std::proofs::lemmas::Str::Pattern::ends_text))]
-fn is_module_path(path: &str) -> bool
-    ensures { result ≡ is_module_path path.now }
-{
-    path.ends_with(".py")
-}
-
-// The graph of the bytes, as the path tells their kind.
+// The graph of the bytes of a document of this kind.
 #[tactic(auto, unfolding(crate::specs::Graphs::graph_of_kind))]
-fn read_kind(alloc: Global, doc: &Document) -> Result<FileGraph, Stop>
+fn read_kind(alloc: Global, kind: DocumentKind, doc: &Document) -> Result<FileGraph, Stop>
     requires few { length doc.now.bytes ≤ MAX_BYTES }
-    ensures { Gives result (graph_of_kind doc.now) }
+    ensures { Gives result (graph_of_kind kind doc.now) }
 {
-    if is_graph_path(doc.path()) {
-        read_text(alloc, doc.bytes())
-    } else if is_module_path(doc.path()) {
-        read_module(alloc, doc.path(), doc.bytes())
-    } else {
-        Err(Stop::Fault(FileFault::UnknownKind))
+    match kind {
+        DocumentKind::GraphFile => read_text(alloc, doc.bytes()),
+        DocumentKind::PythonModule => read_module(alloc, doc.path(), doc.bytes()),
     }
 }
 

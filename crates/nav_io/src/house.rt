@@ -5,6 +5,7 @@ ghost use Rattle.nav_io.specs.Told.{append_told, HasOut};
 
 use crate::{Failed, Sink, Source};
 use std::alloc::Global;
+use std::fmt;
 
 /// Gives out pairs of a source and a sink, one for each connection, and takes them back.
 pub trait Door {
@@ -50,6 +51,15 @@ pub enum HouseFault {
     Failed,
     /// Memory was wanting.
     NoMemory,
+}
+
+impl fmt::Display for HouseFault {
+    fn fmt<W: fmt::Write>(&self, f: &mut fmt::Formatter<W>) -> fmt::Result {
+        f.write_str(match self {
+            HouseFault::Failed => "the outside refused the call",
+            HouseFault::NoMemory => "memory was refused",
+        })
+    }
 }
 
 /// Gives out doors and takes them back.

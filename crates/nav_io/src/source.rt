@@ -3,9 +3,17 @@ ghost use Rattle.std.specs.Prelude.{◌≡◌, ◌<◌, ◌≤◌, ℕ, List, Op
 ghost use Rattle.std.specs.Io.KnownBytes.{prepend_known, IsAtEnd};
 ghost use Rattle.nav_io.specs.Faults.{HasRisen};
 
+use std::fmt;
+
 /// The outside refused a call; the fault is counted where it occurred.
 #[derive(Clone, Copy, Debug, PartialEq, Eq)]
 pub struct Failed;
+
+impl fmt::Display for Failed {
+    fn fmt<W: fmt::Write>(&self, f: &mut fmt::Formatter<W>) -> fmt::Result {
+        f.write_str("the outside refused the call")
+    }
+}
 
 /// What bytes are read from, as a file, a peer or a list in memory.
 pub trait Source {

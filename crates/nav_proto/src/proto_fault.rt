@@ -1,5 +1,6 @@
 use crate::ReplyText;
 use std::alloc::{AllocError, AllocFailed};
+use std::fmt;
 
 /// Why a line is no request.
 #[derive(Debug, Drop)]
@@ -10,6 +11,16 @@ pub enum ProtoFault {
     BadRequest(ReplyText),
     /// Memory was refused.
     NoMemory,
+}
+
+impl fmt::Display for ProtoFault {
+    fn fmt<W: fmt::Write>(&self, f: &mut fmt::Formatter<W>) -> fmt::Result {
+        match self {
+            ProtoFault::BadJson => f.write_str("the line isn't JSON"),
+            ProtoFault::BadRequest(field) => write!(f, "the field {} is wrong", field.as_str()),
+            ProtoFault::NoMemory => f.write_str("memory was refused"),
+        }
+    }
 }
 
 impl From<AllocError> for ProtoFault {

@@ -2,6 +2,7 @@
 
 use crate::tree::Word;
 use std::alloc::AllocError;
+use std::fmt;
 
 /// The first fault of a text, with its line, counted from 0.
 #[derive(Clone, Copy, Debug, PartialEq, Eq)]
@@ -21,6 +22,20 @@ pub enum PyFault {
     TooDeep(u32),
     /// Memory ran out.
     NoMemory,
+}
+
+impl fmt::Display for PyFault {
+    fn fmt<W: fmt::Write>(&self, f: &mut fmt::Formatter<W>) -> fmt::Result {
+        match self {
+            PyFault::NotAscii(line) => write!(f, "line {line} has a byte that isn't ASCII"),
+            PyFault::BadIndent(line) => write!(f, "line {line} goes back to no open block"),
+            PyFault::BadToken(line) => write!(f, "line {line} has no token there"),
+            PyFault::Unsupported(line) => write!(f, "line {line} has a form that is left out"),
+            PyFault::Expected(line) => write!(f, "no module goes on as line {line} does"),
+            PyFault::TooDeep(line) => write!(f, "line {line} nests too deep"),
+            PyFault::NoMemory => f.write_str("memory was refused"),
+        }
+    }
 }
 
 /// Which token it is.

@@ -1,6 +1,7 @@
 use crate::text::{PathText, UserText};
 use partial_path::SharedPaths;
 use std::alloc::AllocError;
+use std::fmt;
 
 /// How many files a version may have.
 pub const MAX_FILES: usize = 2_048;
@@ -29,7 +30,7 @@ pub enum Edit {
 }
 
 /// Why edits are refused, in the order in which the refusals are looked for.
-#[derive(Drop)]
+#[derive(Debug, Drop)]
 pub enum EditFault {
     /// Two puts or removes name this path, the least such one.
     Twice(PathText),
@@ -47,6 +48,25 @@ pub enum EditFault {
     Spent,
     /// Memory was wanting.
     NoMemory,
+}
+
+impl fmt::Display for EditFault {
+    fn fmt<W: fmt::Write>(&self, f: &mut fmt::Formatter<W>) -> fmt::Result {
+        match self {
+            EditFault::Twice(path) => write!(f, "{} is put or removed twice", path.as_str()),
+            EditFault::Absent(path) => write!(f, "there is no file {}", path.as_str()),
+            EditFault::GrantAbsent(user, prefix) => {
+                write!(f, "{} has no grant of {}", user.as_str(), prefix.as_str())
+            }
+            EditFault::DenyAbsent(user, prefix) => {
+                write!(f, "{} has no deny of {}", user.as_str(), prefix.as_str())
+            }
+            EditFault::TooManyFiles(n) => write!(f, "{n} files are too many"),
+            EditFault::TooHeavy(weight) => write!(f, "a weight of {weight} is too much"),
+            EditFault::Spent => f.write_str("the versions have no more numbers"),
+            EditFault::NoMemory => f.write_str("memory was refused"),
+        }
+    }
 }
 
 impl From<AllocError> for EditFault {
