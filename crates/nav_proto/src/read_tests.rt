@@ -95,432 +95,142 @@ fn shown(alloc: Global, line: &str) -> Result<String, AllocError> {
     }
 }
 
+/// Lines, and behind an arrow what each is read as, in a few words.
+const LINES: &str = r#" => bad_json
+{ => bad_json
+{"do":"pin"} x => bad_json
+{"do":"pin",} => bad_json
+{'do':'pin'} => bad_json
+1 => bad do
+null => bad do
+[] => bad do
+"pin" => bad do
+{} => bad do
+{"do":1} => bad do
+{"do":null} => bad do
+{"do":"Pin"} => bad do
+{"do":""} => bad do
+{"do":"callers","path":"a.py","node":0} => bad do
+{"a":1} => bad do
+{"do":"pin"} => pin
+ { "do" : "pin" }  => pin
+{"d\u006f":"p\u0069n"} => pin
+{"do":"quit"} => quit
+{"do":"pin","x":1} => bad x
+{"do":"quit","user":"ann"} => bad user
+{"do":"pin","y":1,"x":1,"z":1} => bad x
+{"do":"pin","é":1,"z":1} => bad z
+{"do":"pin","b":1,"B":1} => bad B
+{"do":"hello","user":"operator"} => hello operator
+{"do":"hello","user":"a b/é"} => hello a b/é
+{"do":"hello"} => bad user
+{"do":"hello","user":""} => bad user
+{"do":"hello","user":7} => bad user
+{"do":"hello","user":null,"a":1} => bad user
+{"do":"hello","user":"ann","path":"a"} => bad path
+{"do":"grant","user":"ann","prefix":"lib"} => grant ann <lib>
+{"prefix":"","user":"ann","do":"grant"} => grant ann <>
+{"do":"revoke","user":"bob","prefix":""} => revoke bob <>
+{"do":"deny","user":"ann","prefix":"lib/a.py"} => deny ann <lib/a.py>
+{"do":"undeny","user":"ann","prefix":"app"} => undeny ann <app>
+{"do":"grant","user":"ann"} => bad prefix
+{"do":"grant","prefix":"lib"} => bad user
+{"do":"grant"} => bad user
+{"do":"grant","user":"","prefix":"/"} => bad user
+{"do":"deny","user":"ann","prefix":"lib/"} => bad prefix
+{"do":"undeny","user":"ann","prefix":"/lib","a":1} => bad prefix
+{"do":"deny","user":"ann","prefix":"","base":1} => bad base
+{"do":"define","path":"a.sg.json","node":0} => define a.sg.json node 0 within 128 48
+{"do":"define","path":"a/b","node":4294967295} => define a/b node 4294967295 within 128 48
+{"do":"references","path":"a.sg.json","line":1,"column":0} => references a.sg.json line 1 column 0 within 128 48
+{"do":"define","path":"a.py","column":3,"line":4294967295} => define a.py line 4294967295 column 3 within 128 48
+{"do":"define","path":"a.py"} => bad line
+{"do":"define","path":"a.py","column":1} => bad line
+{"do":"define","path":"a.py","line":1} => bad column
+{"do":"define","node":0} => bad path
+{"do":"define","path":"","node":0} => bad path
+{"do":"define","path":"/a","node":0} => bad path
+{"do":"define","path":"a/","node":0} => bad path
+{"do":"define","path":"a//b","node":0} => bad path
+{"do":"define","path":"./a","node":0} => bad path
+{"do":"define","path":"a/../b","node":0} => bad path
+{"do":"define","path":"..","node":0} => bad path
+{"do":"define","path":"a\nb","node":0} => bad path
+{"do":"define","path":"a\u001f","node":0} => bad path
+{"do":"define","path":".../.a/a..","node":0} => define .../.a/a.. node 0 within 128 48
+{"do":"define","path":[],"node":"0"} => bad path
+{"do":"define","path":"a","node":4294967296} => bad node
+{"do":"define","path":"a","node":-1} => bad node
+{"do":"define","path":"a","node":-0} => bad node
+{"do":"define","path":"a","node":1.0} => bad node
+{"do":"define","path":"a","node":1e3} => bad node
+{"do":"define","path":"a","node":"1"} => bad node
+{"do":"define","path":"a","node":null,"line":0,"column":0} => bad node
+{"do":"define","path":"a","node":0,"line":0,"column":0} => bad column
+{"do":"define","path":"a","line":4294967296,"column":-1} => bad line
+{"do":"define","path":"a","line":0,"column":true} => bad column
+{"do":"references","path":"a","node":0,"user":"ann"} => bad user
+{"do":"define","path":"a","node":0,"edges":1,"depth":1} => define a node 0 within 1 1
+{"do":"define","path":"a","node":0,"edges":512,"depth":96} => define a node 0 within 512 96
+{"do":"references","path":"a","line":2,"column":3,"depth":49} => references a line 2 column 3 within 128 49
+{"do":"define","path":"a","node":0,"edges":129} => define a node 0 within 129 48
+{"do":"define","path":"a","line":0,"edges":0} => bad column
+{"do":"hello","user":"ann","edges":1} => bad edges
+{"do":"define","path":"a","node":0,"edges":0} => bad edges
+{"do":"define","path":"a","node":0,"edges":513} => bad edges
+{"do":"define","path":"a","node":0,"depth":0} => bad depth
+{"do":"define","path":"a","node":0,"depth":97,"edges":null} => bad edges
+{"do":"define","path":"a","node":0,"depth":97,"a":1} => bad depth
+{"do":"commit","edits":[]} => commit
+{"do":"commit","base":3,"edits":[]} => commit on 3
+{"do":"commit","base":4294967295,"edits":[{"remove":"z.py"}]} => commit on 4294967295, remove z.py
+{"do":"commit","edits":[{"text":"","put":"a.py"}]} => commit, put a.py as <>
+{"do":"commit","edits":[{"remove":"z.py"},{"remove":"z.py"}]} => commit, remove z.py, remove z.py
+{"do":"commit"} => bad edits
+{"do":"commit","edits":{}} => bad edits
+{"do":"commit","edits":[1]} => bad edits
+{"do":"commit","edits":[{}]} => bad edits
+{"do":"commit","edits":[{"put":"a.py"}]} => bad edits
+{"do":"commit","edits":[{"text":"x"}]} => bad edits
+{"do":"commit","edits":[{"put":"a.py","text":1}]} => bad edits
+{"do":"commit","edits":[{"put":"","text":""}]} => bad edits
+{"do":"commit","edits":[{"remove":"a/"}]} => bad edits
+{"do":"commit","edits":[{"remove":null}]} => bad edits
+{"do":"commit","edits":[{"put":"a","text":"","remove":"a"}]} => bad edits
+{"do":"commit","edits":[{"remove":"a","text":""}]} => bad edits
+{"do":"commit","edits":[{"remove":"a","x":0}]} => bad edits
+{"do":"commit","edits":[{"remove":"a"},{"remove":""}],"a":1} => bad edits
+{"do":"commit","base":-1,"edits":[]} => bad base
+{"do":"commit","base":null} => bad base
+{"do":"commit","base":"3","edits":0} => bad base
+{"do":"commit","base":4294967296,"edits":[]} => bad base
+{"do":"commit","edits":[],"user":"operator"} => bad user
+{"do":"commit","edits":[{"put":"a","text":"t"}],"texts":0} => bad texts"#;
+
 #[test]
-fn no_request_is_refused(rt: HostRuntime) -> Result<(), Fail> {
-    let alloc = rt.alloc();
-    let table = [
-        ("", "bad_json"),
-        ("{", "bad_json"),
-        ("{\"do\":\"pin\"} x", "bad_json"),
-        ("{\"do\":\"pin\",}", "bad_json"),
-        ("{'do':'pin'}", "bad_json"),
-        ("1", "bad do"),
-        ("null", "bad do"),
-        ("[]", "bad do"),
-        ("\"pin\"", "bad do"),
-        ("{}", "bad do"),
-        ("{\"do\":1}", "bad do"),
-        ("{\"do\":null}", "bad do"),
-        ("{\"do\":\"Pin\"}", "bad do"),
-        ("{\"do\":\"\"}", "bad do"),
-        (
-            "{\"do\":\"callers\",\"path\":\"a.py\",\"node\":0}",
-            "bad do",
-        ),
-        ("{\"a\":1}", "bad do"),
-    ];
-    for (line, wanted) in table {
-        assert_eq!(rt; shown(alloc, line)?.as_str(), wanted, "{line}");
+fn lines_are_read(rt: HostRuntime) -> Result<(), Fail> {
+    for row in LINES.split('\n') {
+        let (line, wanted) = row.split_once(" => ").unwrap_or((row, "no arrow"));
+        assert_eq!(rt; shown(rt.alloc(), line)?.as_str(), wanted, "{line}");
     }
     Ok(())
 }
 
 #[test]
-fn pin_quit_and_hello_are_read(rt: HostRuntime) -> Result<(), Fail> {
-    let alloc = rt.alloc();
-    let table = [
-        // Without further members.
-        ("{\"do\":\"pin\"}", "pin"),
-        (" { \"do\" : \"pin\" } ", "pin"),
-        ("{\"d\\u006f\":\"p\\u0069n\"}", "pin"),
-        ("{\"do\":\"quit\"}", "quit"),
-        ("{\"do\":\"pin\",\"x\":1}", "bad x"),
-        ("{\"do\":\"quit\",\"user\":\"ann\"}", "bad user"),
-        ("{\"do\":\"pin\",\"y\":1,\"x\":1,\"z\":1}", "bad x"),
-        ("{\"do\":\"pin\",\"\":1,\"x\":1}", "bad "),
-        ("{\"do\":\"pin\",\"é\":1,\"z\":1}", "bad z"),
-        ("{\"do\":\"pin\",\"b\":1,\"B\":1}", "bad B"),
-        // Users.
-        ("{\"do\":\"hello\",\"user\":\"operator\"}", "hello operator"),
-        ("{\"do\":\"hello\",\"user\":\"a b/é\"}", "hello a b/é"),
-        ("{\"do\":\"hello\"}", "bad user"),
-        ("{\"do\":\"hello\",\"user\":\"\"}", "bad user"),
-        ("{\"do\":\"hello\",\"user\":7}", "bad user"),
-        ("{\"do\":\"hello\",\"user\":null,\"a\":1}", "bad user"),
+fn escapes_and_the_empty_name_are_read(rt: HostRuntime) -> Result<(), Fail> {
+    let rows = [
         (
-            "{\"do\":\"hello\",\"user\":\"ann\",\"path\":\"a\"}",
-            "bad path",
-        ),
-    ];
-    for (line, wanted) in table {
-        assert_eq!(rt; shown(alloc, line)?.as_str(), wanted, "{line}");
-    }
-    Ok(())
-}
-
-#[test]
-fn grants_and_denies_are_read(rt: HostRuntime) -> Result<(), Fail> {
-    let alloc = rt.alloc();
-    let table = [
-        (
-            "{\"do\":\"grant\",\"user\":\"ann\",\"prefix\":\"lib\"}",
-            "grant ann <lib>",
-        ),
-        (
-            "{\"prefix\":\"\",\"user\":\"ann\",\"do\":\"grant\"}",
-            "grant ann <>",
-        ),
-        (
-            "{\"do\":\"revoke\",\"user\":\"bob\",\"prefix\":\"\"}",
-            "revoke bob <>",
-        ),
-        (
-            "{\"do\":\"deny\",\"user\":\"ann\",\"prefix\":\"lib/a.py\"}",
-            "deny ann <lib/a.py>",
-        ),
-        (
-            "{\"do\":\"undeny\",\"user\":\"ann\",\"prefix\":\"app\"}",
-            "undeny ann <app>",
-        ),
-        ("{\"do\":\"grant\",\"user\":\"ann\"}", "bad prefix"),
-        ("{\"do\":\"grant\",\"prefix\":\"lib\"}", "bad user"),
-        ("{\"do\":\"grant\"}", "bad user"),
-        (
-            "{\"do\":\"grant\",\"user\":\"\",\"prefix\":\"/\"}",
-            "bad user",
-        ),
-        (
-            "{\"do\":\"deny\",\"user\":\"ann\",\"prefix\":\"lib/\"}",
-            "bad prefix",
-        ),
-        (
-            "{\"do\":\"undeny\",\"user\":\"ann\",\"prefix\":\"/lib\",\"a\":1}",
-            "bad prefix",
-        ),
-        (
-            "{\"do\":\"deny\",\"user\":\"ann\",\"prefix\":\"\",\"base\":1}",
-            "bad base",
-        ),
-    ];
-    for (line, wanted) in table {
-        assert_eq!(rt; shown(alloc, line)?.as_str(), wanted, "{line}");
-    }
-    Ok(())
-}
-
-#[test]
-fn queries_name_a_path_and_a_place(rt: HostRuntime) -> Result<(), Fail> {
-    let alloc = rt.alloc();
-    let table = [
-        (
-            "{\"do\":\"define\",\"path\":\"a.sg.json\",\"node\":0}",
-            "define a.sg.json node 0 within 128 48",
-        ),
-        (
-            "{\"do\":\"define\",\"path\":\"a/b\",\"node\":4294967295}",
-            "define a/b node 4294967295 within 128 48",
-        ),
-        (
-            "{\"do\":\"references\",\"path\":\"a.sg.json\",\"line\":1,\"column\":0}",
-            "references a.sg.json line 1 column 0 within 128 48",
-        ),
-        (
-            "{\"do\":\"define\",\"path\":\"a.py\",\"column\":3,\"line\":4294967295}",
-            "define a.py line 4294967295 column 3 within 128 48",
-        ),
-        ("{\"do\":\"define\",\"path\":\"a.py\"}", "bad line"),
-        (
-            "{\"do\":\"define\",\"path\":\"a.py\",\"column\":1}",
-            "bad line",
-        ),
-        (
-            "{\"do\":\"define\",\"path\":\"a.py\",\"line\":1}",
-            "bad column",
-        ),
-    ];
-    for (line, wanted) in table {
-        assert_eq!(rt; shown(alloc, line)?.as_str(), wanted, "{line}");
-    }
-    Ok(())
-}
-
-#[test]
-fn paths_of_queries_are_well_formed(rt: HostRuntime) -> Result<(), Fail> {
-    let alloc = rt.alloc();
-    let table = [
-        ("{\"do\":\"define\",\"node\":0}", "bad path"),
-        ("{\"do\":\"define\",\"path\":\"\",\"node\":0}", "bad path"),
-        ("{\"do\":\"define\",\"path\":\"/a\",\"node\":0}", "bad path"),
-        ("{\"do\":\"define\",\"path\":\"a/\",\"node\":0}", "bad path"),
-        (
-            "{\"do\":\"define\",\"path\":\"a//b\",\"node\":0}",
-            "bad path",
-        ),
-        (
-            "{\"do\":\"define\",\"path\":\"./a\",\"node\":0}",
-            "bad path",
-        ),
-        (
-            "{\"do\":\"define\",\"path\":\"a/../b\",\"node\":0}",
-            "bad path",
-        ),
-        ("{\"do\":\"define\",\"path\":\"..\",\"node\":0}", "bad path"),
-        (
-            "{\"do\":\"define\",\"path\":\"a\\nb\",\"node\":0}",
-            "bad path",
-        ),
-        (
-            "{\"do\":\"define\",\"path\":\"a\\u001f\",\"node\":0}",
-            "bad path",
-        ),
-        (
-            "{\"do\":\"define\",\"path\":\".../.a/a..\",\"node\":0}",
-            "define .../.a/a.. node 0 within 128 48",
-        ),
-        (
-            "{\"do\":\"define\",\"path\":\"a b\\\\c\\u007f\",\"node\":0}",
-            "define a b\\c\u{7f} node 0 within 128 48",
-        ),
-        ("{\"do\":\"define\",\"path\":[],\"node\":\"0\"}", "bad path"),
-    ];
-    for (line, wanted) in table {
-        assert_eq!(rt; shown(alloc, line)?.as_str(), wanted, "{line}");
-    }
-    Ok(())
-}
-
-#[test]
-fn places_of_queries_are_whole_numbers_below_2_to_the_32(rt: HostRuntime) -> Result<(), Fail> {
-    let alloc = rt.alloc();
-    let table = [
-        (
-            "{\"do\":\"define\",\"path\":\"a\",\"node\":4294967296}",
-            "bad node",
-        ),
-        ("{\"do\":\"define\",\"path\":\"a\",\"node\":-1}", "bad node"),
-        ("{\"do\":\"define\",\"path\":\"a\",\"node\":-0}", "bad node"),
-        (
-            "{\"do\":\"define\",\"path\":\"a\",\"node\":1.0}",
-            "bad node",
-        ),
-        (
-            "{\"do\":\"define\",\"path\":\"a\",\"node\":1e3}",
-            "bad node",
-        ),
-        (
-            "{\"do\":\"define\",\"path\":\"a\",\"node\":\"1\"}",
-            "bad node",
-        ),
-        (
-            "{\"do\":\"define\",\"path\":\"a\",\"node\":null,\"line\":0,\"column\":0}",
-            "bad node",
-        ),
-    ];
-    for (line, wanted) in table {
-        assert_eq!(rt; shown(alloc, line)?.as_str(), wanted, "{line}");
-    }
-    Ok(())
-}
-
-#[test]
-fn a_place_is_a_node_or_a_line_and_a_column(rt: HostRuntime) -> Result<(), Fail> {
-    let alloc = rt.alloc();
-    let table = [
-        (
-            "{\"do\":\"define\",\"path\":\"a\",\"node\":0,\"line\":0,\"column\":0}",
-            "bad column",
-        ),
-        (
-            "{\"do\":\"define\",\"path\":\"a\",\"line\":4294967296,\"column\":-1}",
-            "bad line",
-        ),
-        (
-            "{\"do\":\"define\",\"path\":\"a\",\"line\":0,\"column\":true}",
-            "bad column",
-        ),
-        (
-            "{\"do\":\"references\",\"path\":\"a\",\"node\":0,\"user\":\"ann\"}",
-            "bad user",
-        ),
-    ];
-    for (line, wanted) in table {
-        assert_eq!(rt; shown(alloc, line)?.as_str(), wanted, "{line}");
-    }
-    Ok(())
-}
-
-#[test]
-fn bounds_stand_beside_a_place(rt: HostRuntime) -> Result<(), Fail> {
-    let alloc = rt.alloc();
-    let table = [
-        (
-            "{\"do\":\"define\",\"path\":\"a\",\"node\":0,\"edges\":1,\"depth\":1}",
-            "define a node 0 within 1 1",
-        ),
-        (
-            "{\"do\":\"define\",\"path\":\"a\",\"node\":0,\"edges\":512,\"depth\":96}",
-            "define a node 0 within 512 96",
-        ),
-        (
-            "{\"do\":\"references\",\"path\":\"a\",\"line\":2,\"column\":3,\"depth\":49}",
-            "references a line 2 column 3 within 128 49",
-        ),
-        (
-            "{\"do\":\"define\",\"path\":\"a\",\"node\":0,\"edges\":129}",
-            "define a node 0 within 129 48",
-        ),
-        (
-            "{\"do\":\"define\",\"path\":\"a\",\"line\":0,\"edges\":0}",
-            "bad column",
-        ),
-        (
-            "{\"do\":\"hello\",\"user\":\"ann\",\"edges\":1}",
-            "bad edges",
-        ),
-    ];
-    for (line, wanted) in table {
-        assert_eq!(rt; shown(alloc, line)?.as_str(), wanted, "{line}");
-    }
-    Ok(())
-}
-
-#[test]
-fn bounds_are_in_range(rt: HostRuntime) -> Result<(), Fail> {
-    let alloc = rt.alloc();
-    let table = [
-        (
-            "{\"do\":\"define\",\"path\":\"a\",\"node\":0,\"edges\":0}",
-            "bad edges",
-        ),
-        (
-            "{\"do\":\"define\",\"path\":\"a\",\"node\":0,\"edges\":513}",
-            "bad edges",
-        ),
-        (
-            "{\"do\":\"define\",\"path\":\"a\",\"node\":0,\"depth\":0}",
-            "bad depth",
-        ),
-        (
-            "{\"do\":\"define\",\"path\":\"a\",\"node\":0,\"depth\":97,\"edges\":null}",
-            "bad edges",
-        ),
-        (
-            "{\"do\":\"define\",\"path\":\"a\",\"node\":0,\"depth\":97,\"a\":1}",
-            "bad depth",
-        ),
-    ];
-    for (line, wanted) in table {
-        assert_eq!(rt; shown(alloc, line)?.as_str(), wanted, "{line}");
-    }
-    Ok(())
-}
-
-#[test]
-fn commits_are_read(rt: HostRuntime) -> Result<(), Fail> {
-    let alloc = rt.alloc();
-    let table = [
-        ("{\"do\":\"commit\",\"edits\":[]}", "commit"),
-        ("{\"do\":\"commit\",\"base\":3,\"edits\":[]}", "commit on 3"),
-        (
-            "{\"do\":\"commit\",\"base\":4294967295,\"edits\":[{\"remove\":\"z.py\"}]}",
-            "commit on 4294967295, remove z.py",
-        ),
-        (
-            "{\"do\":\"commit\",\"edits\":[{\"put\":\"a.py\",\"text\":\"x\\n\\u00e9\"},{\"remove\":\"b.py\"}]}",
+            r#"{"do":"commit","edits":[{"put":"a.py","text":"x\n\u00e9"},{"remove":"b.py"}]}"#,
             "commit, put a.py as <x\né>, remove b.py",
         ),
         (
-            "{\"do\":\"commit\",\"edits\":[{\"text\":\"\",\"put\":\"a.py\"}]}",
-            "commit, put a.py as <>",
+            r#"{"do":"define","path":"a b\\c\u007f","node":0}"#,
+            "define a b\\c\u{7f} node 0 within 128 48",
         ),
-        (
-            "{\"do\":\"commit\",\"edits\":[{\"remove\":\"z.py\"},{\"remove\":\"z.py\"}]}",
-            "commit, remove z.py, remove z.py",
-        ),
-        ("{\"do\":\"commit\"}", "bad edits"),
-        ("{\"do\":\"commit\",\"edits\":{}}", "bad edits"),
-        ("{\"do\":\"commit\",\"edits\":[1]}", "bad edits"),
-        ("{\"do\":\"commit\",\"edits\":[{}]}", "bad edits"),
-        (
-            "{\"do\":\"commit\",\"edits\":[{\"put\":\"a.py\"}]}",
-            "bad edits",
-        ),
-        (
-            "{\"do\":\"commit\",\"edits\":[{\"text\":\"x\"}]}",
-            "bad edits",
-        ),
-        (
-            "{\"do\":\"commit\",\"edits\":[{\"put\":\"a.py\",\"text\":1}]}",
-            "bad edits",
-        ),
+        (r#"{"do":"pin","":1,"x":1}"#, "bad "),
     ];
-    for (line, wanted) in table {
-        assert_eq!(rt; shown(alloc, line)?.as_str(), wanted, "{line}");
-    }
-    Ok(())
-}
-
-#[test]
-fn edits_put_or_remove_one_file(rt: HostRuntime) -> Result<(), Fail> {
-    let alloc = rt.alloc();
-    let table = [
-        (
-            "{\"do\":\"commit\",\"edits\":[{\"put\":\"\",\"text\":\"\"}]}",
-            "bad edits",
-        ),
-        (
-            "{\"do\":\"commit\",\"edits\":[{\"remove\":\"a/\"}]}",
-            "bad edits",
-        ),
-        (
-            "{\"do\":\"commit\",\"edits\":[{\"remove\":null}]}",
-            "bad edits",
-        ),
-        (
-            "{\"do\":\"commit\",\"edits\":[{\"put\":\"a\",\"text\":\"\",\"remove\":\"a\"}]}",
-            "bad edits",
-        ),
-        (
-            "{\"do\":\"commit\",\"edits\":[{\"remove\":\"a\",\"text\":\"\"}]}",
-            "bad edits",
-        ),
-        (
-            "{\"do\":\"commit\",\"edits\":[{\"remove\":\"a\",\"x\":0}]}",
-            "bad edits",
-        ),
-        (
-            "{\"do\":\"commit\",\"edits\":[{\"remove\":\"a\"},{\"remove\":\"\"}],\"a\":1}",
-            "bad edits",
-        ),
-    ];
-    for (line, wanted) in table {
-        assert_eq!(rt; shown(alloc, line)?.as_str(), wanted, "{line}");
-    }
-    Ok(())
-}
-
-#[test]
-fn members_beside_edits_are_checked(rt: HostRuntime) -> Result<(), Fail> {
-    let alloc = rt.alloc();
-    let table = [
-        ("{\"do\":\"commit\",\"base\":-1,\"edits\":[]}", "bad base"),
-        ("{\"do\":\"commit\",\"base\":null}", "bad base"),
-        ("{\"do\":\"commit\",\"base\":\"3\",\"edits\":0}", "bad base"),
-        (
-            "{\"do\":\"commit\",\"base\":4294967296,\"edits\":[]}",
-            "bad base",
-        ),
-        (
-            "{\"do\":\"commit\",\"edits\":[],\"user\":\"operator\"}",
-            "bad user",
-        ),
-        (
-            "{\"do\":\"commit\",\"edits\":[{\"put\":\"a\",\"text\":\"t\"}],\"texts\":0}",
-            "bad texts",
-        ),
-    ];
-    for (line, wanted) in table {
-        assert_eq!(rt; shown(alloc, line)?.as_str(), wanted, "{line}");
+    for (line, wanted) in rows {
+        assert_eq!(rt; shown(rt.alloc(), line)?.as_str(), wanted, "{line}");
     }
     Ok(())
 }
@@ -539,43 +249,38 @@ fn long(alloc: Global, count: usize) -> Result<String, AllocError> {
     Ok(text)
 }
 
+/// Whether a text is taken as a user, as a path and as a prefix.
+fn taken(alloc: Global, text: &str) -> Result<(bool, bool, bool), AllocError> {
+    let hello = format!(in alloc; r#"{{"do":"hello","user":"{text}"}}"#)?;
+    let define = format!(in alloc; r#"{{"do":"define","node":0,"path":"{text}"}}"#)?;
+    let grant = format!(in alloc; r#"{{"do":"grant","user":"u","prefix":"{text}"}}"#)?;
+    Ok((
+        shown(alloc, hello.as_str())?.as_str() != "bad user",
+        shown(alloc, define.as_str())?.as_str() != "bad path",
+        shown(alloc, grant.as_str())?.as_str() != "bad prefix",
+    ))
+}
+
 #[test]
 fn lengths_are_bounded_in_bytes(rt: HostRuntime) -> Result<(), Fail> {
-    let alloc = rt.alloc();
-    let table = [
+    let rows = [
         (255, "", true, true),
         (256, "", true, true),
         (254, "é", true, true),
-        (255, "é", true, false),
-        (257, "", true, false),
-        (512, "", true, false),
-        (510, "é", true, false),
+        (255, "é", false, true),
+        (257, "", false, true),
+        (512, "", false, true),
+        (510, "é", false, true),
         (511, "é", false, false),
         (513, "", false, false),
     ];
-    for (count, end, is_path, is_user) in table {
-        let text = long(alloc, count)?;
-        let hello = format!(in alloc; "{{\"do\":\"hello\",\"user\":\"{text}{end}\"}}")?;
+    for (count, end, is_user, is_path) in rows {
+        let mut text = long(rt.alloc(), count)?;
+        text.push_str(end)?;
         assert_eq!(rt;
-            shown(alloc, hello.as_str())?.as_str() != "bad user",
-            is_user,
-            "a user of {count} and {end}"
-        );
-        let define = format!(in alloc;
-            "{{\"do\":\"define\",\"node\":0,\"path\":\"{text}{end}\"}}"
-        )?;
-        assert_eq!(rt;
-            shown(alloc, define.as_str())?.as_str() != "bad path",
-            is_path,
-            "a path of {count} and {end}"
-        );
-        let grant = format!(in alloc;
-            "{{\"do\":\"grant\",\"user\":\"u\",\"prefix\":\"{text}{end}\"}}"
-        )?;
-        assert_eq!(rt;
-            shown(alloc, grant.as_str())?.as_str() != "bad prefix",
-            is_path,
-            "a prefix of {count} and {end}"
+            taken(rt.alloc(), text.as_str())?,
+            (is_user, is_path, is_path),
+            "{count} bytes and {end}"
         );
     }
     Ok(())
@@ -601,8 +306,8 @@ fn bytes_that_are_no_text_are_no_json(rt: HostRuntime) -> Result<(), Fail> {
 #[test]
 fn a_long_document_comes_through_whole(rt: HostRuntime) -> Result<(), Fail> {
     let alloc = rt.alloc();
-    let head = "{\"do\":\"commit\",\"edits\":[{\"put\":\"a.py\",\"text\":\"";
-    let tail = "\"}]}";
+    let head = r#"{"do":"commit","edits":[{"put":"a.py","text":""#;
+    let tail = r#""}]}"#;
     let length = 1_048_576usize
         .saturating_sub(head.len())
         .saturating_sub(tail.len());

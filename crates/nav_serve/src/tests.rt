@@ -1,9 +1,10 @@
 //! What no clause says: that the commands answer with memory at hand, on inputs worked by hand.
-mod graphs;
 mod python;
 
 use crate::words::{Command, command_of};
 use crate::{once, upgrade};
+use graph_json::print_graph;
+use graph_text::files_of;
 use nav_io::{MemSink, MemSource};
 use std::alloc::Global;
 use std::test::Fail;
@@ -57,196 +58,91 @@ fn written(alloc: Global, command: Command, input: &[u8]) -> Result<Vec<u8>, Fai
     }
 }
 
-/// A node, written short: P a reference `x`, p a push of `x`, D a definition `x`, d a pop of `x`, S a
-/// scope, E an exported scope.
-fn push_node(text: &mut String, node: u8) -> Result<(), Fail> {
-    let json = match node {
-        b'P' => "{\"kind\":\"push\",\"symbol\":\"x\",\"reference\":true}",
-        b'p' => "{\"kind\":\"push\",\"symbol\":\"x\"}",
-        b'D' => "{\"kind\":\"pop\",\"symbol\":\"x\",\"definition\":true}",
-        b'd' => "{\"kind\":\"pop\",\"symbol\":\"x\"}",
-        b'E' => "{\"kind\":\"scope\",\"exported\":true}",
-        _ => "{\"kind\":\"scope\"}",
-    };
-    text.push_str(json)?;
+/// What the command writes on an input in which `¶` stands for the end of a line; the end of the reply's
+/// line is left out.
+fn reply(alloc: Global, command: Command, text: &str) -> Result<String, Fail> {
+    let input = text.replace(alloc, '¶', "\n")?;
+    let written = written(alloc, command, input.as_bytes())?;
+    let told = str::from_utf8(written.as_slice())?;
+    match told.strip_suffix('\n') {
+        Some(reply) => Ok(String::from_str(alloc, reply)?),
+        None => Err(Fail::new("a reply has no end")),
+    }
+}
+
+/// Inputs, in which `¶` stands for the end of a line, and the reply to each.
+const ONCE: &str = r#" => {"error":"bad_request","field":"graph"}
+¶ => {"error":"bad_file","fault":"json","path":"once.sg.json"}
+[]¶ => {"error":"bad_file","fault":"shape","path":"once.sg.json"}
+{"nodes":[{"kind":"scope"}],"edges":[["jump",0,0]]}¶{"node":0} => {"edge":0,"error":"bad_file","fault":"jump_source","path":"once.sg.json"}
+{"nodes":[{"kind":"pull"}],"edges":[[0,7,0]]}¶ => {"error":"bad_file","fault":"shape","node":0,"path":"once.sg.json"}
+{"nodes":[],"edges":[]} => {"error":"bad_request","field":"node"}
+{"nodes":[],"edges":[]}¶ => {"error":"bad_request","field":"node"}
+{"nodes":[],"edges":[]}¶¶ => {"error":"bad_json"}
+{"nodes":[],"edges":[]}¶{"node":1.0} => {"error":"bad_request","field":"node"}
+{"nodes":[],"edges":[]}¶{"node":4294967296} => {"error":"bad_request","field":"node"}
+{"nodes":[],"edges":[]}¶{"node":1,"x":1} => {"error":"bad_request","field":"node"}
+{"nodes":[],"edges":[]}¶{"node":4294967295} => {"error":"no_reference"}
+{"nodes":[{"kind":"push","symbol":"x","reference":true},{"kind":"pop","symbol":"y","definition":true}],"edges":[[0,1,0]]}¶{"node":0}¶more => {"limit":false,"rows":[]}
+{"nodes":[{"kind":"push","symbol":"x","reference":true},{"kind":"pop","symbol":"y","definition":true}],"edges":[[0,1,0]]}¶{"node":1} => {"error":"no_reference"}
+{"format":2,"nodes":[{"kind":"push","name":"r","symbol":"x","reference":true},{"kind":"pop","name":"d","symbol":"x","definition":true,"span":[1,2,1,3]}],"edges":[["r","d",0]]}¶{"node":0} => {"limit":false,"rows":[{"node":1,"path":"once.sg.json","span":[1,2,1,3]}]}"#;
+
+#[test]
+fn once_replies_to_lines(rt: HostRuntime) -> Result<(), Fail> {
+    for row in ONCE.split('\n') {
+        let (input, wanted) = row.split_once(" => ").unwrap_or((row, "no arrow"));
+        let told = reply(rt.alloc(), Command::Once, input)?;
+        assert_eq!(rt; told.as_str(), wanted, "{input}");
+    }
     Ok(())
 }
 
-/// A graph line and a line for its first node. The nodes are each a letter, as many as its number says;
-/// edges lead from each node to the next, and after those come others, as JSON.
-fn chain(alloc: Global, nodes: &[(u8, u32)], others: &str) -> Result<String, Fail> {
-    let mut text = String::from_str(alloc, "{\"nodes\":[")?;
-    let mut count = 0u32;
-    for (node, times) in nodes {
-        for _ in 0..*times {
-            if count > 0 {
-                text.push(',')?;
-            }
-            push_node(&mut text, *node)?;
-            count = count.saturating_add(1);
-        }
-    }
-    text.push_str("],\"edges\":[")?;
-    for n in 1..count {
-        let before = n - 1;
-        let edge = format!(in alloc; "[{before},{n},0],")?;
-        text.push_str(edge.as_str())?;
-    }
-    text.push_str(others)?;
-    text.push_str("]}\n{\"node\":0}\n")?;
-    Ok(text)
+/// Graphs as short texts, and the reply of `once` where it is asked for node 0.
+const GRAPHS: &str = r#"# A plain symbol isn't one with attached scopes.
+push_scoped x 1 R; scope E; pop x D | 0>2 => {"limit":false,"rows":[]}
+push x R; pop_scoped x D | 0>1 => {"limit":false,"rows":[]}
+# Each round of a loop adds a symbol; one that adds none is no further run.
+push x R; scope; push a; pop x D | 0>1, 1>2, 2>1, 1>3 => {"limit":true,"rows":[{"node":3,"path":"once.sg.json","span":null}]}
+push x R; scope; pop x D | 0>1, 1>1, 1>2 => {"limit":false,"rows":[{"node":2,"path":"once.sg.json","span":null}]}
+push x R; scope E; pop x D | 0>1, 1>1, 1>2 => {"limit":false,"rows":[{"node":2,"path":"once.sg.json","span":null}]}
+# The higher precedence shadows the lower, and an equal one doesn't.
+push x R; pop x D; pop x D | 0>1/1, 0>2/2 => {"limit":false,"rows":[{"node":2,"path":"once.sg.json","span":null}]}
+push x R; scope; pop x D; pop x D | 0>1, 1>2/1, 1>3/2 => {"limit":false,"rows":[{"node":3,"path":"once.sg.json","span":null}]}
+push x R; scope; pop x D; pop x D | 0>1, 1>2/1, 1>3/1 => {"limit":false,"rows":[{"node":2,"path":"once.sg.json","span":null},{"node":3,"path":"once.sg.json","span":null}]}
+# The jump goes on at the scope that was attached; behind a drop there is none.
+push m R; push_scoped () 4; pop_scoped (); drop; scope E; pop m D | 0>1, 1>2, 2>jump, 4>5 => {"limit":false,"rows":[{"node":5,"path":"once.sg.json","span":null}]}
+push m R; push_scoped () 4; pop_scoped (); drop; scope E; pop m D | 0>1, 1>2, 2>3, 3>jump, 4>5 => {"limit":false,"rows":[]}
+# 128 edges and 48 symbols, and one more.
+push x R; scope *127; pop x D | 0-128 => {"limit":false,"rows":[{"node":128,"path":"once.sg.json","span":null}]}
+push x R; scope *128; pop x D | 0-129 => {"limit":true,"rows":[]}
+push x R; push x *47; pop x *47; pop x D | 0-95 => {"limit":false,"rows":[{"node":95,"path":"once.sg.json","span":null}]}
+push x R; push x *48; pop x *48; pop x D | 0-97 => {"limit":true,"rows":[]}
+# 8,192 complete runs, and more; and as many closed ones.
+push x R; scope *13; pop x D | 0>1, 1-14 *2 => {"limit":false,"rows":[{"node":14,"path":"once.sg.json","span":null}]}
+push x R; scope *13; pop x D | 0>1, 1-14 *2, 13>14 => {"error":"crowded"}
+push x R; scope E *13; pop x D | 0>1, 1-13 *2, 1>14 => {"limit":false,"rows":[{"node":14,"path":"once.sg.json","span":null}]}
+push x R; scope E *13; pop x D | 0>1, 1-13 *2, 1>14 *2 => {"error":"crowded"}"#;
+
+/// The reply of `once` to the graph that a text stands for, asked for node 0.
+fn graph_reply(alloc: Global, text: &str) -> Result<String, Fail> {
+    let mut files = files_of(alloc, text)?;
+    let Some(graph) = files.pop() else {
+        return Err(Fail::new("there is no file"));
+    };
+    let line = print_graph(alloc, &graph)?;
+    let line = str::from_utf8(line.as_slice())?;
+    let input = format!(in alloc; "{line}¶{{\"node\":0}}")?;
+    reply(alloc, Command::Once, input.as_str())
 }
 
 #[test]
 fn once_answers_by_the_rules(rt: HostRuntime) -> Result<(), Fail> {
-    let alloc = rt.alloc();
-    let rows: [(&str, &str); 18] = [
-        ("", "{\"error\":\"bad_request\",\"field\":\"graph\"}\n"),
-        (
-            "\n",
-            "{\"error\":\"bad_file\",\"fault\":\"json\",\"path\":\"once.sg.json\"}\n",
-        ),
-        (
-            "[]\n",
-            "{\"error\":\"bad_file\",\"fault\":\"shape\",\"path\":\"once.sg.json\"}\n",
-        ),
-        (
-            "{\"nodes\":[{\"kind\":\"scope\"}],\"edges\":[[\"jump\",0,0]]}\n{\"node\":0}",
-            "{\"edge\":0,\"error\":\"bad_file\",\"fault\":\"jump_source\",\"path\":\"once.sg.json\"}\n",
-        ),
-        (
-            "{\"nodes\":[{\"kind\":\"pull\"}],\"edges\":[[0,7,0]]}\n",
-            "{\"error\":\"bad_file\",\"fault\":\"shape\",\"node\":0,\"path\":\"once.sg.json\"}\n",
-        ),
-        (
-            "{\"nodes\":[],\"edges\":[]}",
-            "{\"error\":\"bad_request\",\"field\":\"node\"}\n",
-        ),
-        (
-            "{\"nodes\":[],\"edges\":[]}\n",
-            "{\"error\":\"bad_request\",\"field\":\"node\"}\n",
-        ),
-        (
-            "{\"nodes\":[],\"edges\":[]}\n\n",
-            "{\"error\":\"bad_json\"}\n",
-        ),
-        (
-            "{\"nodes\":[],\"edges\":[]}\n{\"node\":1.0}",
-            "{\"error\":\"bad_request\",\"field\":\"node\"}\n",
-        ),
-        (
-            "{\"nodes\":[],\"edges\":[]}\n{\"node\":4294967296}",
-            "{\"error\":\"bad_request\",\"field\":\"node\"}\n",
-        ),
-        (
-            "{\"nodes\":[],\"edges\":[]}\n{\"node\":1,\"x\":1}",
-            "{\"error\":\"bad_request\",\"field\":\"node\"}\n",
-        ),
-        (
-            "{\"nodes\":[],\"edges\":[]}\n{\"node\":4294967295}",
-            "{\"error\":\"no_reference\"}\n",
-        ),
-        // The symbols differ; and a node that is no reference.
-        (
-            "{\"nodes\":[{\"kind\":\"push\",\"symbol\":\"x\",\"reference\":true},{\"kind\":\"pop\",\"symbol\":\"y\",\"definition\":true}],\"edges\":[[0,1,0]]}\n{\"node\":0}\nmore",
-            "{\"limit\":false,\"rows\":[]}\n",
-        ),
-        (
-            "{\"nodes\":[{\"kind\":\"push\",\"symbol\":\"x\",\"reference\":true},{\"kind\":\"pop\",\"symbol\":\"y\",\"definition\":true}],\"edges\":[[0,1,0]]}\n{\"node\":1}",
-            "{\"error\":\"no_reference\"}\n",
-        ),
-        // Scopes that are attached aren't plain.
-        (
-            "{\"nodes\":[{\"kind\":\"push_scoped\",\"symbol\":\"x\",\"scope\":1,\"reference\":true},{\"kind\":\"scope\",\"exported\":true},{\"kind\":\"pop\",\"symbol\":\"x\",\"definition\":true}],\"edges\":[[0,2,0]]}\n{\"node\":0}",
-            "{\"limit\":false,\"rows\":[]}\n",
-        ),
-        // Each round of a loop adds a symbol.
-        (
-            "{\"nodes\":[{\"kind\":\"push\",\"symbol\":\"x\",\"reference\":true},{\"kind\":\"scope\"},{\"kind\":\"push\",\"symbol\":\"a\"},{\"kind\":\"pop\",\"symbol\":\"x\",\"definition\":true}],\"edges\":[[0,1,0],[1,2,0],[2,1,0],[1,3,0]]}\n{\"node\":0}",
-            "{\"limit\":true,\"rows\":[{\"node\":3,\"path\":\"once.sg.json\",\"span\":null}]}\n",
-        ),
-        // The higher precedence shadows the lower, and an equal one doesn't.
-        (
-            "{\"nodes\":[{\"kind\":\"push\",\"symbol\":\"x\",\"reference\":true},{\"kind\":\"pop\",\"symbol\":\"x\",\"definition\":true},{\"kind\":\"pop\",\"symbol\":\"x\",\"definition\":true}],\"edges\":[[0,1,1],[0,2,2]]}\n{\"node\":0}",
-            "{\"limit\":false,\"rows\":[{\"node\":2,\"path\":\"once.sg.json\",\"span\":null}]}\n",
-        ),
-        (
-            "{\"format\":2,\"nodes\":[{\"kind\":\"push\",\"name\":\"r\",\"symbol\":\"x\",\"reference\":true},{\"kind\":\"pop\",\"name\":\"d\",\"symbol\":\"x\",\"definition\":true,\"span\":[1,2,1,3]}],\"edges\":[[\"r\",\"d\",0]]}\n{\"node\":0}",
-            "{\"limit\":false,\"rows\":[{\"node\":1,\"path\":\"once.sg.json\",\"span\":[1,2,1,3]}]}\n",
-        ),
-    ];
-    for (input, wanted) in rows {
-        let written = written(alloc, Command::Once, input.as_bytes())?;
-        assert_eq!(rt; written.as_slice(), wanted.as_bytes(), "at {input}");
-    }
-    Ok(())
-}
-
-#[test]
-fn bounds_and_counts_are_exact(rt: HostRuntime) -> Result<(), Fail> {
-    let alloc = rt.alloc();
-    // 13 layers of two edges each, from node 0 by node 1 to the definition 14.
-    let twice =
-        "[1,2,0],[2,3,0],[3,4,0],[4,5,0],[5,6,0],[6,7,0],[7,8,0],[8,9,0],[9,10,0],[10,11,0],[11,12,0],[12,13,0],[13,14,0]";
-    let thrice =
-        "[13,14,0],[1,2,0],[2,3,0],[3,4,0],[4,5,0],[5,6,0],[6,7,0],[7,8,0],[8,9,0],[9,10,0],[10,11,0],[11,12,0],[12,13,0],[13,14,0]";
-    let rows: [([(u8, u32); 3], &str, &str); 6] = [
-        (
-            [(b'P', 1), (b'S', 127), (b'D', 1)],
-            "[0,1,0]",
-            "{\"limit\":false,\"rows\":[{\"node\":128,\"path\":\"once.sg.json\",\"span\":null}]}\n",
-        ),
-        (
-            [(b'P', 1), (b'S', 128), (b'D', 1)],
-            "[0,1,0]",
-            "{\"limit\":true,\"rows\":[]}\n",
-        ),
-        (
-            [(b'P', 1), (b'S', 13), (b'D', 1)],
-            twice,
-            "{\"limit\":false,\"rows\":[{\"node\":14,\"path\":\"once.sg.json\",\"span\":null}]}\n",
-        ),
-        (
-            [(b'P', 1), (b'S', 13), (b'D', 1)],
-            thrice,
-            "{\"error\":\"crowded\"}\n",
-        ),
-        (
-            [(b'P', 1), (b'E', 1), (b'D', 1)],
-            "[1,1,0]",
-            "{\"limit\":false,\"rows\":[{\"node\":2,\"path\":\"once.sg.json\",\"span\":null}]}\n",
-        ),
-        (
-            [(b'P', 1), (b'S', 1), (b'D', 1)],
-            "[1,1,0]",
-            "{\"limit\":false,\"rows\":[{\"node\":2,\"path\":\"once.sg.json\",\"span\":null}]}\n",
-        ),
-    ];
-    for (nodes, others, wanted) in rows {
-        let input = chain(alloc, &nodes, others)?;
-        let written = written(alloc, Command::Once, input.as_bytes())?;
-        assert_eq!(rt; written.as_slice(), wanted.as_bytes(), "at {wanted}");
-    }
-    Ok(())
-}
-
-#[test]
-fn depth_is_bounded(rt: HostRuntime) -> Result<(), Fail> {
-    let alloc = rt.alloc();
-    let rows: [([(u8, u32); 4], &str); 2] = [
-        (
-            [(b'P', 1), (b'p', 47), (b'd', 47), (b'D', 1)],
-            "{\"limit\":false,\"rows\":[{\"node\":95,\"path\":\"once.sg.json\",\"span\":null}]}\n",
-        ),
-        (
-            [(b'P', 1), (b'p', 48), (b'd', 48), (b'D', 1)],
-            "{\"limit\":true,\"rows\":[]}\n",
-        ),
-    ];
-    for (nodes, wanted) in rows {
-        let input = chain(alloc, &nodes, "[\"root\",\"root\",0]")?;
-        let written = written(alloc, Command::Once, input.as_bytes())?;
-        assert_eq!(rt; written.as_slice(), wanted.as_bytes());
+    for row in GRAPHS.split('\n') {
+        if row.starts_with('#') {
+            continue;
+        }
+        let (graph, wanted) = row.split_once(" => ").unwrap_or((row, "no arrow"));
+        assert_eq!(rt; graph_reply(rt.alloc(), graph)?.as_str(), wanted, "{graph}");
     }
     Ok(())
 }
@@ -328,35 +224,21 @@ fn faults_end_a_command_at_once(rt: HostRuntime) -> Result<(), Fail> {
     Ok(())
 }
 
+/// Inputs, in which `¶` stands for the end of a line, and the reply of `upgrade` to each.
+const UPGRADE: &str =
+    r#"{"nodes":[{"kind":"push","symbol":"x","reference":true},{"kind":"pop","symbol":"y","definition":true}],"edges":[[0,1,0]]}¶more => {"edges":[["n0","n1",0]],"format":2,"nodes":[{"kind":"push","name":"n0","reference":true,"symbol":"x"},{"definition":true,"kind":"pop","name":"n1","symbol":"y"}]}
+ => {"error":"bad_request","field":"graph"}
+{ => {"error":"bad_file","fault":"json","path":"upgrade.sg.json"}
+{"format":2,"nodes":[{"kind":"scope","name":"n1"},{"kind":"scope","name":"n1"}],"edges":[]} => {"error":"bad_file","fault":"same_name","node":1,"path":"upgrade.sg.json"}
+{"format":2,"nodes":[{"kind":"scope","name":"n0"}],"edges":[["n0","n2",0]]} => {"edge":0,"error":"bad_file","fault":"unknown_name","path":"upgrade.sg.json"}
+{"nodes":[],"edges":[[0,0,0]]} => {"edge":0,"error":"bad_file","fault":"bad_end","path":"upgrade.sg.json"}"#;
+
 #[test]
 fn upgrade_names_the_nodes(rt: HostRuntime) -> Result<(), Fail> {
-    let alloc = rt.alloc();
-    let rows: [(&str, &str); 6] = [
-        (
-            "{\"nodes\":[{\"kind\":\"push\",\"symbol\":\"x\",\"reference\":true},{\"kind\":\"pop\",\"symbol\":\"y\",\"definition\":true}],\"edges\":[[0,1,0]]}\nmore",
-            "{\"edges\":[[\"n0\",\"n1\",0]],\"format\":2,\"nodes\":[{\"kind\":\"push\",\"name\":\"n0\",\"reference\":true,\"symbol\":\"x\"},{\"definition\":true,\"kind\":\"pop\",\"name\":\"n1\",\"symbol\":\"y\"}]}\n",
-        ),
-        ("", "{\"error\":\"bad_request\",\"field\":\"graph\"}\n"),
-        (
-            "{",
-            "{\"error\":\"bad_file\",\"fault\":\"json\",\"path\":\"upgrade.sg.json\"}\n",
-        ),
-        (
-            "{\"format\":2,\"nodes\":[{\"kind\":\"scope\",\"name\":\"n1\"},{\"kind\":\"scope\",\"name\":\"n1\"}],\"edges\":[]}",
-            "{\"error\":\"bad_file\",\"fault\":\"same_name\",\"node\":1,\"path\":\"upgrade.sg.json\"}\n",
-        ),
-        (
-            "{\"format\":2,\"nodes\":[{\"kind\":\"scope\",\"name\":\"n0\"}],\"edges\":[[\"n0\",\"n2\",0]]}",
-            "{\"edge\":0,\"error\":\"bad_file\",\"fault\":\"unknown_name\",\"path\":\"upgrade.sg.json\"}\n",
-        ),
-        (
-            "{\"nodes\":[],\"edges\":[[0,0,0]]}",
-            "{\"edge\":0,\"error\":\"bad_file\",\"fault\":\"bad_end\",\"path\":\"upgrade.sg.json\"}\n",
-        ),
-    ];
-    for (input, wanted) in rows {
-        let written = written(alloc, Command::Upgrade, input.as_bytes())?;
-        assert_eq!(rt; written.as_slice(), wanted.as_bytes(), "at {input}");
+    for row in UPGRADE.split('\n') {
+        let (input, wanted) = row.split_once(" => ").unwrap_or((row, "no arrow"));
+        let told = reply(rt.alloc(), Command::Upgrade, input)?;
+        assert_eq!(rt; told.as_str(), wanted, "{input}");
     }
     let failing = Outside {
         piece: 1,
@@ -364,7 +246,7 @@ fn upgrade_names_the_nodes(rt: HostRuntime) -> Result<(), Fail> {
         taken: 9,
         write: NEVER,
     };
-    assert_eq!(rt; served(alloc, Command::Upgrade, b"{}", failing)?.0, 3);
+    assert_eq!(rt; served(rt.alloc(), Command::Upgrade, b"{}", failing)?.0, 3);
     Ok(())
 }
 

@@ -1,13 +1,8 @@
-ghost use Rattle.std.specs.Prelude.{◌≡◌, ◌<◌, ◌^◌, All, IsTrue, true};
-ghost use Rattle.partial_path.specs.Moved.{Fits, FitsNode, FitsEnd, FitsSymbol};
-
-mod graphs;
-
 use crate::{join, opening, unit};
 use graph_nodes::{FileGraph, NodeKind};
-use graphs::{file_of, number};
+use graph_text::{apply_inside, files_of, stacks_of};
 use partial_path::{Config, EdgeAt, End, PartialPath, Spot, step};
-use stacks_vars::{NodeAt, ScopeStack, Stacks, SymOut, Symbol, SymbolItem};
+use stacks_vars::NodeAt;
 use std::alloc::{AllocError, Global};
 use std::test::Fail;
 
@@ -18,35 +13,9 @@ fn spot(number: u32) -> Spot {
     }
 }
 
-/// The stacks that a text such as `p[45]x|6` stands for, each with its front first: the symbols `p`, with
-/// the scopes 4 and 5 attached, and plain `x`; and behind the bar the scope stack.
-fn stacks_of(alloc: Global, text: &str) -> Result<Stacks, Fail> {
-    let mut stacks = Stacks::new(alloc);
-    let mut scopes = Some(ScopeStack::new(alloc));
-    for byte in text.as_bytes().iter().rev() {
-        match *byte {
-            b'0'..=b'9' => {
-                if let Some(scopes) = &mut scopes {
-                    scopes.push(NodeAt {
-                        file: 0,
-                        node: byte.saturating_sub(b'0') as u32,
-                    })?;
-                }
-            }
-            b'|' => {
-                if let Some(read) = scopes.take() {
-                    stacks.scopes = read;
-                }
-            }
-            b']' => scopes = Some(ScopeStack::new(alloc)),
-            b'[' => {}
-            letter => stacks.symbols.push(SymbolItem {
-                symbol: Symbol::of(alloc, &[letter])?,
-                scopes: scopes.take(),
-            })?,
-        }
-    }
-    Ok(stacks)
+/// The number that the text is, 0 where it is none.
+fn number(text: &str) -> u32 {
+    text.parse::<u32>().unwrap_or(0)
 }
 
 fn config_of(alloc: Global, number: u32, text: &str) -> Result<Config, Fail> {
@@ -145,62 +114,6 @@ fn path_of(
     }
 }
 
-/// The path applied, where all its nodes are of file 0.
-fn applied(alloc: Global, path: &PartialPath, at: &Config) -> Result<Option<Config>, AllocError> {
-    if !is_alone(path) {
-        return Ok(None);
-    }
-    path.apply(alloc, 0, at)
-}
-
-fn is_alone(path: &PartialPath) -> bool
-    ensures { result ≡ true → Fits 0 path.now }
-{
-    let post = path.post();
-    let symbols = post.symbols.items();
-    ends_alone(path.end()) && symbols_alone(symbols) && scopes_alone(post.scopes.scopes.items())
-}
-
-fn ends_alone(end: End) -> bool
-    ensures { result ≡ true → FitsEnd 0 end }
-{
-    match end {
-        End::At(Spot::At(node)) => node.file == 0,
-        _ => true,
-    }
-}
-
-fn symbols_alone(symbols: &[SymOut]) -> bool
-    ensures { result ≡ true → All (FitsSymbol 0) symbols.now }
-{
-    for out in symbols {
-        if !symbol_alone(out) {
-            return false;
-        }
-    }
-    true
-}
-
-fn symbol_alone(out: &SymOut) -> bool
-    ensures { result ≡ true → FitsSymbol 0 out.now }
-{
-    match &out.scopes {
-        Some(scopes) => scopes_alone(scopes.scopes.items()),
-        None => true,
-    }
-}
-
-fn scopes_alone(scopes: &[NodeAt]) -> bool
-    ensures { result ≡ true → All (FitsNode 0) scopes.now }
-{
-    for scope in scopes {
-        if scope.file != 0 {
-            return false;
-        }
-    }
-    true
-}
-
 /// Where the run of these edges leads, edge by edge.
 fn run_of(
     alloc: Global,
@@ -233,7 +146,7 @@ fn led(
         return Ok(None);
     };
     match path_of(alloc, graph, *first, rest)? {
-        Some(path) => applied(alloc, &path, from),
+        Some(path) => apply_inside(alloc, &path, from),
         None => Ok(None),
     }
 }
@@ -256,7 +169,7 @@ fn holds(alloc: Global, files: &[FileGraph], row: &str) -> Result<bool, Fail> {
 #[test]
 fn symbols_that_differ_join_to_nothing(rt: HostRuntime) -> Result<(), Fail> {
     let alloc = rt.alloc();
-    let files = file_of(alloc, "push x; pop y | root>0, 0>1")?;
+    let files = files_of(alloc, "push x; pop y | root>0, 0>1")?;
     let Some(graph) = files.as_slice().first() else {
         assert!(rt; false, "no graph");
         return Ok(());
@@ -283,14 +196,14 @@ fn opened(
     let Some(path) = extended(alloc, graph, path, edges)? else {
         return Ok(None);
     };
-    let found = applied(alloc, &path, &config_of(alloc, 0, "|")?)?;
+    let found = apply_inside(alloc, &path, &config_of(alloc, 0, "|")?)?;
     Ok(Some((found, matches!(path.end(), End::ByStack))))
 }
 
 #[test]
 fn an_opening_enters_its_reference_alone(rt: HostRuntime) -> Result<(), Fail> {
     let alloc = rt.alloc();
-    let files = file_of(alloc, "push x R; pop y D | 0>1")?;
+    let files = files_of(alloc, "push x R; pop y D | 0>1")?;
     let Some((found, by_stack)) = opened(alloc, files.as_slice(), &[])? else {
         assert!(rt; false, "no opening");
         return Ok(());
@@ -306,7 +219,7 @@ fn opens_and_applies(rt: HostRuntime) -> Result<(), Fail> {
     let alloc = rt.alloc();
     let text =
         "push m R; push_scoped () 4; pop_scoped () D; drop; scope E; pop m D | 0>1, 1>2, 2>jump, 4>5";
-    let files = file_of(alloc, text)?;
+    let files = files_of(alloc, text)?;
     let Some((found, by_stack)) = opened(alloc, files.as_slice(), &[0, 1, 2])? else {
         assert!(rt; false, "no join");
         return Ok(());
@@ -321,7 +234,7 @@ fn joined_paths_lead_where_their_edges_lead(rt: HostRuntime) -> Result<(), Fail>
     let nodes = "scope E; push x; drop; pop_scoped p D; scope E; pop x D; push_scoped p 4";
     let edges =
         "root>3, 3>2, 3>1, 1>root, 2>1, 3>jump, root>5, 5>root, 5>jump, 1>5, root>6, 6>jump, 4>3, 0>4";
-    let files = file_of(alloc, format!(in alloc; "{nodes} | {edges}")?.as_str())?;
+    let files = files_of(alloc, format!(in alloc; "{nodes} | {edges}")?.as_str())?;
     assert_eq!(rt; files.len(), 1);
     let rows = [
         "0 2 3: p[45]z|6 = 100 xz|45",

@@ -1,5 +1,5 @@
 //! What no clause says: what is found in small Python projects, from their texts to the rows.
-use graph_nodes::{FileGraph, Node, NodeKind, Span};
+use graph_nodes::{FileGraph, Node, Span};
 use partial_path::Bounds;
 use py_graph::translate;
 use py_subset::parse;
@@ -54,14 +54,10 @@ fn has_point(span: &Span, line: u32, column: u32) -> bool {
 
 /// Whether a node is a definition, or whether it is a reference.
 fn is_kind(node: &Node, definition: bool) -> bool {
-    match &node.kind {
-        NodeKind::Pop { definition: is, .. } | NodeKind::PopScoped { definition: is, .. } => {
-            definition && *is
-        }
-        NodeKind::Push { reference: is, .. } | NodeKind::PushScoped { reference: is, .. } => {
-            !definition && *is
-        }
-        _ => false,
+    if definition {
+        node.kind.is_definition()
+    } else {
+        node.kind.is_reference()
     }
 }
 

@@ -1,117 +1,61 @@
 use super::*;
-use graph_nodes::{Edge, Name, Node, NodeKind};
+use graph_text::files_of;
 use stacks_vars::NodeAt;
 use std::test::Fail;
 
-/// The nodes of a row's file: five scopes, of which 4 is exported, and 5, a definition.
-fn nodes(alloc: Global) -> Result<Vec<Node>, Fail> {
-    let mut nodes = Vec::new(alloc);
-    for n in 0..5 {
-        let kind = NodeKind::Scope { exported: n == 4 };
-        nodes.push(Node { kind, span: None })?;
-    }
-    let symbol = Name::of(alloc, "x")?;
-    let kind = NodeKind::Pop {
-        symbol,
-        definition: true,
-    };
-    nodes.push(Node { kind, span: None })?;
-    Ok(nodes)
-}
+/// The edges of a file whose nodes are four scopes, the exported scope 4 and the definition 5; and which of
+/// the nodes are live.
+const ROWS: [(&str, &str); 9] = [
+    // No edges, and a ladder of dead ends.
+    ("", ""),
+    ("0>1, 0>2, 1>2, 1>3, 2>3, root>0", ""),
+    // A chain to a definition, to the jump, to the root, and over an exported scope.
+    ("0>1, 1>3, 3>5", "0 1 3 "),
+    ("1>2, 2>jump", "1 2 "),
+    ("2>5, 5>root", "2 5 "),
+    ("2>3, 3>4", "2 3 "),
+    // A node with an edge to itself, and an edge back.
+    ("1>2, 2>2, 2>3", "1 2 "),
+    ("0>1, 3>1", "0 3 "),
+    // One way of two.
+    ("0>1, 0>2, 2>5", "0 2 "),
+];
 
-/// A file of those nodes, with an edge between any two positions of a row. 8 is the jump, 9 the root.
-fn push_file(alloc: Global, files: &mut Vec<FileGraph>, row: &[(u32, u32)]) -> Result<(), Fail> {
-    let mut edges = Vec::new(alloc);
-    for (from, to) in row {
-        edges.push(Edge {
-            source: place(*from),
-            sink: place(*to),
-            precedence: 0,
-        })?;
+/// The files of the rows.
+fn files_of_rows(alloc: Global) -> Result<Vec<FileGraph>, Fail> {
+    let mut text = String::new(alloc);
+    for (edges, _) in ROWS {
+        let before = if text.is_empty() { "" } else { " & " };
+        let file = format!(in alloc; "{before}scope *4; scope E; pop x D | {edges}")?;
+        text.push_str(file.as_str())?;
     }
-    let nodes = nodes(alloc)?;
-    if nodes.len() > 100 || edges.len() > 100 {
-        return Ok(());
-    }
-    if let Ok(graph) = FileGraph::check(alloc, nodes, edges) {
-        files.push(graph)?;
-    }
-    Ok(())
-}
-
-fn place(n: u32) -> Place {
-    match n {
-        8 => Place::Jump,
-        9 => Place::Root,
-        _ => Place::At(n),
-    }
+    Ok(files_of(alloc, text.as_str())?)
 }
 
 fn is_live(leads: &Leads, file: u32, node: u32) -> bool {
     leads.is_live(Spot::At(NodeAt { file, node }))
 }
 
+/// The nodes of the file that are live, each with a space behind it.
+fn live_in(alloc: Global, leads: &Leads, file: u32) -> Result<String, Fail> {
+    let mut text = String::new(alloc);
+    for node in 0..6 {
+        if is_live(leads, file, node) {
+            text.push_str(format!(in alloc; "{node} ")?.as_str())?;
+        }
+    }
+    Ok(text)
+}
+
 #[test]
 fn a_node_is_live_where_something_can_be_reached(rt: HostRuntime) -> Result<(), Fail> {
     let alloc = rt.alloc();
-    // The edges of a file, and whether each of its nodes is live.
-    let rows: [(&str, &[(u32, u32)], [bool; 6]); 9] = [
-        ("no edges", &[], [false, false, false, false, false, false]),
-        (
-            "a ladder of dead ends",
-            &[(0, 1), (0, 2), (1, 2), (1, 3), (2, 3), (9, 0)],
-            [false, false, false, false, false, false],
-        ),
-        (
-            "a chain to a definition",
-            &[(0, 1), (1, 3), (3, 5)],
-            [true, true, false, true, false, false],
-        ),
-        (
-            "a chain to the jump",
-            &[(1, 2), (2, 8)],
-            [false, true, true, false, false, false],
-        ),
-        (
-            "a chain to the root",
-            &[(2, 5), (5, 9)],
-            [false, false, true, false, false, true],
-        ),
-        (
-            "an exported scope",
-            &[(2, 3), (3, 4)],
-            [false, false, true, true, false, false],
-        ),
-        (
-            "a node with an edge to itself",
-            &[(1, 2), (2, 2), (2, 3)],
-            [false, true, true, false, false, false],
-        ),
-        (
-            "an edge back",
-            &[(0, 1), (3, 1)],
-            [true, false, false, true, false, false],
-        ),
-        (
-            "one way of two",
-            &[(0, 1), (0, 2), (2, 5)],
-            [true, false, true, false, false, false],
-        ),
-    ];
-    let mut files = Vec::new(alloc);
-    for (_, edges, _) in rows {
-        push_file(alloc, &mut files, edges)?;
-    }
+    let files = files_of_rows(alloc)?;
     assert_eq!(rt; files.len(), 9);
     let leads = Leads::of(alloc, files.as_slice())?;
-    for (file, (name, _, live)) in rows.iter().enumerate() {
-        for (node, is) in live.iter().enumerate() {
-            assert_eq!(rt;
-                is_live(&leads, file as u32, node as u32),
-                *is,
-                "{name}: node {node}"
-            );
-        }
+    for (file, (edges, live)) in ROWS.iter().enumerate() {
+        let found = live_in(alloc, &leads, file as u32)?;
+        assert_eq!(rt; found.as_str(), *live, "{edges}");
     }
     assert!(rt; leads.is_live(Spot::Root), "the root");
     assert!(rt; is_live(&leads, 0, 6), "past the last node");
