@@ -1,5 +1,6 @@
 //! What no clause says: that the commands answer with memory at hand, on inputs worked by hand.
 mod python;
+mod versions;
 
 use crate::words::{Command, command_of};
 use crate::{once, upgrade};
