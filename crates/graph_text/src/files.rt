@@ -12,6 +12,9 @@ pub const MAX_PARTS: usize = 100_000;
 /// last `R` marks a reference, `D` a definition, `E` an exported scope. Edges stand between commas, as
 /// `0>1`, `root>0`, `2>jump`, or `1>2/3` with a precedence, else 0; `4-6` stands for `4>5, 5>6` and `6-4`
 /// for `5>4, 6>5`. A last ` *9` says that a node, an edge or a chain stands there nine times.
+///
+/// The first fault is told: `Word` where a word is none of these or no number, `Long` where a file would have
+/// more than `MAX_PARTS` nodes or edges, `Graph` where they are no graph.
 pub fn files_of(alloc: Global, text: &str) -> Result<Vec<FileGraph>, TextFault> {
     let mut files = Vec::new(alloc);
     for part in text.split(" & ") {

@@ -1,16 +1,20 @@
-ghost use Rattle.std.specs.Prelude.{◌≡◌, ◌<◌, All, IsTrue};
-ghost use Rattle.partial_path.specs.Moved.{Fits, FitsNode, FitsEnd, FitsSymbol};
+ghost use Rattle.std.specs.Prelude.{◌≡◌, ◌<◌, All, IsTrue, Some, IfOk, IfSome};
+ghost use Rattle.partial_path.specs.Apply.{apply};
+ghost use Rattle.partial_path.specs.Moved.{Fits, FitsNode, FitsEnd, FitsSymbol, moved};
 
 use partial_path::{Config, End, PartialPath, Spot};
 use stacks_vars::{NodeAt, SymOut};
 use std::alloc::{AllocError, Global};
 
-/// The path applied to the configuration, where all its nodes are of file 0; nothing else is applied.
+/// What the path gives applied to the configuration, where all its nodes are of file 0; else None, as where
+/// it gives nothing. The one error is want of memory.
 pub fn apply_inside(
     alloc: Global,
     path: &PartialPath,
     at: &Config,
-) -> Result<Option<Config>, AllocError> {
+) -> Result<Option<Config>, AllocError>
+    ensures { IfOk result (λ next. IfSome next (λ given. apply (moved 0 path.now) at.now ≡ Some given)) }
+{
     if !is_inside(path) {
         return Ok(None);
     }

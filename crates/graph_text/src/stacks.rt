@@ -4,7 +4,7 @@ use std::alloc::Global;
 
 /// The stacks that a text such as `p[45]x|6` stands for, each with its front first: the symbols `p`, with
 /// the scopes 4 and 5 of file 0 attached, and plain `x`; and behind the bar the scope stack. A symbol is one
-/// letter, a scope one digit.
+/// letter, a scope one digit. `Word` is told of a scope that stands in no stack.
 pub fn stacks_of(alloc: Global, text: &str) -> Result<Stacks, TextFault> {
     let mut stacks = Stacks::new(alloc);
     let mut scopes = Some(ScopeStack::new(alloc));
