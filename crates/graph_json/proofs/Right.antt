@@ -12,7 +12,7 @@ use Rattle.graph_nodes.specs.declared.node.Place.{Place}
 use Rattle.graph_nodes.specs.declared.node.Place.TheVariants.{Root, Jump, At}
 use Rattle.graph_nodes.specs.declared.fault.GraphFault.{GraphFault}
 use Rattle.graph_nodes.specs.declared.fault.GraphFault.TheVariants.{TooManyNodes, TooManyEdges, BadEnd, JumpSource, BadScope}
-use Rattle.graph_nodes.specs.declared.graph.TheConstants.{MAX_NODES, MAX_EDGES}
+use Rattle.graph_nodes.specs.Limits.{max_nodes, max_edges}
 use Rattle.graph_nodes.specs.Graph.{has_place, is_exported}
 use Rattle.graph_nodes.specs.Checked.{graph_fault, first_of, above, has_ends, has_scope, is_jump}
 use Rattle.graph_json.specs.Printed.{scope_of}
@@ -88,16 +88,16 @@ each P Q f [] h = tt
 each P Q f (x ∷ xs) h = (f x h.0, each P Q f xs h.1)
 
 module _ (nodes : List Node) (edges : List Edge) (right : graph_fault nodes edges ≡ None) where
-  parts : (option_map TooManyNodes (above MAX_NODES (length nodes)) ≡ None) × (option_map BadEnd (position (λ (e : Edge). not (has_ends (length nodes) e)) edges) ≡ None) × (option_map BadScope (position (λ (n : Node). not (has_scope nodes n.kind)) nodes) ≡ None)
+  parts : (option_map TooManyNodes (above max_nodes (length nodes)) ≡ None) × (option_map BadEnd (position (λ (e : Edge). not (has_ends (length nodes) e)) edges) ≡ None) × (option_map BadScope (position (λ (n : Node). not (has_scope nodes n.kind)) nodes) ≡ None)
   parts =
-      let a = first_none (option_map TooManyNodes (above MAX_NODES (length nodes))) _ right in
-      let b = first_none (option_map TooManyEdges (above MAX_EDGES (length edges))) _ a.1 in
+      let a = first_none (option_map TooManyNodes (above max_nodes (length nodes))) _ right in
+      let b = first_none (option_map TooManyEdges (above max_edges (length edges))) _ a.1 in
       let c = first_none (option_map BadEnd (position (λ (e : Edge). not (has_ends (length nodes) e)) edges)) _ b.1 in
       let d = first_none (option_map JumpSource (position (λ (e : Edge). is_jump e.source) edges)) _ c.1 in
       (a.0, c.0, d.1)
 
   pub few_nodes : length nodes < 2 ^ 32
-  few_nodes = let h = above_none MAX_NODES (length nodes) (map_none TooManyNodes (above MAX_NODES (length nodes)) parts.0) in omega (arith, h)
+  few_nodes = let h = above_none max_nodes (length nodes) (map_none TooManyNodes (above max_nodes (length nodes)) parts.0) in omega (arith, h)
 
   pub ends_in : AllByRecursion (EndsIn (length nodes)) edges
   ends_in =

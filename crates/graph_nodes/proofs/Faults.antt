@@ -8,7 +8,7 @@ use Rattle.graph_nodes.specs.declared.node.Node.{Node}
 use Rattle.graph_nodes.specs.declared.node.Edge.{Edge}
 use Rattle.graph_nodes.specs.declared.fault.GraphFault.{GraphFault}
 use Rattle.graph_nodes.specs.declared.fault.GraphFault.TheVariants.{TooManyNodes, TooManyEdges, BadEnd, JumpSource, BadScope}
-use Rattle.graph_nodes.specs.declared.graph.TheConstants.{MAX_NODES, MAX_EDGES}
+use Rattle.graph_nodes.specs.Limits.{max_nodes, max_edges}
 use Rattle.graph_nodes.specs.Checked.{has_ends, is_jump, has_scope, above, first_of, graph_fault}
 
 -- of two faults looked at in order there is none where there is neither
@@ -39,8 +39,8 @@ not-false false h = cc
 
 -- no fault, kind by kind
 pub record HasNoFault (nodes : List Node) (edges : List Edge) : Type 0 where
-  pub few_nodes : length nodes ≤ MAX_NODES
-  pub few_edges : length edges ≤ MAX_EDGES
+  pub few_nodes : length nodes ≤ max_nodes
+  pub few_edges : length edges ≤ max_edges
   pub ends : All (λ (e : Edge). IsTrue (has_ends (length nodes) e)) edges
   pub sources : All (λ (e : Edge). is_jump e.source ≡ false) edges
   pub scopes : All (λ (n : Node). IsTrue (has_scope nodes n.kind)) nodes
@@ -48,13 +48,13 @@ pub record HasNoFault (nodes : List Node) (edges : List Edge) : Type 0 where
 -- lists without a fault have none of any kind
 pub graph_fault-none : (nodes : List Node) (edges : List Edge) → graph_fault nodes edges ≡ None → HasNoFault nodes edges
 graph_fault-none nodes edges h =
-    let a = first_of-none (option_map TooManyNodes (above MAX_NODES (length nodes))) _ h in
-    let b = first_of-none (option_map TooManyEdges (above MAX_EDGES (length edges))) _ a.1 in
+    let a = first_of-none (option_map TooManyNodes (above max_nodes (length nodes))) _ h in
+    let b = first_of-none (option_map TooManyEdges (above max_edges (length edges))) _ a.1 in
     let c = first_of-none (option_map BadEnd (position (λ (e : Edge). not (has_ends (length nodes) e)) edges)) _ b.1 in
     let d = first_of-none (option_map JumpSource (position (λ (e : Edge). is_jump e.source) edges)) _ c.1 in
     record {
-      few_nodes = above-none MAX_NODES (length nodes) (option_map-none TooManyNodes _ a.0);
-      few_edges = above-none MAX_EDGES (length edges) (option_map-none TooManyEdges _ b.0);
+      few_nodes = above-none max_nodes (length nodes) (option_map-none TooManyNodes _ a.0);
+      few_edges = above-none max_edges (length edges) (option_map-none TooManyEdges _ b.0);
       ends = λ k e lt. not-false _ (position-none (λ (e : Edge). not (has_ends (length nodes) e)) edges (option_map-none BadEnd _ c.0) k e lt);
       sources = position-none (λ (e : Edge). is_jump e.source) edges (option_map-none JumpSource _ d.0);
       scopes = λ k n lt. not-false _ (position-none (λ (n : Node). not (has_scope nodes n.kind)) nodes (option_map-none BadScope _ d.1) k n lt);

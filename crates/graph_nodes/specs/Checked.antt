@@ -9,7 +9,7 @@ use Rattle.graph_nodes.specs.declared.node.Place.{Place}
 use Rattle.graph_nodes.specs.declared.node.Place.TheVariants.{Root, Jump, At}
 use Rattle.graph_nodes.specs.declared.fault.GraphFault.{GraphFault}
 use Rattle.graph_nodes.specs.declared.fault.GraphFault.TheVariants.{TooManyNodes, TooManyEdges, BadEnd, JumpSource, BadScope}
-use Rattle.graph_nodes.specs.declared.graph.TheConstants.{MAX_NODES, MAX_EDGES}
+use Rattle.graph_nodes.specs.Limits.{max_nodes, max_edges}
 use Rattle.graph_nodes.specs.Graph.{Graph, has_place, is_exported}
 
 -- whether both ends of the edge are there, among so many nodes
@@ -43,8 +43,8 @@ first_of None rest = rest
 -- the first fault of these nodes and edges: the first kind in this order, and of that kind the least position
 abbrev pub graph_fault : List Node → List Edge → Option GraphFault
 graph_fault nodes edges =
-    first_of (option_map TooManyNodes (above MAX_NODES (length nodes)))
-    (first_of (option_map TooManyEdges (above MAX_EDGES (length edges)))
+    first_of (option_map TooManyNodes (above max_nodes (length nodes)))
+    (first_of (option_map TooManyEdges (above max_edges (length edges)))
     (first_of (option_map BadEnd (position (λ (e : Edge). not (has_ends (length nodes) e)) edges))
     (first_of (option_map JumpSource (position (λ (e : Edge). is_jump e.source) edges))
     (option_map BadScope (position (λ (n : Node). not (has_scope nodes n.kind)) nodes)))))

@@ -1,4 +1,5 @@
 pub mod Graph
+pub mod Limits
 pub mod Checked
 pub mod Cut
 pub mod Out

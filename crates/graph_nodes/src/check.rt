@@ -85,7 +85,11 @@ fn has_its_scope(nodes: &[Node], kind: &NodeKind) -> bool
 {
     match kind {
         NodeKind::PushScoped { scope, .. } => is_exported_at(nodes, *scope as usize),
-        _ => true,
+        NodeKind::Scope { .. }
+        | NodeKind::Push { .. }
+        | NodeKind::Pop { .. }
+        | NodeKind::PopScoped { .. }
+        | NodeKind::Drops => true,
     }
 }
 
@@ -104,6 +108,10 @@ fn is_exported_scope(kind: &NodeKind) -> bool
 {
     match kind {
         NodeKind::Scope { exported } => *exported,
-        _ => false,
+        NodeKind::Push { .. }
+        | NodeKind::PushScoped { .. }
+        | NodeKind::Pop { .. }
+        | NodeKind::PopScoped { .. }
+        | NodeKind::Drops => false,
     }
 }

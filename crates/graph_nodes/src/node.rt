@@ -109,7 +109,10 @@ impl NodeKind {
     {
         match self {
             NodeKind::Push { reference, .. } | NodeKind::PushScoped { reference, .. } => *reference,
-            _ => false,
+            NodeKind::Scope { .. }
+            | NodeKind::Pop { .. }
+            | NodeKind::PopScoped { .. }
+            | NodeKind::Drops => false,
         }
     }
 
@@ -120,7 +123,10 @@ impl NodeKind {
         match self {
             NodeKind::Pop { definition, .. } | NodeKind::PopScoped { definition, .. } =>
                 *definition,
-            _ => false,
+            NodeKind::Scope { .. }
+            | NodeKind::Push { .. }
+            | NodeKind::PushScoped { .. }
+            | NodeKind::Drops => false,
         }
     }
 }

@@ -38,4 +38,11 @@ impl<L: Ledger> Steps<L> {
     {
         self.book.add(&mut self.share, 1);
     }
+
+    /// So many steps more, as a worker counted them that had no counter at hand.
+    pub fn add(&mut self, steps: u64)
+        ensures { self.new ≡ self.old + steps }
+    {
+        self.book.add(&mut self.share, steps);
+    }
 }

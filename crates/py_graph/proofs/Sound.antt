@@ -9,7 +9,7 @@ use Rattle.graph_nodes.specs.declared.node.NodeKind.TheVariants.{Scope, Push, Pu
 use Rattle.graph_nodes.specs.declared.node.Edge.{Edge}
 use Rattle.graph_nodes.specs.declared.node.Place.{Place}
 use Rattle.graph_nodes.specs.declared.node.Place.TheVariants as place
-use Rattle.graph_nodes.specs.declared.graph.TheConstants.{MAX_NODES, MAX_EDGES}
+use Rattle.graph_nodes.specs.Limits.{max_nodes, max_edges}
 use Rattle.graph_nodes.specs.Graph.{has_place, is_exported}
 use Rattle.graph_nodes.specs.Checked.{has_ends, is_jump, has_scope, graph_fault}
 use Rattle.py_subset.specs.declared.tree.Word.{Word}
@@ -59,7 +59,7 @@ joined-all P (x ∷ xs) ys h k = (h.0, joined-all P xs ys h.1 k)
 longer : (xs : List Node) (n : Node) → length xs ≤ length (xs ++ n ∷ [])
 longer xs n = simp length-append (omega arith)
 
-pub sound-node : (nodes : List Node) (edges : List Edge) (n : Node) → IsSound nodes edges → length nodes < MAX_NODES → has_scope nodes n.kind ≡ true → IsSound (nodes ++ n ∷ []) edges
+pub sound-node : (nodes : List Node) (edges : List Edge) (n : Node) → IsSound nodes edges → length nodes < max_nodes → has_scope nodes n.kind ≡ true → IsSound (nodes ++ n ∷ []) edges
 sound-node nodes edges n s lt scope = record {
   bound = simp length-append (omega arith);
   ends = weaker (λ (e : Edge). has_ends (length nodes) e ≡ true) (λ (e : Edge). has_ends (length (nodes ++ n ∷ [])) e ≡ true) edges (λ e h. ends-more (length nodes) (length (nodes ++ n ∷ [])) e (longer nodes n) h) s.ends;
@@ -86,11 +86,11 @@ not-less a b le = grind (arith, nat_tests)
 no-position : {X : Type 0} (p : X → Bool) (xs : List X) → AllByRecursion (λ x. p x ≡ false) xs → position p xs ≡ None
 no-position p xs h = rw (none-passes p xs h, not-less (length xs) (length xs) (omega arith)) refl
 
-pub sound-graph : (nodes : List Node) (edges : List Edge) → IsSound nodes edges → length edges ≤ MAX_EDGES → graph_fault nodes edges ≡ None
+pub sound-graph : (nodes : List Node) (edges : List Edge) → IsSound nodes edges → length edges ≤ max_edges → graph_fault nodes edges ≡ None
 sound-graph nodes edges s le =
     rw (
-      not-less MAX_NODES (length nodes) s.bound,
-      not-less MAX_EDGES (length edges) le,
+      not-less max_nodes (length nodes) s.bound,
+      not-less max_edges (length edges) le,
       no-position (λ (e : Edge). not (has_ends (length nodes) e)) edges (weaker (λ (e : Edge). has_ends (length nodes) e ≡ true) (λ (e : Edge). not (has_ends (length nodes) e) ≡ false) edges (λ e h. ap not h) s.ends),
       no-position (λ (e : Edge). is_jump e.source) edges s.sources,
       no-position (λ (n : Node). not (has_scope nodes n.kind)) nodes (weaker (λ (n : Node). has_scope nodes n.kind ≡ true) (λ (n : Node). not (has_scope nodes n.kind) ≡ false) nodes (λ n h. ap not h) s.scopes),
@@ -129,7 +129,7 @@ exported-last [] n span k e = rw e refl
 exported-last (x ∷ xs) n span zero e = absurd (omega arith)
 exported-last (x ∷ xs) n span (suc k) e = exported-last xs n span k (omega arith)
 
-pub sound-call : (nodes : List Node) (edges : List Edge) (symbol : List ℕ) (k : ℕ) → IsSound nodes edges → length nodes + 1 < MAX_NODES → k ≡ length nodes + 1
+pub sound-call : (nodes : List Node) (edges : List Edge) (symbol : List ℕ) (k : ℕ) → IsSound nodes edges → length nodes + 1 < max_nodes → k ≡ length nodes + 1
     → IsSound (nodes ++ record { kind = PushScoped symbol k false; span = None } ∷ record { kind = Scope true; span = None } ∷ []) edges
 sound-call nodes edges symbol k s lt e =
     let first : Node = record { kind = PushScoped symbol k false; span = None } in

@@ -3,7 +3,7 @@ use Rattle.std.specs.Prelude.{◌≡◌, ℕ, ◌<◌, ◌≤◌, List, length, 
 use Rattle.std.specs.List.{AllByRecursion}
 use Rattle.graph_nodes.specs.declared.node.Node.{Node}
 use Rattle.graph_nodes.specs.declared.node.Edge.{Edge}
-use Rattle.graph_nodes.specs.declared.graph.TheConstants.{MAX_NODES}
+use Rattle.graph_nodes.specs.Limits.{max_nodes}
 use Rattle.graph_nodes.specs.Graph.{Graph}
 use Rattle.graph_nodes.specs.Checked.{has_ends, is_jump, has_scope}
 use Rattle.py_graph.specs.Contexts.{Context}
@@ -42,7 +42,7 @@ pub record IsInside (g : Graph) (c : Context) : Type 0 where
 
 -- lists of nodes and edges in which each edge has ends that are there and each attached scope is exported
 pub record IsSound (nodes : List Node) (edges : List Edge) : Type 0 where
-  pub bound : length nodes ≤ MAX_NODES
+  pub bound : length nodes ≤ max_nodes
   pub ends : AllByRecursion (λ (e : Edge). has_ends (length nodes) e ≡ true) edges
   pub sources : AllByRecursion (λ (e : Edge). is_jump e.source ≡ false) edges
   pub scopes : AllByRecursion (λ (n : Node). has_scope nodes n.kind ≡ true) nodes

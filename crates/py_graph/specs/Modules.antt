@@ -4,7 +4,7 @@ use Rattle.py_subset.specs.declared.tree.Stmt.{Stmt}
 use Rattle.py_subset.specs.declared.tree.Module.{Module}
 use Rattle.graph_nodes.specs.declared.node.NodeKind.TheVariants.{Pop}
 use Rattle.graph_nodes.specs.declared.node.Span.{Span}
-use Rattle.graph_nodes.specs.declared.graph.TheConstants.{MAX_EDGES}
+use Rattle.graph_nodes.specs.Limits.{max_edges}
 use Rattle.graph_nodes.specs.Graph.{Graph}
 use Rattle.py_graph.specs.declared.fault.TransFault.{TransFault}
 use Rattle.py_graph.specs.declared.fault.TransFault.TheVariants as fault
@@ -57,7 +57,7 @@ empty = record { nodes = []; edges = [] }
 
 -- a graph, where it has no more edges than a file may have
 abbrev pub limited : Graph → Result Graph TransFault
-limited g = if nat_lt MAX_EDGES (length g.edges) then Err (fault.TooManyEdges 65537) else Ok g
+limited g = if nat_lt max_edges (length g.edges) then Err (fault.TooManyEdges 65537) else Ok g
 
 -- what the steps of the table leave, or the fault where they would make more nodes than a file may have
 abbrev pub told : Option (Unit {0} × Graph) → Result Graph TransFault

@@ -8,7 +8,7 @@ use Rattle.graph_nodes.specs.declared.node.Span.{Span}
 use Rattle.graph_nodes.specs.declared.node.Edge.{Edge}
 use Rattle.graph_nodes.specs.declared.node.Place.{Place}
 use Rattle.graph_nodes.specs.declared.node.Place.TheVariants as place
-use Rattle.graph_nodes.specs.declared.graph.TheConstants.{MAX_NODES}
+use Rattle.graph_nodes.specs.Limits.{max_nodes}
 use Rattle.graph_nodes.specs.Graph.{Graph}
 
 -- Steps with a value: they lead from the graph made so far to the value and the graph after them, or to
@@ -63,7 +63,7 @@ with_edge g e = record { nodes = g.nodes; edges = g.edges ++ e ∷ [] }
 -- makes a node, and gives its position
 abbrev pub node : NodeKind → Option Span → Steps ℕ
 node kind span = λ g.
-    if nat_lt (length g.nodes) MAX_NODES
+    if nat_lt (length g.nodes) max_nodes
     then Some (length g.nodes, with_node g (record { kind = kind; span = span }))
     else None
 

@@ -10,7 +10,7 @@ use Rattle.graph_nodes.specs.Whole.{node_of, is_cut_of}
 use Rattle.graph_nodes.specs.Checked.{IsChecked, first_of}
 use Rattle.graph_nodes.specs.declared.fault.GraphFault.{GraphFault}
 use Rattle.graph_nodes.specs.declared.fault.GraphFault.TheVariants.{TooManyNodes}
-use Rattle.graph_nodes.specs.declared.graph.TheConstants.{MAX_NODES}
+use Rattle.graph_nodes.specs.Limits.{max_nodes}
 use Rattle.graph_nodes.specs.declared.node.Node.{Node}
 use Rattle.graph_nodes.specs.declared.node.Edge.{Edge}
 use Rattle.graph_nodes.specs.declared.node.Place.{Place}
@@ -30,17 +30,17 @@ use Rattle.whole_search.proofs.Outs.{followed}
 use Rattle.whole_search.proofs.Prefixes.{first_step, run-with_edge, parts_of}
 use Rattle.whole_search.proofs.Reflect.{ends_cut-append}
 
--- no file has more than `MAX_NODES` nodes
+-- no file has more than `max_nodes` nodes
 abbrev pub AreSmall : List Graph → Type 0
-AreSmall files = (k : ℕ) (g : Graph) → slice_get files k ≡ Some g → length g.nodes ≤ MAX_NODES
+AreSmall files = (k : ℕ) (g : Graph) → slice_get files k ≡ Some g → length g.nodes ≤ max_nodes
 
 no_fault_above : (n : ℕ) (big : Bool) (rest : Option GraphFault) → first_of (option_map TooManyNodes (if big then Some n else None)) rest ≡ None → big ≡ false
 no_fault_above n true rest h = absurd (none-some (TooManyNodes n) (sym h))
 no_fault_above n false rest h = refl
 
--- a checked graph has at most `MAX_NODES` nodes
-pub nodes_of_checked : (g : Graph) → IsChecked g → length g.nodes ≤ MAX_NODES
-nodes_of_checked g h = ltb-false MAX_NODES (length g.nodes) (no_fault_above (length g.nodes) (ltb MAX_NODES (length g.nodes)) _ h)
+-- a checked graph has at most `max_nodes` nodes
+pub nodes_of_checked : (g : Graph) → IsChecked g → length g.nodes ≤ max_nodes
+nodes_of_checked g h = ltb-false max_nodes (length g.nodes) (no_fault_above (length g.nodes) (ltb max_nodes (length g.nodes)) _ h)
 
 pub AreSmall-from_checked : (files : List Graph) → ((k : ℕ) (g : Graph) → slice_get files k ≡ Some g → IsChecked g) → AreSmall files
 AreSmall-from_checked files each k g h = nodes_of_checked g (each k g h)
@@ -82,7 +82,7 @@ entered files file n stacks next g is h =
         slice_get_within g.nodes n node (sym (ap (λ (o : Option Graph). option_and_then (λ (x : Graph). slice_get x.nodes n) o) is) ∙ e)
 
 -- an edge that isn't a cut edge goes up in its file
-rises_to : (files : List Graph) (e : EdgeAt) (at next : Config) (g : Graph) (edge : Edge) → slice_get files e.file ≡ Some g → slice_get g.edges e.edge ≡ Some edge → (source sink : Place) → edge.source ≡ source → edge.sink ≡ sink → (spot : Spot) → stands_at e.file source spot ≡ true → enter_place files e.file sink at.stacks ≡ Some next → is_cut g sink ≡ false → length g.nodes ≤ MAX_NODES → (rank spot < rank next.spot) × (rank next.spot ≤ MAX_NODES)
+rises_to : (files : List Graph) (e : EdgeAt) (at next : Config) (g : Graph) (edge : Edge) → slice_get files e.file ≡ Some g → slice_get g.edges e.edge ≡ Some edge → (source sink : Place) → edge.source ≡ source → edge.sink ≡ sink → (spot : Spot) → stands_at e.file source spot ≡ true → enter_place files e.file sink at.stacks ≡ Some next → is_cut g sink ≡ false → length g.nodes ≤ max_nodes → (rank spot < rank next.spot) × (rank next.spot ≤ max_nodes)
 rises_to files e at next g edge h k source place.Root s t spot stands enters cut small = absurd (both_ways true cut refl)
 rises_to files e at next g edge h k source place.Jump s t spot stands enters cut small = absurd (both_ways true cut refl)
 rises_to files e at next g edge h k place.Jump (place.At n) s t spot stands enters cut small = absurd (false≢true stands)
@@ -117,7 +117,7 @@ cut_of_place files e g edge h k =
     (ap (λ (o : Option Graph). option_and_then (λ (x : Graph). slice_get x.edges e.edge) o) h ∙ k)
     ∙ ap (λ (o : Option Graph). option_map_or (λ (x : Graph). is_cut x edge.sink) o false) h
 
-pub rank-step : (files : List Graph) → AreSmall files → (at next : Config) (e : EdgeAt) → step files at e ≡ Some next → is_cut_edge files e ≡ false → (rank at.spot < rank next.spot) × (rank next.spot ≤ MAX_NODES)
+pub rank-step : (files : List Graph) → AreSmall files → (at next : Config) (e : EdgeAt) → step files at e ≡ Some next → is_cut_edge files e ≡ false → (rank at.spot < rank next.spot) × (rank next.spot ≤ max_nodes)
 rank-step files small at next e h cut =
     let f = followed files at e next h in
     rises_to files e at next f.graph f.edge f.graph_is f.edge_is f.edge.source f.edge.sink refl refl at.spot f.stands f.enters
@@ -141,10 +141,10 @@ bounded_where true b t h = h
 bounded_where false b t h = absurd (false≢true t)
 
 -- how long a run is by where it stands, one edge on
-one_longer : (bounds : Bounds) (files : List Graph) → AreSmall files → (c at next : Config) (p : List EdgeAt) (e : EdgeAt) → step files at e ≡ Some next → length p ≤ bounds.edges + min (rank at.spot) MAX_NODES → stays bounds files c (with_edge p e) ≡ true → length (with_edge p e) ≤ bounds.edges + min (rank next.spot) MAX_NODES
+one_longer : (bounds : Bounds) (files : List Graph) → AreSmall files → (c at next : Config) (p : List EdgeAt) (e : EdgeAt) → step files at e ≡ Some next → length p ≤ bounds.edges + min (rank at.spot) max_nodes → stays bounds files c (with_edge p e) ≡ true → length (with_edge p e) ≤ bounds.edges + min (rank next.spot) max_nodes
 one_longer bounds files small c at next p e h le stay = by (cases_Bool (is_cut_edge files e))
   where
-    by : (is_cut_edge files e ≡ true) ⊎ (is_cut_edge files e ≡ false) → length (with_edge p e) ≤ bounds.edges + min (rank next.spot) MAX_NODES
+    by : (is_cut_edge files e ≡ true) ⊎ (is_cut_edge files e ≡ false) → length (with_edge p e) ≤ bounds.edges + min (rank next.spot) max_nodes
     by (inl cut) =
         let bounded = bounded_where (ends_cut files (with_edge p e)) (is_bounded bounds files c (with_edge p e)) (ends_cut-append files p e [] ∙ cut) stay in
         let short : length (with_edge p e) ≤ bounds.edges = leb-true _ _ (and_parts _ _ bounded).0 in
@@ -153,15 +153,15 @@ one_longer bounds files small c at next p e h le stay = by (cases_Bool (is_cut_e
         let up = rank-step files small at next e h open' in
         let more : length (with_edge p e) ≡ length p + 1 = length-append p (e ∷ []) in
         let rises : rank at.spot < rank next.spot = up.0 in
-        let top : rank next.spot ≤ MAX_NODES = up.1 in
+        let top : rank next.spot ≤ max_nodes = up.1 in
         omega arith
 
-pub length-fronts_stay : (bounds : Bounds) (files : List Graph) → AreSmall files → (c at : Config) (p rest : List EdgeAt) → run files c p ≡ Some at → length p ≤ bounds.edges + min (rank at.spot) MAX_NODES → IsSome (run files at rest) → ((x : EdgeAt) (q r : List EdgeAt) → x ∷ (q ++ r) ≡ rest → stays bounds files c (p ++ x ∷ q) ≡ true) → length (p ++ rest) ≤ bounds.edges + MAX_NODES
+pub length-fronts_stay : (bounds : Bounds) (files : List Graph) → AreSmall files → (c at : Config) (p rest : List EdgeAt) → run files c p ≡ Some at → length p ≤ bounds.edges + min (rank at.spot) max_nodes → IsSome (run files at rest) → ((x : EdgeAt) (q r : List EdgeAt) → x ∷ (q ++ r) ≡ rest → stays bounds files c (p ++ x ∷ q) ≡ true) → length (p ++ rest) ≤ bounds.edges + max_nodes
 length-fronts_stay bounds files small c at p [] h le runs each =
     let same : length (p ++ []) ≡ length p = ap length (append-nil p) in omega arith
 length-fronts_stay bounds files small c at p (e ∷ rest) h le runs each =
     let f = first_step files at e rest runs in
-    subst (λ (xs : List EdgeAt). length xs ≤ bounds.edges + MAX_NODES) (append_assoc p (e ∷ []) rest)
+    subst (λ (xs : List EdgeAt). length xs ≤ bounds.edges + max_nodes) (append_assoc p (e ∷ []) rest)
     (length-fronts_stay bounds files small c f.0 (with_edge p e) rest (run-with_edge files c at f.0 p e h f.1)
     (one_longer bounds files small c at f.0 p e f.1 le (each e [] rest refl))
     f.2
@@ -173,7 +173,7 @@ length-fronts_stay bounds files small c at p (e ∷ rest) h le runs each =
 pub length-front : (bounds : Bounds) (files : List Graph) → AreSmall files → (c : Config) (q : List EdgeAt) (e : EdgeAt) (r : List EdgeAt) → IsSome (run files c (q ++ e ∷ r)) → FrontsStay bounds files c (q ++ e ∷ r) → length q < longest bounds
 length-front bounds files small c q e r runs each =
     let parts = parts_of files c q (e ∷ r) runs in
-    let short : length ([] ++ q) ≤ bounds.edges + MAX_NODES =
+    let short : length ([] ++ q) ≤ bounds.edges + max_nodes =
     length-fronts_stay bounds files small c c [] q refl (omega arith) (ap is_some parts.1) (λ x q' r' is.
     each (x ∷ q') (r' ++ e ∷ r) (sym (append_assoc (x ∷ q') r' (e ∷ r)) ∙ ap (λ (xs : List EdgeAt). xs ++ e ∷ r) is)
     (nonempty_append r' e r)) in

@@ -7,7 +7,7 @@ use Rattle.graph_nodes.specs.Graph.{Graph}
 use Rattle.graph_nodes.specs.Out.{edges_from}
 use Rattle.graph_nodes.specs.declared.node.Place.{Place}
 use Rattle.graph_nodes.specs.declared.node.Place.TheVariants as place
-use Rattle.graph_nodes.specs.declared.graph.TheConstants.{MAX_NODES}
+use Rattle.graph_nodes.specs.Limits.{max_nodes}
 use Rattle.partial_path.specs.declared.config.Spot.{Spot}
 use Rattle.partial_path.specs.declared.config.Spot.TheVariants.{Root, At}
 use Rattle.partial_path.specs.declared.config.Config.{Config}
@@ -93,7 +93,7 @@ lands files c es = ends_cut files es || completes files c es
 
 -- how long a run can get that is gone on with: a bounded one, and then at most each node of a file once
 abbrev pub longest : Bounds → ℕ
-longest bounds = bounds.edges + MAX_NODES + 1
+longest bounds = bounds.edges + max_nodes + 1
 
 -- whether the run ends where the search may go on: at one of the live spots
 abbrev pub ends_live : (Spot → Bool) → List Graph → Config → List EdgeAt → Bool
