@@ -12,19 +12,24 @@ pub struct SharedPaths {
 impl Model for SharedPaths {
     ghost use Rattle.std.specs.Arc.{arc_value};
     ghost use Rattle.partial_path.specs.PathSets.{FileRules};
+    ghost use Rattle.partial_path.specs.Sources.{IsSourceFile};
 
     ghost Value = { FileRules };
 
     ghost view = { λ s. arc_value s.paths };
+
+    ghost invariant = { λ s. IsSourceFile (arc_value s.paths) };
 }
 
 impl SharedPaths {
     ghost use Rattle.std.specs.Prelude.{◌≡◌, IfOk};
+    ghost use Rattle.partial_path.specs.Sources.{IsSourceFile};
 
     /// These paths, to be shared; the one error is want of memory.
     pub fn of(alloc: Global, paths: FilePaths) -> Result<SharedPaths, AllocError>
         ensures { IfOk result (λ shared. shared ≡ paths) }
     {
+        let _nodes = paths.node_count();
         Ok(SharedPaths {
             paths: Arc::new(alloc, paths)?,
         })
@@ -39,9 +44,10 @@ impl SharedPaths {
         })
     }
 
-    /// The paths.
+    /// The paths: all of a checked graph, with its weight.
     pub fn get(&self) -> &FilePaths
-        ensures { result.now ≡ self.now }
+        ensures value { result.now ≡ self.now }
+        ensures sets { IsSourceFile self.now }
     {
         &self.paths
     }

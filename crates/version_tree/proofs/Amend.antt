@@ -4,7 +4,7 @@ use Rattle.std.specs.Option.{option_map}
 use Rattle.version_tree.specs.declared.edit.Edit.{Edit}
 use Rattle.version_tree.specs.declared.edit.EditFault.{EditFault}
 use Rattle.version_tree.specs.declared.edit.EditFault.TheVariants.{Twice, Absent, TooManyFiles, TooHeavy, Spent}
-use Rattle.version_tree.specs.declared.edit.TheConstants.{MAX_FILES, MAX_VERSION_WEIGHT, MAX_NUMBER}
+use Rattle.version_tree.specs.Limits.{max_files, max_weight, max_number}
 use Rattle.grants.specs.Covers.{Rules}
 use Rattle.std.specs.Prelude.{nat_le}
 use Rattle.std.proofs.lemmas.Bool.Decides.{nat_tests}
@@ -28,17 +28,17 @@ regroup t a g d n w s = ap (λ x. first_of t (first_of a x)) (first-assoc g d (f
 pub verdict : (number : ℕ) (v : Content) (edits : List Edit) → edit_fault number v edits ≡ whole (option_map Twice (twice edits)) (option_map Absent (absent v.rows edits)) (rule_fault v.rules edits) (size_fault (rowed_all edits v.rows)) (spent number)
 verdict number v edits =
     regroup (option_map Twice (twice edits)) (option_map Absent (absent v.rows edits)) (option_map no_grant (grant_absent v.rules edits)) (option_map no_deny (deny_absent v.rules edits))
-    (option_map TooManyFiles (above MAX_FILES (length (edited_all edits v).rows))) (option_map TooHeavy (above MAX_VERSION_WEIGHT (weight_of (edited_all edits v).rows))) (spent number)
+    (option_map TooManyFiles (above max_files (length (edited_all edits v).rows))) (option_map TooHeavy (above max_weight (weight_of (edited_all edits v).rows))) (spent number)
     ∙ ap (λ (w : Content). whole (option_map Twice (twice edits)) (option_map Absent (absent v.rows edits)) (rule_fault v.rules edits) (size_fault w.rows) (spent number)) (edited-parts edits v)
 
 to-size : (t a r z s : Option EditFault) → t ≡ None → a ≡ None → r ≡ None → whole t a r z s ≡ first_of z s
 to-size t a r z s et ea er = first-none t _ et ∙ first-none a _ ea ∙ first-none r _ er
 
-spent-some : (number : ℕ) → MAX_NUMBER ≤ number → spent number ≡ Some Spent
-spent-some number le = let e : nat_le MAX_NUMBER number ≡ true = grind (arith, nat_tests) in rw e refl
+spent-some : (number : ℕ) → max_number ≤ number → spent number ≡ Some Spent
+spent-some number le = let e : nat_le max_number number ≡ true = grind (arith, nat_tests) in rw e refl
 
-spent-none : (number : ℕ) → number < MAX_NUMBER → spent number ≡ None
-spent-none number lt = let e : nat_le MAX_NUMBER number ≡ false = grind (arith, nat_tests) in rw e refl
+spent-none : (number : ℕ) → number < max_number → spent number ≡ None
+spent-none number lt = let e : nat_le max_number number ≡ false = grind (arith, nat_tests) in rw e refl
 
 module _ (number : ℕ) (v : Content) (edits : List Edit) (after : List FileRow)
     (t : option_map Twice (twice edits) ≡ None) (a : option_map Absent (absent v.rows edits) ≡ None) (r : rule_fault v.rules edits ≡ None) (is : after ≡ rowed_all edits v.rows) where
@@ -48,10 +48,10 @@ module _ (number : ℕ) (v : Content) (edits : List Edit) (after : List FileRow)
   pub size-told : (e : EditFault) → Refuses (size_fault after) e → Refuses (edit_fault number v edits) e
   size-told e told = λ ne. left ∙ first-some (size_fault after) (spent number) e (told ne)
 
-  pub spent-told : size_fault after ≡ None → MAX_NUMBER ≤ number → edit_fault number v edits ≡ Some Spent
+  pub spent-told : size_fault after ≡ None → max_number ≤ number → edit_fault number v edits ≡ Some Spent
   spent-told few le = left ∙ first-none _ _ few ∙ spent-some number le
 
-  pub fits : size_fault after ≡ None → number < MAX_NUMBER → edit_fault number v edits ≡ None
+  pub fits : size_fault after ≡ None → number < max_number → edit_fault number v edits ≡ None
   fits few lt = left ∙ first-none _ _ few ∙ spent-none number lt
 
 pub holds : (v : Content) (edits : List Edit) (after : List FileRow) (rules : Rules) → after ≡ rowed_all edits v.rows → rules ≡ ruled_all edits v.rules → content after rules ≡ edited_all edits v

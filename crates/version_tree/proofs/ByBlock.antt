@@ -1,6 +1,6 @@
 -- What all rows are with a row and without one, by the block that its path goes to, and what other rows in the place
 -- of that block's make of the blocks.
-use Rattle.std.proofs.Common.{◌≡◌, ℕ, ◌+◌, ◌<◌, ◌≤◌, List, [], ◌∷◌, ◌++◌, length, get_or, take, drop, arith, ap, sym, ◌∙◌, subst, cond, append-nil, not, length-append, length-take, length-drop}
+use Rattle.std.proofs.Common.{◌≡◌, ℕ, ◌+◌, ◌<◌, ◌≤◌, List, [], ◌∷◌, ◌++◌, length, get_or, take, drop, arith, ap, sym, ◌∙◌, subst, cond, append-nil, not, length-append, length-take, length-drop, slice_get, Option, None, Some, MatchOption, false}
 use Rattle.std.specs.List.{AllByRecursion, filter}
 use Rattle.std.specs.Ordering.{is_lt, is_eq, is_gt}
 use Rattle.std.specs.declared.cmp.Ordering.TheVariants.{Less, Equal, Greater}
@@ -8,14 +8,14 @@ use Rattle.std.proofs.lemmas.List.{take_more}
 use Rattle.std.proofs.lemmas.List.Elements.{filter-append}
 use Rattle.partial_path.specs.PathSets.{FileRules}
 use Rattle.grants.specs.Covers.{Rules, covers}
-use Rattle.version_tree.specs.Contents.{FileRow, file_row, IsInOrder, has_path, with_row, without_row, covered}
+use Rattle.version_tree.specs.Contents.{FileRow, file_row, IsInOrder, HaveSets, has_path, with_row, without_row, covered}
 use Rattle.version_tree.specs.Verdict.{weight_of}
-use Rattle.version_tree.specs.Places.{beside}
+use Rattle.version_tree.specs.Places.{beside, IsRowWith}
 use Rattle.version_tree.specs.Blocks.{IsBlock, all_rows, AreBlocks, IsBlockFor}
-use Rattle.version_tree.proofs.Parts.{all-left, all-right, all-append, filter-short, with-part, without-part, has-part}
+use Rattle.version_tree.proofs.Parts.{all-left, all-right, all-append, filter-short, with-part, without-part, has-part, HasSet}
 use Rattle.version_tree.proofs.Place.{split_at}
 use Rattle.version_tree.proofs.Weights.{weight-append}
-use Rattle.version_tree.proofs.Joined.{rows-append, rows-parts}
+use Rattle.version_tree.proofs.Joined.{rows-append, rows-parts, slice_get-left, slice_get-right}
 
 -- the block at a place, and the blocks around it
 module _ (blocks : List (List FileRow)) (i : ℕ) (m : List FileRow) (lt : i < length blocks) (here : m ≡ get_or blocks i m) where
@@ -71,13 +71,18 @@ module _ (blocks : List (List FileRow)) (i : ℕ) (m : List FileRow) (lt : i < l
         let after = ap length rows-replaced ∙ length-parts (all_rows (take i blocks)) rows (all_rows (drop (i + 1) blocks)) in
         omega (arith, before, after, e)
 
-    pub sound-replaced : AreBlocks blocks → AllByRecursion IsBlock parts → IsInOrder (all_rows (take i blocks) ++ (rows ++ all_rows (drop (i + 1) blocks))) → AreBlocks (take i blocks ++ (parts ++ drop (i + 1) blocks))
-    sound-replaced sound sizes up =
+    pub sound-replaced : AreBlocks blocks → AllByRecursion IsBlock parts → HaveSets rows → IsInOrder (all_rows (take i blocks) ++ (rows ++ all_rows (drop (i + 1) blocks))) → AreBlocks (take i blocks ++ (parts ++ drop (i + 1) blocks))
+    sound-replaced sound sizes sets up =
         let split = subst (AllByRecursion IsBlock) (around blocks i m lt here) sound.sizes in
+        let kept = subst HaveSets (rows-around blocks i m lt here) sound.sets in
         record {
           sizes = all-append IsBlock (take i blocks) (parts ++ drop (i + 1) blocks) (all-left IsBlock (take i blocks) (m ∷ drop (i + 1) blocks) split)
               (all-append IsBlock parts (drop (i + 1) blocks) sizes (all-right IsBlock (take i blocks) (m ∷ drop (i + 1) blocks) split).1);
           order = subst IsInOrder (sym rows-replaced) up;
+          sets = subst HaveSets (sym rows-replaced) (all-append HasSet (all_rows (take i blocks)) (rows ++ all_rows (drop (i + 1) blocks))
+              (all-left HasSet (all_rows (take i blocks)) (m ++ all_rows (drop (i + 1) blocks)) kept)
+              (all-append HasSet rows (all_rows (drop (i + 1) blocks)) sets
+              (all-right HasSet m (all_rows (drop (i + 1) blocks)) (all-right HasSet (all_rows (take i blocks)) (m ++ all_rows (drop (i + 1) blocks)) kept))));
         }
 
 -- the rows that a user may see, one block on
@@ -118,3 +123,17 @@ pub upper-half : (rows : List FileRow) → 64 < length rows → length rows ≤ 
 upper-half rows many few =
     let e = length-drop 32 rows in
     record { some = omega (arith, e, many); few = omega (arith, e, few) }
+
+-- what the block that a path goes to tells of a row with the path, all rows tell
+pub row-there : {R : Type 0} (now : R → FileRow) (path : List ℕ) (blocks : List (List FileRow)) (i : ℕ) (m : List FileRow)
+    → IsBlockFor path blocks i → m ≡ get_or blocks i m → (o : Option R)
+    → MatchOption o (has_path path m ≡ false) (λ r. IsRowWith path m (now r))
+    → MatchOption o (has_path path (all_rows blocks) ≡ false) (λ r. IsRowWith path (all_rows blocks) (now r))
+row-there now path blocks i m place here None e = has-there path blocks i m place here ∙ e
+row-there now path blocks i m place here (Some r) found = record {
+  named = found.named;
+  place = length (all_rows (take i blocks)) + found.place;
+  there = ap (λ rows. slice_get rows (length (all_rows (take i blocks)) + found.place)) (rows-around blocks i m place.in_range here)
+      ∙ slice_get-right (all_rows (take i blocks)) (m ++ all_rows (drop (i + 1) blocks)) found.place
+      ∙ slice_get-left m (all_rows (drop (i + 1) blocks)) found.place (now r) found.there;
+}

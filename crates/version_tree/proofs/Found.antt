@@ -1,16 +1,18 @@
 -- What rows are with a row and without one, by the place that the search found.
-use Rattle.std.proofs.Common.{◌≡◌, ℕ, ◌+◌, ◌<◌, List, [], ◌∷◌, ◌++◌, take, drop, set, length, zero, suc, arith, true, false, Some, ap, sym, ◌∙◌, subst, add-one}
+use Rattle.std.proofs.Common.{◌≡◌, ℕ, ◌+◌, ◌<◌, List, [], ◌∷◌, ◌++◌, take, drop, set, length, get_or, zero, suc, arith, true, false, Some, None, ap, sym, ◌∙◌, subst, add-one}
 use Rattle.std.specs.List.{AllByRecursion, insert, remove}
 use Rattle.std.specs.declared.cmp.Ordering.TheVariants.{Less, Equal, Greater}
 use Rattle.std.proofs.lemmas.List.{take-append-drop}
 use Rattle.std.specs.Option.{option_map}
-use Rattle.std.proofs.lemmas.Option.{slice_get-get_or}
-use Rattle.version_tree.specs.Views.{path_at}
+use Rattle.std.proofs.lemmas.Option.{slice_get-get_or, slice_get_within, get_or_from_slice_get}
+use Rattle.std.specs.Ordering.{is_eq}
+use Rattle.version_tree.specs.Views.{path_at, file_at, file_with}
 use Rattle.partial_path.specs.PathSets.{FileRules}
 use Rattle.version_tree.specs.Contents.{FileRow, file_row, path_cmp, IsInOrder, has_path, with_row, without_row}
-use Rattle.version_tree.specs.Places.{beside, IsAt, IsGapFor}
-use Rattle.version_tree.proofs.Order.{less_flipped, same_path}
-use Rattle.version_tree.proofs.Parts.{each, all-right, IsLow, IsHigh, with-part, without-part, has-part, with-one, without-one, has-one}
+use Rattle.version_tree.specs.Places.{beside, IsAt, IsGapFor, IsRowWith}
+use Rattle.version_tree.proofs.Order.{less_flipped, same_path, tied}
+use Rattle.version_tree.proofs.Parts.{each, all-right, none-kept, IsLow, IsHigh, with-part, without-part, has-part, only-part, with-one, without-one, has-one, only-one}
+use Rattle.version_tree.proofs.Place.{split_at}
 
 pub set-parts : {X : Type 0} (xs : List X) (i : ℕ) (x : X) → i < length xs → set xs i x ≡ take i xs ++ x ∷ drop (i + 1) xs
 set-parts [] i x lt = absurd (omega arith)
@@ -79,3 +81,28 @@ pub at-path : (path : List ℕ) (rows : List FileRow) (i : ℕ) → IsAt (beside
 at-path path rows i place =
     ap (option_map (λ (row : FileRow). row.path)) (slice_get-get_or rows i place.item place.in_range ∙ ap Some (place.here place.item))
     ∙ ap Some (same_path place.item.path path place.tie)
+
+-- the row that the search found
+pub row-at : (path : List ℕ) (rows : List FileRow) (i : ℕ) (row : FileRow) → IsAt (beside path) rows i → row ≡ get_or rows i row → IsRowWith path rows row
+row-at path rows i row place is = record {
+  named = ap (λ (r : FileRow). r.path) (is ∙ place.here row) ∙ same_path place.item.path path place.tie;
+  place = i;
+  there = slice_get-get_or rows i row place.in_range ∙ ap Some (sym is);
+}
+
+-- the file at the path, by the row that has it
+pub file-found : (path : List ℕ) (rows : List FileRow) (row : FileRow) → IsInOrder rows → IsRowWith path rows row → file_with path rows ≡ Some row.file
+file-found path rows row up found =
+    let i = found.place in
+    let lt = slice_get_within rows i row found.there in
+    let split : rows ≡ take i rows ++ row ∷ drop (i + 1) rows =
+    split_at rows i row lt ∙ ap (λ x. take i rows ++ x ∷ drop (i + 1) rows) (get_or_from_slice_get rows i row row found.there) in
+    let tie : beside path row ≡ Equal = ap (λ p. path_cmp p path) found.named ∙ tied path in
+    let up-split = subst IsInOrder split up in
+    ap (file_with path) split
+    ∙ ap (λ (rs : List FileRow). file_at rs 0)
+    (only-part path (take i rows) (row ∷ []) (drop (i + 1) rows) (low-before path (take i rows) (drop (i + 1) rows) row tie up-split) (high-after path (take i rows) (drop (i + 1) rows) row tie up-split)
+    ∙ only-one path row tie)
+
+pub file-absent : (path : List ℕ) (rows : List FileRow) → has_path path rows ≡ false → file_with path rows ≡ None
+file-absent path rows e = ap (λ (rs : List FileRow). file_at rs 0) (none-kept (λ (row : FileRow). is_eq (path_cmp row.path path)) rows e)

@@ -1,17 +1,18 @@
 -- Rows in blocks: the block that a path goes to, and what all rows are with a row and without one, by that block.
-use Rattle.std.proofs.Common.{◌≡◌, ℕ, zero, suc, ◌+◌, ◌-◌, ◌<◌, List, [], ◌∷◌, ◌++◌, length, get_or, take, drop, arith, ap, sym, ◌∙◌, subst, add-one, nat_eq, false}
+use Rattle.std.proofs.Common.{◌≡◌, ℕ, zero, suc, ◌+◌, ◌-◌, ◌<◌, ◌≤◌, List, [], ◌∷◌, ◌++◌, length, get_or, take, drop, arith, ap, sym, ◌∙◌, subst, add-one, nat_eq, false, slice_get, Some, None, inl, inr, length-append}
 use Rattle.std.specs.List.{AllByRecursion}
 use Rattle.std.specs.Ordering.{is_lt, ordering_index}
 use Rattle.std.specs.List.Sorted.{IsNonDecreasingBy}
 use Rattle.std.specs.declared.cmp.Ordering.TheVariants.{Less, Equal, Greater}
-use Rattle.std.proofs.lemmas.List.{take_more, take-append-drop}
+use Rattle.std.proofs.lemmas.List.{take_more, take-append-drop, at_drop_more, drop_all, get_or_append_left, get_or-append-add}
+use Rattle.std.proofs.lemmas.Option.{slice_get_within, slice_get-get_or, get_or_from_slice_get, slice_get_cases, slice_get_past}
 use Rattle.std.proofs.lemmas.List.Concat.{flat_map-append}
 use Rattle.std.proofs.lemmas.List.Sorted.{searchable_from_sorted}
-use Rattle.version_tree.specs.Contents.{FileRow, path_cmp, IsInOrder}
+use Rattle.version_tree.specs.Contents.{FileRow, path_cmp, IsInOrder, HaveSets, AreRows}
 use Rattle.version_tree.specs.Places.{beside, IsAt, IsGapFor}
 use Rattle.version_tree.specs.Blocks.{IsBlock, all_rows, AreBlocks, first_path, first_beside, IsBlockFor}
 use Rattle.version_tree.proofs.Order.{path_total, less_flipped, greater_flipped}
-use Rattle.version_tree.proofs.Parts.{each, all-left, all-right, IsLow, IsHigh}
+use Rattle.version_tree.proofs.Parts.{each, all-left, all-right, IsLow, IsHigh, HasSet}
 use Rattle.version_tree.proofs.Place.{split_at}
 use Rattle.version_tree.proofs.Found.{before-row, low-before, high-after}
 
@@ -33,8 +34,52 @@ order-right (row ∷ f) b up = order-right f b up.1
 pub order-take : (n : ℕ) (rows : List FileRow) → IsInOrder rows → IsInOrder (take n rows)
 order-take n rows up = order-left (take n rows) (drop n rows) (subst IsInOrder (sym (take-append-drop n rows)) up)
 
+pub sets-take : (n : ℕ) (rows : List FileRow) → HaveSets rows → HaveSets (take n rows)
+sets-take n rows sets = all-left HasSet (take n rows) (drop n rows) (subst HaveSets (sym (take-append-drop n rows)) sets)
+
+pub sets-drop : (n : ℕ) (rows : List FileRow) → HaveSets rows → HaveSets (drop n rows)
+sets-drop n rows sets = all-right HasSet (take n rows) (drop n rows) (subst HaveSets (sym (take-append-drop n rows)) sets)
+
 pub order-drop : (n : ℕ) (rows : List FileRow) → IsInOrder rows → IsInOrder (drop n rows)
 order-drop n rows up = order-right (take n rows) (drop n rows) (subst IsInOrder (sym (take-append-drop n rows)) up)
+
+pub rows-take : (n : ℕ) (rows : List FileRow) → AreRows rows → AreRows (take n rows)
+rows-take n rows kept = record { order = order-take n rows kept.order; sets = sets-take n rows kept.sets }
+
+pub rows-drop : (n : ℕ) (rows : List FileRow) → AreRows rows → AreRows (drop n rows)
+rows-drop n rows kept = record { order = order-drop n rows kept.order; sets = sets-drop n rows kept.sets }
+
+-- an element of two lists, one after the other
+pub slice_get-left : {X : Type 0} (xs ys : List X) (k : ℕ) (x : X) → slice_get xs k ≡ Some x → slice_get (xs ++ ys) k ≡ Some x
+slice_get-left xs ys k x e =
+    let lt = slice_get_within xs k x e in
+    let both = length-append xs ys in
+    slice_get-get_or (xs ++ ys) k x (omega (arith, lt, both)) ∙ ap Some (get_or_append_left xs ys x k lt ∙ get_or_from_slice_get xs k x x e)
+
+pub slice_get-right : {X : Type 0} (xs ys : List X) (k : ℕ) → slice_get (xs ++ ys) (length xs + k) ≡ slice_get ys k
+slice_get-right xs ys k =
+    let both = length-append xs ys in
+    elim (slice_get_cases ys k).1 [
+      | inl there ↦ let lt = there.1 in slice_get-get_or (xs ++ ys) (length xs + k) there.0 (omega (arith, lt, both)) ∙ ap Some (get_or-append-add xs ys k there.0 ∙ there.3) ∙ sym there.2
+      | inr past ↦ let le = past.0 in slice_get_past (xs ++ ys) (length xs + k) (omega (arith, le, both)) ∙ sym past.1
+    ]
+
+-- a row of the blocks from one on: of that block, or of those after it
+module _ (blocks : List (List FileRow)) (i : ℕ) (m : List FileRow) (lt : i < length blocks) (here : m ≡ get_or blocks i m) where
+  rows-from : all_rows (drop i blocks) ≡ m ++ all_rows (drop (i + 1) blocks)
+  rows-from = at_drop_more all_rows blocks i m lt ∙ ap (λ x. all_rows (x ∷ drop (i + 1) blocks)) (sym here)
+
+  pub row-here : (left : ℕ) (row : FileRow) → slice_get m left ≡ Some row → slice_get (all_rows (drop i blocks)) left ≡ Some row
+  row-here left row e = ap (λ rows. slice_get rows left) rows-from ∙ slice_get-left m (all_rows (drop (i + 1) blocks)) left row e
+
+  pub row-later : (left : ℕ) → length m ≤ left → slice_get (all_rows (drop i blocks)) left ≡ slice_get (all_rows (drop (i + 1) blocks)) (left - length m)
+  row-later left le =
+      let sum : left ≡ length m + (left - length m) = omega (arith, le) in
+      ap (slice_get (all_rows (drop i blocks))) sum ∙ ap (λ rows. slice_get rows (length m + (left - length m))) rows-from
+      ∙ slice_get-right m (all_rows (drop (i + 1) blocks)) (left - length m)
+
+pub row-none : (blocks : List (List FileRow)) (i left : ℕ) → length blocks ≤ i → slice_get (all_rows (drop i blocks)) left ≡ None
+row-none blocks i left le = ap (λ bs. slice_get (all_rows bs) left) (drop_all i blocks le) ∙ slice_get_past [] left (omega arith)
 
 -- the blocks rise by their first rows
 rising : (blocks : List (List FileRow)) → AllByRecursion IsBlock blocks → IsInOrder (all_rows blocks) → (k : ℕ) (d : List FileRow) → k + 1 < length blocks → path_cmp (first_path (get_or blocks k d)) (first_path (get_or blocks (k + 1) d)) ≡ Less

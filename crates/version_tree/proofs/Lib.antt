@@ -10,3 +10,4 @@ pub mod Least
 pub mod Twice
 pub mod Joined
 pub mod ByBlock
+pub mod GraphRows

@@ -9,7 +9,8 @@ use Rattle.std.proofs.lemmas.Bool.{cond-true, cond-false}
 use Rattle.std.proofs.lemmas.List.Elements.{filter-append}
 use Rattle.std.proofs.lemmas.List.Filters.{length-filter_both}
 use Rattle.partial_path.specs.PathSets.{FileRules}
-use Rattle.version_tree.specs.Contents.{FileRow, file_row, path_cmp, IsInOrder, has_path, with_row, without_row}
+use Rattle.partial_path.specs.Sources.{IsSourceFile}
+use Rattle.version_tree.specs.Contents.{FileRow, file_row, path_cmp, IsInOrder, AreRows, has_path, with_row, without_row}
 use Rattle.version_tree.specs.Places.{beside}
 use Rattle.version_tree.proofs.Order.{path_total, greater_flipped}
 
@@ -41,6 +42,14 @@ module _ {X : Type 0} where
   pub dropped : (t : X → Bool) (xs : List X) → AllByRecursion (λ x. t x ≡ false) xs → filter t xs ≡ []
   dropped t [] h = refl
   dropped t (x ∷ xs) h = cond-false (t x) _ _ h.0 ∙ dropped t xs h.1
+
+  none-first : (t : X → Bool) (x : X) (xs : List X) (v : Bool) → (v || list_any t xs) ≡ false → (list_any t xs ≡ false → filter t xs ≡ []) → cond v (x ∷ filter t xs) (filter t xs) ≡ []
+  none-first t x xs true h rest = cc
+  none-first t x xs false h rest = rest h
+
+  pub none-kept : (t : X → Bool) (xs : List X) → list_any t xs ≡ false → filter t xs ≡ []
+  none-kept t [] h = refl
+  none-kept t (x ∷ xs) h = none-first t x xs (t x) h (none-kept t xs)
 
   pub none : (t : X → Bool) (xs : List X) → AllByRecursion (λ x. t x ≡ false) xs → list_any t xs ≡ false
   none t [] h = refl
@@ -96,6 +105,11 @@ module _ (path : List ℕ) (f m b : List FileRow) (low : IsLow path f) (high : I
   has-part = any-skip (λ (row : FileRow). is_eq (beside path row)) f (m ++ b) (tests is_eq Less false path f refl low)
       ∙ any-short (λ (row : FileRow). is_eq (beside path row)) m b (tests is_eq Greater false path b refl high)
 
+  pub only-part : filter (λ (row : FileRow). is_eq (beside path row)) (f ++ (m ++ b)) ≡ filter (λ (row : FileRow). is_eq (beside path row)) m
+  only-part = parted is_eq path f m b
+      ∙ (λ j. drops is_eq Less path f refl low j ++ (filter (λ (row : FileRow). is_eq (beside path row)) m ++ drops is_eq Greater path b refl high j))
+      ∙ append-nil (filter (λ (row : FileRow). is_eq (beside path row)) m)
+
 -- a part of one row that has the path
 at : (t : Ordering → Bool) (v : Bool) (path : List ℕ) (row : FileRow) → beside path row ≡ Equal → t Equal ≡ v → t (beside path row) ≡ v
 at t v path row tie e = ap t tie ∙ e
@@ -105,6 +119,9 @@ with-one path file row tie = λ i. cond-false (is_lt (beside path row)) (row ∷
 
 pub without-one : (path : List ℕ) (row : FileRow) → beside path row ≡ Equal → without_row path (row ∷ []) ≡ []
 without-one path row tie = cond-false (is_other (beside path row)) (row ∷ []) [] (at is_other false path row tie refl)
+
+pub only-one : (path : List ℕ) (row : FileRow) → beside path row ≡ Equal → filter (λ (row : FileRow). is_eq (beside path row)) (row ∷ []) ≡ row ∷ []
+only-one path row tie = cond-true (is_eq (beside path row)) (row ∷ []) [] (at is_eq true path row tie refl)
 
 pub has-one : (path : List ℕ) (row : FileRow) → beside path row ≡ Equal → has_path path (row ∷ []) ≡ true
 has-one path row tie = rw (at is_eq true path row tie refl) refl
@@ -155,3 +172,18 @@ with-in-order path file rows up =
     join-in-order path (filter (λ (row : FileRow). is_lt (beside path row)) rows) (file_row path file ∷ []) (filter (λ (row : FileRow). is_gt (beside path row)) rows)
     (filter-in-order (λ (row : FileRow). is_lt (beside path row)) rows up)
     (high, filter-in-order (λ (row : FileRow). is_gt (beside path row)) rows up) low high (refl, tt)
+
+-- rows that are kept stay so
+abbrev pub HasSet : FileRow → Type 0
+HasSet row = IsSourceFile row.file
+
+pub filter-rows : (t : FileRow → Bool) (rows : List FileRow) → AreRows rows → AreRows (filter t rows)
+filter-rows t rows kept = record { order = filter-in-order t rows kept.order; sets = all-filter HasSet t rows kept.sets }
+
+pub with-rows : (path : List ℕ) (file : FileRules) (rows : List FileRow) → IsSourceFile file → AreRows rows → AreRows (with_row path file rows)
+with-rows path file rows set kept = record {
+  order = with-in-order path file rows kept.order;
+  sets = all-append HasSet (filter (λ (row : FileRow). is_lt (beside path row)) rows) (file_row path file ∷ filter (λ (row : FileRow). is_gt (beside path row)) rows)
+      (all-filter HasSet (λ (row : FileRow). is_lt (beside path row)) rows kept.sets)
+      (set, all-filter HasSet (λ (row : FileRow). is_gt (beside path row)) rows kept.sets);
+}

@@ -7,11 +7,11 @@ use Rattle.std.proofs.lemmas.List.{at_drop_more}
 use Rattle.grants.specs.Pairs.{Pair, pair, pair_cmp, has_pair, without_pair}
 use Rattle.grants.specs.Covers.{Rules}
 use Rattle.version_tree.specs.declared.edit.Edit.{Edit}
-use Rattle.version_tree.specs.declared.edit.Edit.TheVariants.{Undeny}
+use Rattle.version_tree.specs.declared.edit.Edit.TheVariants.{Put, Remove, Grant, Revoke, Deny, Undeny}
 use Rattle.version_tree.specs.declared.edit.EditFault.{EditFault}
 use Rattle.version_tree.specs.Contents.{FileRow, ruled, rowed}
 use Rattle.version_tree.specs.Verdict.{first_of, misses_grant, misses_deny, grant_absent, deny_absent, no_grant, no_deny}
-use Rattle.version_tree.specs.Passes.{ruled_all, rowed_all}
+use Rattle.version_tree.specs.Passes.{is_of_rules, ruled_all, rowed_all, rule_fault}
 
 one_other : (p q : Pair) (ps : List Pair) (b : Bool) → b || list_any (λ (r : Pair). is_eq (pair_cmp r p)) ps ≡ false → (list_any (λ (r : Pair). is_eq (pair_cmp r p)) ps ≡ false → filter (λ (r : Pair). not (is_eq (pair_cmp r p))) ps ≡ ps) → cond (not b) (q ∷ filter (λ (r : Pair). not (is_eq (pair_cmp r p))) ps) (filter (λ (r : Pair). not (is_eq (pair_cmp r p))) ps) ≡ q ∷ ps
 one_other p q ps true e rest = cc
@@ -65,3 +65,42 @@ module _ (edits : List Edit) (i : ℕ) (edit : Edit) (lt : i < length edits) (is
 
   pub deny-next : (rules : Rules) (noted : Option EditFault) → first_of noted (option_map no_deny (deny_absent rules (drop i edits))) ≡ first_of (first_of noted (option_map no_deny (misses_deny rules edit))) (option_map no_deny (deny_absent (ruled edit rules) (drop (i + 1) edits)))
   deny-next rules noted = ap (λ d. first_of noted (option_map no_deny d)) (left (deny_absent rules)) ∙ ap (first_of noted) (mapped-first no_deny (misses_deny rules edit) (deny_absent (ruled edit rules) (drop (i + 1) edits))) ∙ first-assoc noted _ _
+
+-- edits of files leave the rules as they are, and miss no rule
+pub unruled-edit : (edit : Edit) (rules : Rules) → is_of_rules edit ≡ false → (ruled edit rules ≡ rules) × (misses_grant rules edit ≡ None) × (misses_deny rules edit ≡ None)
+unruled-edit (Put path paths) rules e = (refl, refl, refl)
+unruled-edit (Remove path) rules e = (refl, refl, refl)
+unruled-edit (Grant user prefix) rules e = cc
+unruled-edit (Revoke user prefix) rules e = cc
+unruled-edit (Deny user prefix) rules e = cc
+unruled-edit (Undeny user prefix) rules e = cc
+
+or-false : (a b : Bool) → a || b ≡ false → (a ≡ false) × (b ≡ false)
+or-false true b e = cc
+or-false false b e = (refl, e)
+
+-- what edits of files alone make of rules, and what they miss
+pub record AreUnruled (edits : List Edit) (rules : Rules) : Type 0 where
+  pub stays : ruled_all edits rules ≡ rules
+  pub grants : grant_absent rules edits ≡ None
+  pub denies : deny_absent rules edits ≡ None
+
+pub unruled-all : (edits : List Edit) (rules : Rules) → list_any is_of_rules edits ≡ false → AreUnruled edits rules
+unruled-all [] rules e = record { stays = refl; grants = refl; denies = refl }
+unruled-all (edit ∷ edits) rules e =
+    let both = or-false (is_of_rules edit) (list_any is_of_rules edits) e in
+    let first = unruled-edit edit rules both.0 in
+    let rest = unruled-all edits rules both.1 in
+    record {
+      stays = ap (ruled_all edits) first.0 ∙ rest.stays;
+      grants = first-none _ _ first.1 ∙ ap (λ r. grant_absent r edits) first.0 ∙ rest.grants;
+      denies = first-none _ _ first.2 ∙ ap (λ r. deny_absent r edits) first.0 ∙ rest.denies;
+    }
+
+pub unruled-stays : (edits : List Edit) (rules : Rules) → list_any is_of_rules edits ≡ false → ruled_all edits rules ≡ rules
+unruled-stays edits rules e = (unruled-all edits rules e).stays
+
+pub unruled-fault : (edits : List Edit) (rules : Rules) → list_any is_of_rules edits ≡ false → rule_fault rules edits ≡ None
+unruled-fault edits rules e = let all = unruled-all edits rules e in rw (all.grants, all.denies) refl
+
+pub ruleset unruled = (unruled-stays, unruled-fault)

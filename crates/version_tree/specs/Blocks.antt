@@ -3,23 +3,24 @@ use Rattle.std.specs.Prelude.{List, [], ◌∷◌, ℕ, ◌+◌, ◌<◌, ◌≤
 use Rattle.std.specs.List.{AllByRecursion, flat_map}
 use Rattle.std.specs.declared.cmp.Ordering.{Ordering}
 use Rattle.std.specs.declared.cmp.Ordering.TheVariants.{Less, Greater}
-use Rattle.version_tree.specs.declared.block.TheConstants.{BLOCK_ROWS}
-use Rattle.version_tree.specs.Contents.{FileRow, IsInOrder, path_cmp}
+use Rattle.version_tree.specs.Limits.{block_rows}
+use Rattle.version_tree.specs.Contents.{FileRow, IsInOrder, HaveSets, path_cmp}
 use Rattle.version_tree.specs.Places.{beside}
 
--- a block has 1 to `BLOCK_ROWS` rows
+-- a block has 1 to `block_rows` rows
 pub record IsBlock (block : List FileRow) : Type 0 where
   pub some : 1 ≤ length block
-  pub few : length block ≤ BLOCK_ROWS
+  pub few : length block ≤ block_rows
 
 -- the rows of the blocks, one block after the other
 abbrev pub all_rows : List (List FileRow) → List FileRow
 all_rows blocks = flat_map (λ (block : List FileRow). block) blocks
 
--- each block has 1 to `BLOCK_ROWS` rows, and all rows together stand in order
+-- each block has 1 to `block_rows` rows, and all rows together stand in order, each with its path set
 pub record AreBlocks (blocks : List (List FileRow)) : Type 0 where
   pub sizes : AllByRecursion IsBlock blocks
   pub order : IsInOrder (all_rows blocks)
+  pub sets : HaveSets (all_rows blocks)
 
 -- the path of a block's first row, and how it stands beside the path
 abbrev pub first_path : List FileRow → List ℕ

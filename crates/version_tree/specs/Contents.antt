@@ -8,7 +8,9 @@ use Rattle.std.specs.declared.cmp.Ordering.TheVariants.{Less}
 use Rattle.grants.specs.Pairs.{pair}
 use Rattle.grants.specs.Covers.{Rules, with_grant, without_grant, with_deny, without_deny, covers}
 use Rattle.partial_path.specs.PathSets.{FileRules}
+use Rattle.partial_path.specs.Sources.{IsSourceFile}
 use Rattle.version_tree.specs.declared.edit.Edit.{Edit}
+use Rattle.version_tree.specs.declared.entry.Entry.{Entry}
 use Rattle.version_tree.specs.declared.edit.Edit.TheVariants.{Put, Remove, Grant, Revoke, Deny, Undeny}
 
 -- a file at its path
@@ -27,6 +29,15 @@ path_cmp = slice_cmp nat_cmp
 abbrev pub IsInOrder : List FileRow → Type 0
 IsInOrder [] = Unit {0}
 IsInOrder (row ∷ rows) = AllByRecursion (λ (later : FileRow). path_cmp row.path later.path ≡ Less) rows × IsInOrder rows
+
+-- each row's file is a checked graph with its path set and its weight
+abbrev pub HaveSets : List FileRow → Type 0
+HaveSets rows = AllByRecursion (λ (row : FileRow). IsSourceFile row.file) rows
+
+-- rows as they are kept: in the order of their paths, each with the path set of its graph
+pub record AreRows (rows : List FileRow) : Type 0 where
+  pub order : IsInOrder rows
+  pub sets : HaveSets rows
 
 -- whether a row has the path
 abbrev pub has_path : List ℕ → List FileRow → Bool
@@ -78,12 +89,6 @@ edited edit v = content (rowed edit v.rows) (ruled edit v.rules)
 abbrev pub edited_all : List Edit → Content → Content
 edited_all [] v = v
 edited_all (edit ∷ edits) v = edited_all edits (edited edit v)
-
--- an entry of a log: who made it, its number among that one's entries, and its edits
-pub record Entry : Type 0 where
-  pub seat : ℕ
-  pub serial : ℕ
-  pub edits : List Edit
 
 -- what a log makes, from nothing: the edits of its entries in order
 abbrev pub replay : List Entry → Content

@@ -1,5 +1,7 @@
+pub mod Limits
 pub mod Blocks
 pub mod Contents
+pub mod Graphs
 pub mod Passes
 pub mod Places
 pub mod Refused

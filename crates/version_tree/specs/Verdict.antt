@@ -9,7 +9,7 @@ use Rattle.version_tree.specs.declared.edit.Edit.{Edit}
 use Rattle.version_tree.specs.declared.edit.Edit.TheVariants.{Put, Remove, Grant, Revoke, Deny, Undeny}
 use Rattle.version_tree.specs.declared.edit.EditFault.{EditFault}
 use Rattle.version_tree.specs.declared.edit.EditFault.TheVariants.{Twice, Absent, GrantAbsent, DenyAbsent, TooManyFiles, TooHeavy, Spent}
-use Rattle.version_tree.specs.declared.edit.TheConstants.{MAX_FILES, MAX_VERSION_WEIGHT, MAX_NUMBER}
+use Rattle.version_tree.specs.Limits.{max_files, max_weight, max_number}
 use Rattle.version_tree.specs.Contents.{FileRow, Content, path_cmp, has_path, edited_all, ruled}
 
 -- the path that an edit puts or removes
@@ -102,7 +102,7 @@ weight_of rows = sum_by (λ (row : FileRow). row.file.weight) rows
 
 -- the number of the version leaves none for the next
 abbrev pub spent : ℕ → Option EditFault
-spent number = if nat_le MAX_NUMBER number then Some Spent else None
+spent number = if nat_le max_number number then Some Spent else None
 
 -- a grant or a deny that isn't there, as a fault
 abbrev pub no_grant : Pair → EditFault
@@ -118,6 +118,6 @@ edit_fault number v edits =
     (first_of (option_map Absent (absent v.rows edits))
     (first_of (option_map no_grant (grant_absent v.rules edits))
     (first_of (option_map no_deny (deny_absent v.rules edits))
-    (first_of (option_map TooManyFiles (above MAX_FILES (length (edited_all edits v).rows)))
-    (first_of (option_map TooHeavy (above MAX_VERSION_WEIGHT (weight_of (edited_all edits v).rows)))
+    (first_of (option_map TooManyFiles (above max_files (length (edited_all edits v).rows)))
+    (first_of (option_map TooHeavy (above max_weight (weight_of (edited_all edits v).rows)))
     (spent number))))))

@@ -1,7 +1,7 @@
 ghost use Rattle.std.specs.Prelude.{◌≡◌, ◌<◌, ◌≤◌, ◌+◌, ◌++◌, length, take, drop, IfOk, OnOk};
 ghost use Rattle.std.specs.List.{AllByRecursion};
 ghost use Rattle.version_tree.specs.Blocks.{IsBlock, all_rows};
-ghost use Rattle.version_tree.specs.declared.block.TheConstants.{BLOCK_ROWS};
+ghost use Rattle.version_tree.specs.Limits.{block_rows};
 
 use crate::block::{BLOCK_ROWS, Block};
 use crate::row_handle::RowHandle;
@@ -33,13 +33,13 @@ impl Model for Blocks {
 }
 
 impl Blocks {
-    ghost use Rattle.std.specs.Prelude.{◌≡◌, ◌<◌, ◌≤◌, ◌+◌, ◌++◌, [], length, take, drop, IfOk, IfErr, OnOk, MatchOption};
+    ghost use Rattle.std.specs.Prelude.{◌≡◌, ◌<◌, ◌≤◌, ◌+◌, ◌++◌, [], length, take, drop, slice_get, IfOk, IfErr, OnOk, MatchOption, false, option_copied};
     ghost use Rattle.partial_path.specs.PathSets.{FileRules};
-    ghost use Rattle.version_tree.specs.Contents.{IsInOrder, has_path, with_row, without_row, covered};
+    ghost use Rattle.version_tree.specs.Contents.{AreRows, IsInOrder, has_path, with_row, without_row, covered};
     ghost use Rattle.version_tree.specs.Verdict.{weight_of};
-    ghost use Rattle.version_tree.specs.Places.{IsAt, IsGapFor};
+    ghost use Rattle.version_tree.specs.Places.{IsAt, IsGapFor, IsRowWith};
     ghost use Rattle.version_tree.specs.Blocks.{AreBlocks, IsBlockFor, all_rows, first_beside};
-    ghost use Rattle.version_tree.specs.declared.block.TheConstants.{BLOCK_ROWS};
+    ghost use Rattle.version_tree.specs.Limits.{block_rows};
 
     /// No blocks. It takes no memory.
     pub(crate) fn new(alloc: Global) -> Blocks
@@ -54,9 +54,35 @@ impl Blocks {
     /// How many rows there are.
     pub(crate) fn len(&self) -> usize
         ensures count { result ≡ length (all_rows self.now) }
-        ensures order { IsInOrder (all_rows self.now) }
+        ensures rows { AreRows (all_rows self.now) }
     {
         self.count
+    }
+
+    /// The row at that place among all rows; None past the last. It goes over the blocks.
+    pub(crate) fn row(&self, place: usize) -> Option<&RowHandle>
+        ensures { option_copied result ≡ slice_get (all_rows self.now) place }
+    {
+        let mut left = place;
+        for block in &self.blocks {
+            let rows = block.rows();
+            if left < rows.len() {
+                return Some(rows.row(left));
+            }
+            left -= rows.len();
+        }
+        None
+    }
+
+    /// The row with the path, by halving; None where there is none.
+    pub(crate) fn row_with(&self, path: &str) -> Option<&RowHandle>
+        ensures row { MatchOption result (has_path path.now (all_rows self.now) ≡ false) (λ row. IsRowWith path.now (all_rows self.now) row.now) }
+        ensures rows { AreRows (all_rows self.now) }
+    {
+        match self.place(path) {
+            Some(i) => self.blocks[i].rows().row_with(path),
+            None => None,
+        }
     }
 
     // The block that begins with the path, or how many blocks begin with a lower one, by halving.
@@ -150,16 +176,17 @@ impl Blocks {
     {
         let mut rows = SortedRows::new(alloc);
         rows.put(row)?;
+        let count = rows.len();
         Ok(Blocks {
             blocks: in_blocks(alloc, rows)?,
-            count: 1,
+            count,
         })
     }
 
     // These rows with those in place of the rows of the block at the place.
     fn replaced(self, alloc: Global, i: usize, rows: SortedRows) -> Result<Blocks, AllocError>
         requires in_range { i < length self }
-        requires few { length rows ≤ BLOCK_ROWS + 1 }
+        requires few { length rows ≤ block_rows + 1 }
         requires order { IsInOrder (all_rows (take i self) ++ (rows ++ all_rows (drop (i + 1) self))) }
         ensures { IfOk result (λ after. all_rows after ≡ all_rows (take i self) ++ (rows ++ all_rows (drop (i + 1) self))) }
     {
@@ -179,8 +206,8 @@ impl Blocks {
         user: &str,
         kept: &mut Vec<RowHandle>,
     ) -> Result<(), AllocError>
-        ensures rows { OnOk result (kept.new.items ≡ kept.old.items ++ covered grants.now user.now (all_rows self.now)) }
-        ensures order { IsInOrder (all_rows self.now) }
+        ensures kept { OnOk result (kept.new.items ≡ kept.old.items ++ covered grants.now user.now (all_rows self.now)) }
+        ensures rows { AreRows (all_rows self.now) }
     {
         for block in &self.blocks {
             block.rows().grant(grants, user, kept)?;
@@ -191,7 +218,7 @@ impl Blocks {
 
 // These rows in blocks: none, one, or two halves where they are too many for one.
 fn in_blocks(alloc: Global, rows: SortedRows) -> Result<Vec<Block>, AllocError>
-    requires { length rows ≤ BLOCK_ROWS + 1 }
+    requires { length rows ≤ block_rows + 1 }
     ensures rows { IfOk result (λ blocks. all_rows blocks.items ≡ rows) }
     ensures sizes { IfOk result (λ blocks. AllByRecursion IsBlock blocks.items) }
 {

@@ -34,7 +34,11 @@ fn absent_path<'a>(rows: &Store, edit: &'a Edit) -> Option<&'a PathText>
                 Some(path)
             }
         }
-        _ => None,
+        Edit::Put { .. }
+        | Edit::Grant { .. }
+        | Edit::Revoke { .. }
+        | Edit::Deny { .. }
+        | Edit::Undeny { .. } => None,
     }
 }
 

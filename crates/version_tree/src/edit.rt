@@ -1,6 +1,6 @@
 use crate::text::{PathText, UserText};
 use partial_path::SharedPaths;
-use std::alloc::AllocError;
+use std::alloc::{AllocError, Global};
 use std::fmt;
 
 /// How many files a version may have.
@@ -27,6 +27,54 @@ pub enum Edit {
     Deny { user: UserText, prefix: PathText },
     /// The user's deny of the prefix is taken away.
     Undeny { user: UserText, prefix: PathText },
+}
+
+impl Edit {
+    ghost use Rattle.std.specs.Prelude.{◌≡◌, IfOk};
+    ghost use Rattle.version_tree.specs.Passes.{is_of_rules};
+
+    /// The same edit once more: its texts are copied, and the paths of a file are shared. The one error is
+    /// want of memory.
+    pub fn copy(&self, alloc: Global) -> Result<Edit, AllocError>
+        ensures { IfOk result (λ edit. edit ≡ self.now) }
+    {
+        Ok(match self {
+            Edit::Put { path, paths } => Edit::Put {
+                path: path.copy(alloc)?,
+                paths: paths.share()?,
+            },
+            Edit::Remove { path } => Edit::Remove {
+                path: path.copy(alloc)?,
+            },
+            Edit::Grant { user, prefix } => Edit::Grant {
+                user: user.copy(alloc)?,
+                prefix: prefix.copy(alloc)?,
+            },
+            Edit::Revoke { user, prefix } => Edit::Revoke {
+                user: user.copy(alloc)?,
+                prefix: prefix.copy(alloc)?,
+            },
+            Edit::Deny { user, prefix } => Edit::Deny {
+                user: user.copy(alloc)?,
+                prefix: prefix.copy(alloc)?,
+            },
+            Edit::Undeny { user, prefix } => Edit::Undeny {
+                user: user.copy(alloc)?,
+                prefix: prefix.copy(alloc)?,
+            },
+        })
+    }
+
+    /// Whether it changes who may see what, and no file.
+    pub(crate) fn is_of_rules(&self) -> bool
+        ensures { result ≡ is_of_rules self.now }
+    {
+        match self {
+            Edit::Put { .. } | Edit::Remove { .. } => false,
+            Edit::Grant { .. } | Edit::Revoke { .. } | Edit::Deny { .. } | Edit::Undeny { .. } =>
+                true,
+        }
+    }
 }
 
 /// Why edits are refused, in the order in which the refusals are looked for.

@@ -6,10 +6,13 @@ mod block;
 mod blocks;
 mod checks;
 mod edit;
+mod entry;
+mod laws;
 mod passes;
 mod repeats;
 mod row;
 mod row_handle;
+mod shared_rules;
 mod sorted_rows;
 mod store;
 #[cfg(test)]
@@ -19,6 +22,8 @@ mod version;
 mod view;
 
 pub use edit::{Edit, EditFault, MAX_FILES, MAX_NUMBER, MAX_VERSION_WEIGHT};
+pub use entry::{EditList, Entry};
+pub use laws::{logs_make_graphs, users_see_graphs};
 pub use row::{Answer, Row, Rows};
 pub use text::{PathText, UserText};
 pub use version::Version;

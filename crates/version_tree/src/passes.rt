@@ -1,23 +1,45 @@
 ghost use Rattle.std.specs.Prelude.{◌≡◌, None, IfOk, OnOk, MatchResult};
+ghost use Rattle.std.specs.List.{list_any};
 ghost use Rattle.std.specs.Option.{option_map};
 ghost use Rattle.version_tree.specs.Contents.{ruled, rowed};
 ghost use Rattle.version_tree.specs.Verdict.{misses_grant, misses_deny, no_grant, no_deny, first_of};
-ghost use Rattle.version_tree.specs.Passes.{ruled_all, rowed_all, rule_fault};
+ghost use Rattle.version_tree.specs.Passes.{is_of_rules, ruled_all, rowed_all, rule_fault};
 ghost use Rattle.version_tree.specs.Refused.{Refuses};
 
 use crate::edit::{Edit, EditFault};
+use crate::shared_rules::SharedRules;
 use crate::store::Store;
 use crate::text::{PathText, UserText};
 use grants::Grants;
 use std::alloc::{AllocError, Global};
 
-/// What the edits make of the rules, in one pass over a copy of them; or the first grant that isn't
-/// there, else the first deny that isn't.
+/// What the edits make of the rules, which are copied only where an edit is one of rules; or the first
+/// grant that isn't there, else the first deny that isn't.
+#[tactic(auto, using(crate::proofs::Rules::unruled))]
 pub(crate) fn rules_after(
     alloc: Global,
-    rules: &Grants,
+    rules: &SharedRules,
     edits: &[Edit],
-) -> Result<Grants, EditFault>
+) -> Result<SharedRules, EditFault>
+    ensures ok { IfOk result (λ after. after ≡ ruled_all edits.now rules.now) }
+    ensures fault { MatchResult result (λ _. rule_fault rules.now edits.now ≡ None) (Refuses (rule_fault rules.now edits.now)) }
+{
+    if !changes_rules(edits) {
+        return Ok(rules.share(alloc)?);
+    }
+    let after = ruled_copy(alloc, rules.get(), edits)?;
+    Ok(SharedRules::of(alloc, after)?)
+}
+
+// Whether one of the edits is one of rules.
+fn changes_rules(edits: &[Edit]) -> bool
+    ensures { result ≡ list_any is_of_rules edits.now }
+{
+    edits.iter().any(|edit| edit.is_of_rules())
+}
+
+// What the edits make of the rules, in one pass over a copy of them.
+fn ruled_copy(alloc: Global, rules: &Grants, edits: &[Edit]) -> Result<Grants, EditFault>
     ensures ok { IfOk result (λ after. after ≡ ruled_all edits.now rules.now) }
     ensures fault { MatchResult result (λ _. rule_fault rules.now edits.now ≡ None) (Refuses (rule_fault rules.now edits.now)) }
 {
@@ -95,6 +117,8 @@ fn row_step(alloc: Global, rows: Store, edit: &Edit) -> Result<Store, AllocError
     match edit {
         Edit::Put { path, paths } => rows.with(alloc, path, paths),
         Edit::Remove { path } => rows.without(alloc, path.as_str()),
-        _ => Ok(rows),
+        Edit::Grant { .. } | Edit::Revoke { .. } | Edit::Deny { .. } | Edit::Undeny { .. } => {
+            Ok(rows)
+        }
     }
 }

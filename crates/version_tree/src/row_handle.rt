@@ -20,15 +20,19 @@ pub(crate) struct RowHandle {
 
 impl Model for RowHandle {
     ghost use Rattle.std.specs.Arc.{arc_value};
+    ghost use Rattle.partial_path.specs.Sources.{IsSourceFile};
     ghost use Rattle.version_tree.specs.Contents.{FileRow, file_row};
 
     ghost Value = { FileRow };
 
     ghost view = { λ r. file_row (arc_value r.stored).path (arc_value r.stored).paths };
+
+    ghost invariant = { λ r. IsSourceFile (arc_value r.stored).paths };
 }
 
 impl RowHandle {
     ghost use Rattle.std.specs.Prelude.{◌≡◌, IfOk};
+    ghost use Rattle.partial_path.specs.Sources.{IsSourceFile};
     ghost use Rattle.version_tree.specs.Contents.{file_row, path_cmp};
 
     /// The row with these paths at the path; the one error is want of memory.
@@ -39,6 +43,7 @@ impl RowHandle {
     ) -> Result<RowHandle, AllocError>
         ensures { IfOk result (λ row. row ≡ file_row path.now paths.now) }
     {
+        let _set = paths.get();
         let stored = Stored {
             path: PathText::of(alloc, path.as_str())?,
             paths: paths.share()?,
@@ -59,7 +64,8 @@ impl RowHandle {
 
     /// The row's path.
     pub(crate) fn path(&self) -> &str
-        ensures { result.now ≡ self.now.path }
+        ensures value { result.now ≡ self.now.path }
+        ensures sets { IsSourceFile self.now.file }
     {
         self.stored.path.as_str()
     }

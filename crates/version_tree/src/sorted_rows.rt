@@ -11,21 +11,21 @@ pub(crate) struct SortedRows {
 
 impl Model for SortedRows {
     ghost use Rattle.std.specs.Prelude.{List};
-    ghost use Rattle.version_tree.specs.Contents.{FileRow, IsInOrder};
+    ghost use Rattle.version_tree.specs.Contents.{FileRow, AreRows};
 
     ghost Value = { List FileRow };
 
     ghost view = { λ s. s.rows.items };
 
-    ghost invariant = { λ s. IsInOrder s.rows.items };
+    ghost invariant = { λ s. AreRows s.rows.items };
 }
 
 impl SortedRows {
-    ghost use Rattle.std.specs.Prelude.{◌≡◌, ◌<◌, ◌≤◌, ◌+◌, ◌++◌, [], length, take, drop, slice_get, Some, IfOk, IfErr, OnOk, OnErr};
-    ghost use Rattle.version_tree.specs.Contents.{FileRow, IsInOrder, has_path, with_row, without_row, covered};
+    ghost use Rattle.std.specs.Prelude.{◌≡◌, ◌<◌, ◌≤◌, ◌+◌, ◌++◌, [], length, take, drop, slice_get, Some, IfOk, IfErr, OnOk, OnErr, MatchOption, false};
+    ghost use Rattle.version_tree.specs.Contents.{FileRow, AreRows, has_path, with_row, without_row, covered};
     ghost use Rattle.version_tree.specs.Verdict.{weight_of};
     ghost use Rattle.partial_path.specs.PathSets.{FileRules};
-    ghost use Rattle.version_tree.specs.Places.{beside, IsAt, IsGapFor};
+    ghost use Rattle.version_tree.specs.Places.{beside, IsAt, IsGapFor, IsRowWith};
 
     /// No rows. It takes no memory.
     pub(crate) fn new(alloc: Global) -> SortedRows
@@ -38,7 +38,7 @@ impl SortedRows {
 
     /// These rows.
     pub(crate) fn of(rows: Vec<RowHandle>) -> SortedRows
-        requires { IsInOrder rows.items }
+        requires { AreRows rows.items }
         ensures { result ≡ rows.items }
     {
         SortedRows { rows }
@@ -47,7 +47,7 @@ impl SortedRows {
     /// How many rows there are.
     pub(crate) fn len(&self) -> usize
         ensures count { result ≡ length self.now }
-        ensures order { IsInOrder self.now }
+        ensures rows { AreRows self.now }
     {
         self.rows.len()
     }
@@ -64,7 +64,7 @@ impl SortedRows {
     pub(crate) fn find(&self, path: &str) -> Result<usize, usize>
         ensures found { IfOk result (IsAt (beside path.now) self.now) }
         ensures absent { IfErr result (IsGapFor (beside path.now) self.now) }
-        ensures order { IsInOrder self.now }
+        ensures rows { AreRows self.now }
     {
         self.rows.binary_search_by(|row| row.order(path))
     }
@@ -74,6 +74,16 @@ impl SortedRows {
         ensures { result ≡ has_path path.now self.now }
     {
         self.find(path).is_ok()
+    }
+
+    /// The row with the path, by halving; None where there is none.
+    pub(crate) fn row_with(&self, path: &str) -> Option<&RowHandle>
+        ensures { MatchOption result (has_path path.now self.now ≡ false) (λ row. IsRowWith path.now self.now row.now) }
+    {
+        match self.find(path) {
+            Ok(i) => Some(&self.rows[i]),
+            Err(_) => None,
+        }
     }
 
     /// Puts the row in, in place of one with its path. The one error is want of memory, and then
@@ -129,8 +139,8 @@ impl SortedRows {
         user: &str,
         kept: &mut Vec<RowHandle>,
     ) -> Result<(), AllocError>
-        ensures rows { OnOk result (kept.new.items ≡ kept.old.items ++ covered grants.now user.now self.now) }
-        ensures order { IsInOrder self.now }
+        ensures kept { OnOk result (kept.new.items ≡ kept.old.items ++ covered grants.now user.now self.now) }
+        ensures rows { AreRows self.now }
     {
         for row in &self.rows {
             if grants.covers(user, row.path()) {

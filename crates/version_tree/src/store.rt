@@ -27,8 +27,9 @@ impl Model for Store {
 }
 
 impl Store {
-    ghost use Rattle.std.specs.Prelude.{◌≡◌, [], ◌++◌, length, IfOk, OnOk};
-    ghost use Rattle.version_tree.specs.Contents.{IsInOrder, has_path, with_row, without_row, covered};
+    ghost use Rattle.std.specs.Prelude.{◌≡◌, [], ◌++◌, length, slice_get, IfOk, OnOk, MatchOption, false, option_copied};
+    ghost use Rattle.version_tree.specs.Contents.{AreRows, has_path, with_row, without_row, covered};
+    ghost use Rattle.version_tree.specs.Places.{IsRowWith};
     ghost use Rattle.version_tree.specs.Verdict.{weight_of};
 
     /// No rows. It takes no memory.
@@ -44,9 +45,24 @@ impl Store {
     /// How many rows there are.
     pub(crate) fn len(&self) -> usize
         ensures count { result ≡ length self.now }
-        ensures order { IsInOrder self.now }
+        ensures rows { AreRows self.now }
     {
         self.blocks.len()
+    }
+
+    /// The row at that place; None past the last. It goes over the blocks.
+    pub(crate) fn row(&self, place: usize) -> Option<&RowHandle>
+        ensures { option_copied result ≡ slice_get self.now place }
+    {
+        self.blocks.row(place)
+    }
+
+    /// The row with the path, by halving; None where there is none.
+    pub(crate) fn find(&self, path: &str) -> Option<&RowHandle>
+        ensures row { MatchOption result (has_path path.now self.now ≡ false) (λ row. IsRowWith path.now self.now row.now) }
+        ensures rows { AreRows self.now }
+    {
+        self.blocks.row_with(path)
     }
 
     /// The weights of the rows together.
@@ -110,8 +126,8 @@ impl Store {
         user: &str,
         kept: &mut Vec<RowHandle>,
     ) -> Result<(), AllocError>
-        ensures rows { OnOk result (kept.new.items ≡ kept.old.items ++ covered grants.now user.now self.now) }
-        ensures order { IsInOrder self.now }
+        ensures kept { OnOk result (kept.new.items ≡ kept.old.items ++ covered grants.now user.now self.now) }
+        ensures rows { AreRows self.now }
     {
         self.blocks.grant(grants, user, kept)
     }

@@ -1,7 +1,7 @@
 //! What no clause says: what versions tell, each made from the one before it, as a script.
 ghost use Rattle.std.specs.Prelude.{◌≡◌, []};
 
-use crate::{Edit, PathText, UserText, Version, View};
+use crate::{Edit, EditList, PathText, UserText, Version, View};
 use graph_nodes::{FileGraph, Node, NodeKind};
 use partial_path::{FilePaths, SharedPaths, no_edges_no_walks};
 use std::alloc::Global;
@@ -12,8 +12,9 @@ use std::test::Fail;
 /// `empty 7` begins with the empty version of that number, `commit` makes the next version, and `back` goes
 /// back to the one before; they tell the last version's number, and `commit` why there is no next one.
 /// `see ann` tells the paths that the user sees, `find ann a.py` the number of the file at the path for the
-/// user, and `nodes ann a.py` how many nodes the file has. `count` tells how many files there are, and `stand 3 1` whether these
-/// are the first three numbered ones without that of number 1.
+/// user, and `nodes ann a.py` how many nodes the file has. `row 3` tells the path at that place among all files,
+/// and `at a.py` how many nodes the file at the path has, whoever may see it. `count` tells how many files there
+/// are, and `stand 3 1` whether these are the first three numbered ones without that of number 1.
 ///
 /// The edits of a commit stand between semicolons: `put a.py`, `one a.py` (a file with one node), `remove
 /// a.py`, `grant`, `revoke`, `deny` and `undeny` with a user and a prefix, `puts 0 70 2` (the numbered files
@@ -24,6 +25,10 @@ commit puts 0 130 2 => 1
 count => 65
 commit puts 1 130 2 => 2
 stand 130 130 => true
+row 0 => f000.sg.json
+row 64 => f064.sg.json
+row 129 => f129.sg.json
+row 130 => none
 commit remove f064.sg.json => 3
 stand 129 64 => true
 find operator f064.sg.json => none
@@ -49,6 +54,8 @@ nodes operator b.py => 0
 commit one b.py => 2
 nodes operator a.py => 0
 nodes operator b.py => 1
+at b.py => 1
+at c.py => none
 count => 2
 back => 1
 nodes operator b.py => 0
@@ -273,6 +280,22 @@ fn nodes_at(view: &View, path: &str) -> Option<u32> {
     }
 }
 
+/// How many nodes the file at the path has, whoever may see it.
+fn all_nodes_at(version: &Version, path: &str) -> Option<u32> {
+    match version.paths_at(path) {
+        Some(paths) => Some(paths.get().node_count()),
+        None => None,
+    }
+}
+
+/// The path at the place among all files.
+fn path_at(version: &Version, place: u32) -> &str {
+    match version.row(place) {
+        Some((path, _)) => path,
+        None => "none",
+    }
+}
+
 /// What a question is told of the version.
 fn told_of(alloc: Global, version: &Version, verb: &str, rest: &str) -> Result<String, Fail> {
     let (first, second) = rest.split_once(' ').unwrap_or((rest, ""));
@@ -281,6 +304,8 @@ fn told_of(alloc: Global, version: &Version, verb: &str, rest: &str) -> Result<S
         "see" => paths_in(alloc, &version.view(alloc, first)?),
         "find" => told_number(alloc, version.view(alloc, first)?.find(second)),
         "nodes" => told_number(alloc, nodes_at(&version.view(alloc, first)?, second)),
+        "row" => Ok(String::from_str(alloc, path_at(version, number(first)))?),
+        "at" => told_number(alloc, all_nodes_at(version, first)),
         "stand" => {
             let view = version.view(alloc, "operator")?;
             let stand = stand_in(alloc, &view, number(first), number(second) as usize)?;
@@ -307,7 +332,8 @@ impl History {
     /// Makes the next version; tells its number, or why there is none.
     fn commit(&mut self, alloc: Global, text: &str) -> Result<String, Fail> {
         let edits = edits_of(alloc, text)?;
-        match self.last()?.amend(alloc, edits.as_slice()) {
+        let entry = EditList::copy(alloc, edits.as_slice())?;
+        match self.last()?.amend(alloc, entry.items()) {
             Ok(version) => self.versions.push(version)?,
             Err(fault) => return Ok(format!(in alloc; "{fault}")?),
         }

@@ -1,10 +1,11 @@
 use crate::checks::{few_enough, no_absent_path};
-use crate::edit::{Edit, EditFault, MAX_FILES, MAX_NUMBER};
+use crate::edit::{Edit, EditFault, MAX_NUMBER};
 use crate::passes::{rows_after, rules_after};
 use crate::repeats::no_path_twice;
+use crate::shared_rules::SharedRules;
 use crate::store::Store;
 use crate::view::View;
-use grants::Grants;
+use partial_path::SharedPaths;
 use std::alloc::{AllocError, Global};
 use std::marker::Model;
 
@@ -14,7 +15,7 @@ use std::marker::Model;
 pub struct Version {
     number: u32,
     rows: Store,
-    grants: Grants,
+    grants: SharedRules,
 }
 
 impl Model for Version {
@@ -29,8 +30,10 @@ impl Model for Version {
 }
 
 impl Version {
-    ghost use Rattle.std.specs.Prelude.{◌≡◌, ◌+◌, ◌≤◌, length, None, IfOk, IfErr};
-    ghost use Rattle.version_tree.specs.Contents.{no_content, edited_all, granted_rows};
+    ghost use Rattle.std.specs.Prelude.{◌≡◌, ◌+◌, ◌≤◌, length, None, slice_get, IfOk, IfErr, option_map, option_copied};
+    ghost use Rattle.version_tree.specs.Contents.{AreRows, file_row, no_content, edited_all, granted_rows};
+    ghost use Rattle.version_tree.specs.Limits.{max_files};
+    ghost use Rattle.version_tree.specs.Views.{file_with};
     ghost use Rattle.version_tree.specs.Verdict.{edit_fault};
     ghost use Rattle.version_tree.specs.Refused.{Refuses};
 
@@ -41,7 +44,7 @@ impl Version {
         Version {
             number,
             rows: Store::new(alloc),
-            grants: Grants::new(alloc),
+            grants: SharedRules::new(alloc),
         }
     }
 
@@ -52,12 +55,35 @@ impl Version {
         self.number
     }
 
-    /// How many files the version has.
+    /// How many files the version has. All of them stand in the order of the bytes of their paths, each
+    /// with the path set of its checked graph.
     pub fn row_count(&self) -> u32
         ensures count { result ≡ length self.now.content.rows }
-        ensures few { length self.now.content.rows ≤ MAX_FILES }
+        ensures few { length self.now.content.rows ≤ max_files }
+        ensures rows { AreRows self.now.content.rows }
     {
         self.rows.len() as u32
+    }
+
+    /// The path and the file at that place, from 0 and in the order of the paths; None past the last. It
+    /// takes time that follows the number of blocks of 1 to 64 files, and no memory.
+    pub fn row(&self, place: u32) -> Option<(&str, &SharedPaths)>
+        ensures { option_map (λ row. file_row row.0.now row.1.now) result ≡ slice_get self.now.content.rows place }
+    {
+        match self.rows.row(place as usize) {
+            Some(row) => Some((row.path(), row.paths())),
+            None => None,
+        }
+    }
+
+    /// The file at the path, by halving; None where there is none. It takes no memory.
+    pub fn paths_at(&self, path: &str) -> Option<&SharedPaths>
+        ensures { option_copied result ≡ file_with path.now self.now.content.rows }
+    {
+        match self.rows.find(path) {
+            Some(row) => Some(row.paths()),
+            None => None,
+        }
     }
 
     /// The version that the edits make of this one, its number one more. They are refused by the
@@ -89,7 +115,7 @@ impl Version {
         ensures { IfOk result (λ view. view ≡ granted_rows user.now self.now.content) }
     {
         let mut kept = Vec::new(alloc);
-        self.rows.grant(&self.grants, user, &mut kept)?;
+        self.rows.grant(self.grants.get(), user, &mut kept)?;
         Ok(View::of(kept))
     }
 }

@@ -1,4 +1,3 @@
-use crate::edit::MAX_FILES;
 use crate::row_handle::RowHandle;
 use crate::sorted_rows::SortedRows;
 use partial_path::SharedPaths;
@@ -14,24 +13,25 @@ pub struct View {
 impl Model for View {
     ghost use Rattle.std.specs.Prelude.{List, ◌≤◌, length};
     ghost use Rattle.version_tree.specs.Contents.{FileRow};
-    ghost use Rattle.version_tree.specs.declared.edit.TheConstants.{MAX_FILES};
+    ghost use Rattle.version_tree.specs.Limits.{max_files};
 
     ghost Value = { List FileRow };
 
     ghost view = { λ v. v.rows };
 
-    ghost invariant = { λ v. length v.rows ≤ MAX_FILES };
+    ghost invariant = { λ v. length v.rows ≤ max_files };
 }
 
 impl View {
     ghost use Rattle.std.specs.Prelude.{◌≡◌, ◌<◌, ◌≤◌, false, Some, length, MatchOption};
-    ghost use Rattle.version_tree.specs.Contents.{IsInOrder, has_path};
+    ghost use Rattle.version_tree.specs.Contents.{AreRows, has_path};
+    ghost use Rattle.version_tree.specs.Limits.{max_files};
     ghost use Rattle.version_tree.specs.Views.{path_at, file_at};
 
     /// The view of these rows.
     pub(crate) fn of(rows: Vec<RowHandle>) -> View
-        requires order { IsInOrder rows.items }
-        requires few { length rows.items ≤ MAX_FILES }
+        requires rows { AreRows rows.items }
+        requires few { length rows.items ≤ max_files }
         ensures { result ≡ rows.items }
     {
         View {
@@ -39,9 +39,12 @@ impl View {
         }
     }
 
-    /// How many files are seen.
+    /// How many files are seen. All of them stand in the order of the bytes of their paths, each with the
+    /// path set of its checked graph.
     pub fn row_count(&self) -> u32
-        ensures { result ≡ length self.now }
+        ensures count { result ≡ length self.now }
+        ensures few { length self.now ≤ max_files }
+        ensures rows { AreRows self.now }
     {
         let _ = &self.rows;
         self.rows.len() as u32

@@ -21,7 +21,7 @@ invariant_of-result c =
     let told = (rw c.in_ok-count.ensures.ok_part at c.checked_add.ensures).1 in
     rw (c.in_ok-replace.ensures, c.self.view_is) (
       sound-replaced c.args.self c.args.i c.index.result.now c.requires.in_range here c.in_ok-parts.parts.items c.args.rows c.in_ok-parts.ensures.rows
-          (rw c.self.view_is at c.self.invariant.0) c.in_ok-parts.ensures.sizes c.requires.order,
+          (rw c.self.view_is at c.self.invariant.0) c.in_ok-parts.ensures.sizes c.len-2.ensures.rows.sets c.requires.order,
       told ∙ ap (λ n. (c.self.inside.count - c.len.result) + n) c.len-2.ensures.count
           ∙ count-replaced c.args.self c.args.i c.index.result.now c.requires.in_range here c.in_ok-parts.parts.items c.args.rows c.in_ok-parts.ensures.rows (c.self.inside.count - c.len.result) left,
     )

@@ -15,12 +15,12 @@ replaced-requires-clause-few c =
 pub replaced-requires-clause-order : goal.replaced-requires-clause-order
 replaced-requires-clause-order c =
     let changed = c.in_ok-put.ensures.ok ∙ ap (with_row c.args.row.path c.args.row.file) (c.in_ok-rows.ensures ∙ c.rows.ensures.rows) in
-    let there = with-there c.args.row.path c.args.self c.in-Some.i c.index.result.now (rw c.path.ensures at c.in-Some.ensures) (rw c.self.view_is at c.index.ensures) c.args.row.file in
+    let there = with-there c.args.row.path c.args.self c.in-Some.i c.index.result.now (rw c.path.ensures.value at c.in-Some.ensures) (rw c.self.view_is at c.index.ensures) c.args.row.file in
     let sound = rw c.self.view_is at c.self.invariant.0 in
     rw changed (subst IsInOrder there (with-in-order c.args.row.path c.args.row.file _ sound.order))
 
 pub returns : goal.returns
 returns c =
     let changed = c.in_ok-put.ensures.ok ∙ ap (with_row c.args.row.path c.args.row.file) (c.in_ok-rows.ensures ∙ c.rows.ensures.rows) in
-    let there = with-there c.args.row.path c.args.self c.in-Some.i c.index.result.now (rw c.path.ensures at c.in-Some.ensures) (rw c.self.view_is at c.index.ensures) c.args.row.file in
+    let there = with-there c.args.row.path c.args.self c.in-Some.i c.index.result.now (rw c.path.ensures.value at c.in-Some.ensures) (rw c.self.view_is at c.index.ensures) c.args.row.file in
     rw (there, ← changed) c.replaced.ensures

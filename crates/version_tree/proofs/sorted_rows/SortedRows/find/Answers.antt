@@ -17,4 +17,4 @@ returns-clause-absent c =
     let p = c.args.path.now in
     let facts = c.binary_search_by.ensures in
     let by_path = facts.position (beside p) (always_returns_same _ (λ a r. r ≡ beside p a.0.now) _ (λ a r g called. (search rules, search rules))) in
-    rw (← c.self.view_is, ← c.deref.ensures.value) (absent (beside p) _ _ (searchable p _ (rw c.deref.ensures.value c.self.invariant)) facts.bound by_path)
+    rw (← c.self.view_is, ← c.deref.ensures.value) (absent (beside p) _ _ (searchable p _ (rw c.deref.ensures.value c.self.invariant.order)) facts.bound by_path)

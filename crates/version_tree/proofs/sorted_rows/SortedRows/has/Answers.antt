@@ -10,4 +10,4 @@ answers path rows (Ok i) up at gap = sym (found.at-has path rows i at up)
 answers path rows (Err i) up at gap = sym (found.gap-has path rows i gap)
 
 pub returns : goal.returns
-returns c = c.is_ok.ensures.value ∙ answers c.args.path.now c.args.self.now c.find.result c.find.ensures.order c.find.ensures.found c.find.ensures.absent
+returns c = c.is_ok.ensures.value ∙ answers c.args.path.now c.args.self.now c.find.result c.find.ensures.rows.order c.find.ensures.found c.find.ensures.absent

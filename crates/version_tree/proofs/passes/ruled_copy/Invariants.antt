@@ -2,7 +2,7 @@ use Rattle.std.proofs.Common.{◌≡◌, drop}
 use Rattle.std.specs.Option.{option_map}
 use Rattle.version_tree.specs.Verdict.{first_of, grant_absent, deny_absent, no_deny}
 use Rattle.version_tree.specs.Passes.{ruled_all}
-use Rattle.version_tree.proofs.passes.rules_after.Given as goal
+use Rattle.version_tree.proofs.passes.ruled_copy.Given as goal
 
 abbrev pub invariant-loop-edit : goal.invariant-loop-edit
 invariant-loop-edit l = record {
