@@ -1,29 +1,40 @@
 use sha2::{Digest, Sha256};
 use std::alloc::{AllocError, Global};
 use std::marker::Model;
+use std::sync::Arc;
 
-/// A document: a path, the bytes that stand there, and the digest of both.
-#[derive(Debug, Drop)]
-pub struct Document {
+/// What a document is made of: a path, the bytes that stand there, and the digest of both.
+#[derive(Drop)]
+struct Contents {
     path: String,
     bytes: Vec<u8>,
     digest: [u8; 32],
 }
 
+/// A document: a path and the bytes that stand there, with the digest of both. Who holds it once more shares
+/// what it is made of.
+#[derive(Drop)]
+pub struct Document {
+    contents: Arc<Contents, Global>,
+}
+
 impl Model for Document {
     ghost use Rattle.std.specs.Prelude.{◌≡◌};
+    ghost use Rattle.std.specs.Arc.{arc_value};
     ghost use Rattle.std.specs.String.{string_bytes};
     ghost use Rattle.path_store.specs.Documents.{Doc, doc_of, digest_of};
 
     ghost Value = { Doc };
 
-    ghost view = { λ d. doc_of (string_bytes d.path) d.bytes.items };
+    ghost view = { λ d. doc_of (string_bytes (arc_value d.contents).path) (arc_value d.contents).bytes.items };
 
-    ghost invariant = { λ d. d.digest ≡ digest_of (doc_of (string_bytes d.path) d.bytes.items) };
+    ghost invariant = { λ d. (arc_value d.contents).digest
+        ≡ digest_of (doc_of (string_bytes (arc_value d.contents).path) (arc_value d.contents).bytes.items) };
 }
 
 impl Document {
     ghost use Rattle.std.specs.Prelude.{◌≡◌, IfOk};
+    ghost use Rattle.std.specs.String.{string_bytes};
     ghost use Rattle.path_store.specs.Documents.{doc_of, digest_of, same_doc};
 
     /// The document of a copy of this path and these bytes; its digest is made here, once. The one
@@ -31,22 +42,33 @@ impl Document {
     pub fn new(alloc: Global, path: &str, bytes: &[u8]) -> Result<Document, AllocError>
         ensures { IfOk result (λ doc. doc ≡ doc_of path.now bytes.now) }
     {
+        let path = String::from_str(alloc, path)?;
+        let bytes = Vec::from_slice(alloc, bytes)?;
+        Document::taking(alloc, path, bytes)
+    }
+
+    /// The document of this path and these bytes, which are taken over and not copied. The one error is
+    /// want of memory.
+    pub fn taking(alloc: Global, path: String, bytes: Vec<u8>) -> Result<Document, AllocError>
+        ensures { IfOk result (λ doc. doc ≡ doc_of (string_bytes path) bytes.items) }
+    {
+        let digest = digest_of(path.as_str(), bytes.as_slice());
+        let contents = Contents {
+            path,
+            bytes,
+            digest,
+        };
         Ok(Document {
-            path: String::from_str(alloc, path)?,
-            bytes: Vec::from_slice(alloc, bytes)?,
-            digest: digest_of(path, bytes),
+            contents: Arc::new(alloc, contents)?,
         })
     }
 
-    /// The same document once more: its path and bytes are copied, and its digest is not made again. The
-    /// one error is want of memory.
-    pub fn copy(&self, alloc: Global) -> Result<Document, AllocError>
+    /// The same document once more, not copied. The one error is want of room to count one holder more.
+    pub fn share(&self) -> Result<Document, AllocError>
         ensures { IfOk result (λ doc. doc ≡ self.now) }
     {
         Ok(Document {
-            path: String::from_str(alloc, self.path())?,
-            bytes: Vec::from_slice(alloc, self.bytes())?,
-            digest: *self.digest(),
+            contents: Arc::try_clone(&self.contents)?,
         })
     }
 
@@ -54,22 +76,22 @@ impl Document {
     pub fn path(&self) -> &str
         ensures { result.now ≡ self.now.path }
     {
-        self.path.as_str()
+        self.contents.path.as_str()
     }
 
     /// The bytes at that path.
     pub fn bytes(&self) -> &[u8]
         ensures { result.now ≡ self.now.bytes }
     {
-        self.bytes.as_slice()
+        self.contents.bytes.as_slice()
     }
 
     /// The SHA-256 digest (FIPS 180-4) of the path's bytes, a zero byte and the document's bytes. It
-    /// was made by `new`.
+    /// was made with the document.
     pub fn digest(&self) -> &[u8; 32]
         ensures { result.now ≡ digest_of self.now }
     {
-        &self.digest
+        &self.contents.digest
     }
 
     /// Whether the other document has the same path and the same bytes.
