@@ -29,7 +29,7 @@ pub use places::{edge_at, is_at_definition, is_definition_spot, node_at};
 pub use rule::{End, Start};
 pub use shared::SharedPaths;
 pub use source::PathSource;
-pub use stepping::{is_cut_edge, start, step};
+pub use stepping::{is_cut_edge, start, step, symbol_of};
 
 #[cfg(test)]
 mod tests;
