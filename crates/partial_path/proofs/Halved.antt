@@ -1,5 +1,5 @@
--- The rules that begin at one start, among rules in the order of their starts: those behind the ones that
--- begin before it.
+-- Elements each before, at or behind something, in that order: those at it stand together, behind those before
+-- it. So do the rules of one start and those of one start and key.
 use Rattle.std.proofs.Common.{◌≡◌, zero, suc, ◌-◌, inl, inr, refl, sym, ◌∙◌, ap, ℕ, ◌+◌, ◌<◌, ◌≤◌, List, [], ◌∷◌, length, get_or, take, drop, Bool, true, false, cond, arith, rules}
 use Rattle.std.specs.Prelude.{filter}
 use Rattle.std.specs.Ordering.{ordering_index, is_lt, is_eq}
@@ -17,7 +17,7 @@ use Rattle.partial_path.specs.Starts.{start_cmp, IsByStart, is_before, begins_at
 use Rattle.partial_path.proofs.Orders.{start_cmp_total, start_eq_is}
 
 -- none of the elements passes
-filter_none : {X : Type 0} (q : X → Bool) (xs : List X) → ((k : ℕ) (d : X) → k < length xs → q (get_or xs k d) ≡ false) → filter q xs ≡ []
+pub filter_none : {X : Type 0} (q : X → Bool) (xs : List X) → ((k : ℕ) (d : X) → k < length xs → q (get_or xs k d) ≡ false) → filter q xs ≡ []
 filter_none q [] none = refl
 filter_none q (x ∷ xs) none =
     ap (λ b. cond b (x ∷ filter q xs) (filter q xs)) (none zero x (omega arith)) ∙ filter_none q xs (λ k d h. none (suc k) d (omega arith))
@@ -61,13 +61,6 @@ prefix_from_point p [] n le point = omega (arith, le)
 prefix_from_point p (x ∷ xs) n le point =
     sym (prefix_len_is p (x ∷ xs) n x le (λ k h. point.0 k x (omega arith) h) (λ h. point.1 n x (omega arith) h))
 
--- before, at or behind the start: 0, 1, 2
-abbrev pub side : Start → Rule → ℕ
-side start rule = ordering_index (start_cmp rule.start start)
-
-pub sides_rise : (rules : List Rule) (start : Start) → IsByStart rules → IsNonDecreasingBy (side start) rules
-sides_rise rules start sorted = searchable_from_sorted start_cmp_total (λ r. r.start) rules start sorted
-
 before_is : (o : Ordering) → is_lt o ≡ true → ordering_index o ≡ 0
 before_is Less e = refl
 before_is Equal e = absurd (false≢true e)
@@ -83,7 +76,7 @@ not_before Less e = absurd (false≢true (sym e))
 not_before Equal e = omega arith
 not_before Greater e = omega arith
 
-at_is : (o : Ordering) → is_eq o ≡ true → ordering_index o ≡ 1
+pub at_is : (o : Ordering) → is_eq o ≡ true → ordering_index o ≡ 1
 at_is Less e = absurd (false≢true e)
 at_is Equal e = refl
 at_is Greater e = absurd (false≢true e)
@@ -98,37 +91,73 @@ before_not_at Less e = refl
 before_not_at Equal e = absurd (false≢true e)
 before_not_at Greater e = refl
 
-pub parted_before : (rules : List Rule) (start : Start) → IsByStart rules → IsPartitionedBy (is_before start) rules
-parted_before rules start sorted i j d le h e =
-    let up : side start (get_or rules i d) ≤ side start (get_or rules j d) = sides_rise rules start sorted i j d le h in
-    let low : side start (get_or rules j d) ≡ 0 = before_is _ e in
-    before_from _ (omega (arith, up, low))
+-- where each element is: 0 before, 1 at, 2 behind
+module _ {X : Type 0} (c : X → Ordering) where
+  abbrev pub side : X → ℕ
+  side x = ordering_index (c x)
 
--- from the first that doesn't begin before the start on, all are at the start or behind it
-not_before_rest : (rs : List Rule) (start : Start) → IsByStart rs → (k : ℕ) (d : Rule)
-    → k < length (drop (prefix_len (is_before start) rs) rs) → 0 < side start (get_or (drop (prefix_len (is_before start) rs) rs) k d)
-not_before_rest rs start sorted k d h =
-    let n : ℕ = prefix_len (is_before start) rs in
-    let len : length (drop (prefix_len (is_before start) rs) rs) ≡ length rs - prefix_len (is_before start) rs = length-drop _ rs in
-    let inside : prefix_len (is_before start) rs + k < length rs = omega (arith, len, h) in
-    let stop : 0 < side start (get_or rs (prefix_len (is_before start) rs) d) = not_before _ (prefix_len_stops (is_before start) rs d (omega (arith, inside))) in
-    let up : side start (get_or rs (prefix_len (is_before start) rs) d) ≤ side start (get_or rs (prefix_len (is_before start) rs + k) d)
-    = sides_rise rs start sorted _ _ d (omega arith) inside in
-    let same : get_or (drop (prefix_len (is_before start) rs) rs) k d ≡ get_or rs (prefix_len (is_before start) rs + k) d = get_or-drop _ rs k d in
-    let here : side start (get_or (drop (prefix_len (is_before start) rs) rs) k d) ≡ side start (get_or rs (prefix_len (is_before start) rs + k) d) = ap (side start) same in
-    omega (arith, stop, up, here)
+  abbrev pub before : X → Bool
+  before x = is_lt (c x)
+
+  abbrev pub there : X → Bool
+  there x = is_eq (c x)
+
+  pub parted_before : (xs : List X) → IsNonDecreasingBy side xs → IsPartitionedBy before xs
+  parted_before xs up i j d le h e =
+      let rise : side (get_or xs i d) ≤ side (get_or xs j d) = up i j d le h in
+      let low : side (get_or xs j d) ≡ 0 = before_is _ e in
+      before_from _ (omega (arith, rise, low))
+
+  -- from the first that isn't before on, all are there or behind
+  not_before_rest : (xs : List X) → IsNonDecreasingBy side xs → (k : ℕ) (d : X)
+      → k < length (drop (prefix_len before xs) xs) → 0 < side (get_or (drop (prefix_len before xs) xs) k d)
+  not_before_rest xs up k d h =
+      let len : length (drop (prefix_len before xs) xs) ≡ length xs - prefix_len before xs = length-drop _ xs in
+      let inside : prefix_len before xs + k < length xs = omega (arith, len, h) in
+      let stop : 0 < side (get_or xs (prefix_len before xs) d) = not_before _ (prefix_len_stops before xs d (omega (arith, inside))) in
+      let rise : side (get_or xs (prefix_len before xs) d) ≤ side (get_or xs (prefix_len before xs + k) d) = up _ _ d (omega arith) inside in
+      let same : get_or (drop (prefix_len before xs) xs) k d ≡ get_or xs (prefix_len before xs + k) d = get_or-drop _ xs k d in
+      let here : side (get_or (drop (prefix_len before xs) xs) k d) ≡ side (get_or xs (prefix_len before xs + k) d) = ap side same in
+      omega (arith, stop, rise, here)
+
+  pub parted_there : (xs : List X) → IsNonDecreasingBy side xs → IsPartitionedBy there (drop (prefix_len before xs) xs)
+  parted_there xs up i j d le h e =
+      let rise : side (get_or (drop (prefix_len before xs) xs) i d) ≤ side (get_or (drop (prefix_len before xs) xs) j d)
+      = IsNonDecreasingBy-drop side (prefix_len before xs) xs up i j d le h in
+      let at : side (get_or (drop (prefix_len before xs) xs) j d) ≡ 1 = at_is _ e in
+      let low : 0 < side (get_or (drop (prefix_len before xs) xs) i d) = not_before_rest xs up i d (omega (arith, le, h)) in
+      at_from _ (omega (arith, rise, at, low))
+
+  pub there_is : (xs : List X) → IsNonDecreasingBy side xs
+      → take (prefix_len there (drop (prefix_len before xs) xs)) (drop (prefix_len before xs) xs) ≡ filter there xs
+  there_is xs up =
+      sym (filter_behind before there (λ x e. before_not_at (c x) e) xs
+      ∙ filter_first there (drop (prefix_len before xs) xs) (parted_there xs up))
+
+-- tests that answer the same keep the same, and stop at the same place
+pub filter_same : {X : Type 0} (p q : X → Bool) → ((x : X) → p x ≡ q x) → (xs : List X) → filter p xs ≡ filter q xs
+filter_same p q same [] = refl
+filter_same p q same (x ∷ xs) = (λ i. cond (same x i) (x ∷ filter p xs) (filter p xs)) ∙ ap (λ ys. cond (q x) (x ∷ ys) ys) (filter_same p q same xs)
+
+prefix_len_same : {X : Type 0} (p q : X → Bool) → ((x : X) → p x ≡ q x) → (xs : List X) → prefix_len p xs ≡ prefix_len q xs
+prefix_len_same p q same [] = refl
+prefix_len_same p q same (x ∷ xs) = (λ i. cond (same x i) (1 + prefix_len p xs) 0) ∙ ap (λ n. cond (q x) (1 + n) 0) (prefix_len_same p q same xs)
+
+-- how a rule's start stands to a start
+abbrev pub start_side : Start → Rule → Ordering
+start_side start rule = start_cmp rule.start start
+
+pub starts_rise : (rules : List Rule) (start : Start) → IsByStart rules → IsNonDecreasingBy (side (start_side start)) rules
+starts_rise rules start sorted = searchable_from_sorted start_cmp_total (λ r. r.start) rules start sorted
 
 pub parted_at : (rules : List Rule) (start : Start) → IsByStart rules → IsPartitionedBy (begins_at start) (drop (prefix_len (is_before start) rules) rules)
-parted_at rs start sorted i j d le h e =
-    let up : side start (get_or (drop (prefix_len (is_before start) rs) rs) i d) ≤ side start (get_or (drop (prefix_len (is_before start) rs) rs) j d)
-    = IsNonDecreasingBy-drop (side start) (prefix_len (is_before start) rs) rs (sides_rise rs start sorted) i j d le h in
-    let there : side start (get_or (drop (prefix_len (is_before start) rs) rs) j d) ≡ 1
-    = at_is _ (sym (start_eq_is (get_or (drop (prefix_len (is_before start) rs) rs) j d).start start) ∙ e) in
-    let low : 0 < side start (get_or (drop (prefix_len (is_before start) rs) rs) i d) = not_before_rest rs start sorted i d (omega (arith, le, h)) in
-    start_eq_is _ start ∙ at_from (start_cmp (get_or (drop (prefix_len (is_before start) rs) rs) i d).start start) (omega (arith, up, there, low))
+parted_at rules start sorted i j d le h e =
+    start_eq_is _ start ∙ parted_there (start_side start) rules (starts_rise rules start sorted) i j d le h (sym (start_eq_is _ start) ∙ e)
 
 pub run_is : (rules : List Rule) (start : Start) → IsByStart rules
     → take (prefix_len (begins_at start) (drop (prefix_len (is_before start) rules) rules)) (drop (prefix_len (is_before start) rules) rules) ≡ rules_at start rules
 run_is rules start sorted =
-    sym (filter_behind (is_before start) (begins_at start) (λ r e. start_eq_is r.start start ∙ before_not_at (start_cmp r.start start) e) rules
-    ∙ filter_first (begins_at start) (drop (prefix_len (is_before start) rules) rules) (parted_at rules start sorted))
+    let same : (rule : Rule) → begins_at start rule ≡ there (start_side start) rule = λ rule. start_eq_is rule.start start in
+    ap (λ n. take n (drop (prefix_len (is_before start) rules) rules)) (prefix_len_same (begins_at start) (there (start_side start)) same (drop (prefix_len (is_before start) rules) rules))
+    ∙ there_is (start_side start) rules (starts_rise rules start sorted)
+    ∙ sym (filter_same (begins_at start) (there (start_side start)) same rules)

@@ -8,5 +8,8 @@ pub mod Asked
 pub mod Orders
 pub mod Reordered
 pub mod Halved
+pub mod KeyOrders
 pub mod Asking
+pub mod Offered
+pub mod Listing
 pub mod Edgeless

@@ -10,5 +10,7 @@ pub mod Moved
 pub mod Walks
 pub mod PathSets
 pub mod Starts
+pub mod Keys
 pub mod Inside
 pub mod Sources
+pub mod Offers

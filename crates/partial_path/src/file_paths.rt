@@ -1,6 +1,9 @@
+use crate::offers::{FileOffers, next_offer};
 use crate::path::PartialPath;
 use crate::rule::Start;
+use crate::slots::{run_asking, slots_cmp};
 use graph_nodes::{FileGraph, Node, Place};
+use stacks_vars::SymbolStack;
 use std::marker::Model;
 
 /// The partial paths of one file, one for each landing walk of its graph, with the graph and its weight:
@@ -9,7 +12,7 @@ use std::marker::Model;
 #[derive(Debug, Drop)]
 pub struct FilePaths {
     graph: FileGraph,
-    /// In the order of their starts.
+    /// In the order of their starts, those of one start in the order of their keys.
     paths: Vec<PartialPath>,
     weight: u32,
 }
@@ -26,15 +29,18 @@ impl Model for FilePaths {
 }
 
 impl FilePaths {
-    ghost use Rattle.std.specs.Prelude.{◌≡◌, ◌<◌, length, slice_get, option_map, Some, IsPermutation};
+    ghost use Rattle.std.specs.Prelude.{◌≡◌, ◌≤◌, ◌<◌, [], ◌∷◌, length, take, slice_get, option_map, Some, IfSome, MatchOption, IsPermutation};
     ghost use Rattle.graph_nodes.specs.Graph.{is_definition};
     ghost use Rattle.graph_nodes.specs.Checked.{IsChecked};
     ghost use Rattle.graph_nodes.specs.Cut.{is_cut};
     ghost use Rattle.partial_path.specs.PathSets.{AreFileRules, IsPathSet};
     ghost use Rattle.partial_path.specs.Walks.{IsWeight};
     ghost use Rattle.partial_path.specs.Starts.{IsByStart, rules_at};
+    ghost use Rattle.partial_path.specs.Keys.{IsByKey, key_size, rules_asking, texts};
+    ghost use Rattle.partial_path.specs.Offers.{offers_left};
 
-    /// The paths of this file, sorted by their starts where they lie. It takes no memory.
+    /// The paths of this file, sorted where they lie: by their starts, and those of one start by their keys.
+    /// It takes no memory.
     pub fn new(graph: FileGraph, mut paths: Vec<PartialPath>, weight: u32) -> FilePaths
         requires paths { IsPathSet graph paths.items }
         requires weight { IsWeight graph weight }
@@ -42,8 +48,9 @@ impl FilePaths {
         ensures weight { result.weight ≡ weight }
         ensures paths { IsPermutation paths.items result.rules }
         ensures order { IsByStart result.rules }
+        ensures keys { IsByKey result.rules }
     {
-        paths.sort_unstable_by_key(|path| path.start());
+        paths.sort_unstable_by(|a, b| slots_cmp(a, b));
         FilePaths {
             graph,
             paths,
@@ -51,10 +58,11 @@ impl FilePaths {
         }
     }
 
-    /// All paths of the file, in the order of their starts.
+    /// All paths of the file, in the order of their starts, those of one start in the order of their keys.
     pub fn paths(&self) -> &[PartialPath]
         ensures value { result.now ≡ self.now.rules }
         ensures order { IsByStart self.now.rules }
+        ensures keys { IsByKey self.now.rules }
         ensures sets { AreFileRules self.now }
     {
         self.paths.as_slice()
@@ -66,6 +74,32 @@ impl FilePaths {
         ensures sets { AreFileRules self.now }
     {
         run_of(self.paths.as_slice(), start)
+    }
+
+    /// The paths that begin there and whose key is made of the texts of the stack's first symbols, so many
+    /// of them, found by halving.
+    pub fn paths_asking(&self, start: Start, symbols: &SymbolStack, count: usize) -> &[PartialPath]
+        requires { count ≤ key_size }
+        ensures value { result.now ≡ rules_asking start (take count (texts symbols.now)) self.now.rules }
+        ensures sets { AreFileRules self.now }
+    {
+        let (place, end) = run_asking(self.paths.as_slice(), start, symbols, count);
+        &self.paths.as_slice()[place..end]
+    }
+
+    /// The path that comes next in a look-up that stands there, and where the look-up stands after it; None
+    /// where no more is offered. It takes constant time within a run of equal keys. The next run is found by
+    /// halving, at most seven in a look-up.
+    pub fn next_offer(
+        &self,
+        symbols: &SymbolStack,
+        at: FileOffers,
+    ) -> Option<(&PartialPath, FileOffers)>
+        ensures next { MatchOption result (offers_left at symbols.now self.now.rules ≡ []) (λ found. offers_left at symbols.now self.now.rules ≡ found.0.now ∷ offers_left found.1 symbols.now self.now.rules) }
+        ensures start { IfSome result (λ found. found.1.start ≡ at.start) }
+        ensures sets { AreFileRules self.now }
+    {
+        next_offer(self.paths.as_slice(), symbols, at)
     }
 
     /// How many edges all walks of the file have together.

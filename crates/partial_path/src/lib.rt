@@ -11,23 +11,27 @@ mod file_paths;
 mod filling;
 mod laws;
 mod matching;
+mod offers;
 mod path;
 mod places;
 mod rule;
 mod shared;
+mod slots;
 mod source;
 mod stepping;
 
 pub use bounds::{Bounds, MAX_RUNS};
 pub use config::{Config, EdgeAt, Spot};
 pub use fault::PathFault;
-pub use file_list::FileList;
+pub use file_list::{FileList, ListOffers};
 pub use file_paths::FilePaths;
 pub use laws::{cut_prefixes_are_closed, cycles_are_cut, no_edges_no_walks};
+pub use offers::FileOffers;
 pub use path::PartialPath;
 pub use places::{edge_at, is_at_definition, is_definition_spot, node_at};
 pub use rule::{End, Start};
 pub use shared::SharedPaths;
+pub use slots::KEY_SIZE;
 pub use source::PathSource;
 pub use stepping::{is_cut_edge, start, step, symbol_of};
 

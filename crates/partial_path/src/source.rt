@@ -1,15 +1,16 @@
 //! Where a search takes its partial paths from.
-ghost use Rattle.std.specs.Prelude.{◌≡◌, ℕ, List, Option, All, IsSome, IsPermutation, option_map, option_copied, slice_get};
+ghost use Rattle.std.specs.Prelude.{◌≡◌, [], ◌∷◌, ℕ, List, Option, MatchOption, All, IsSome, IsPermutation, option_map, option_copied, slice_get};
 ghost use Rattle.graph_nodes.specs.declared.node.Place.TheVariants.{At};
 ghost use Rattle.graph_nodes.specs.Whole.{node_of, is_cut_of, is_definition_of};
+ghost use Rattle.stacks_vars.specs.declared.items.SymbolItem.{SymbolItem};
 ghost use Rattle.partial_path.specs.declared.rule.Start.{Start};
 ghost use Rattle.partial_path.specs.Rules.{Rule};
 ghost use Rattle.partial_path.specs.PathSets.{FileRules};
-ghost use Rattle.partial_path.specs.Sources.{IsSourceFile, graphs_of, rules_from};
+ghost use Rattle.partial_path.specs.Sources.{IsSourceFile, graphs_of, rules_from, rules_offered};
 
 use crate::path::PartialPath;
 use crate::rule::Start;
-use stacks_vars::{NodeAt, Symbol};
+use stacks_vars::{NodeAt, Symbol, SymbolStack};
 
 /// The path sets of a list of files. A path, a start and a node are told with the number of their file, its
 /// place in that list.
@@ -33,6 +34,30 @@ pub trait PathSource {
         ensures value { option_map (λ found. (found.0, found.1.now)) result ≡ slice_get (listed self.now start.now (option_copied first.entry)) k }
         ensures exact { IsPermutation (rules_from (files self.now) start.now (option_copied first.entry)) (listed self.now start.now (option_copied first.entry)) }
         ensures sets { All IsSourceFile (files self.now) };
+
+    /// Where a look-up stands: a value that costs nothing to copy.
+    type Offers: Copy;
+
+    /// The rules that a look-up which stands there still offers to these symbols, each with its file's
+    /// number, in the order in which they are given.
+    ghost offered: { Self → List SymbolItem → Self.Offers → List (ℕ × Rule) };
+
+    /// A look-up of the paths that can be met from the start with this symbol stack, as far as the texts of
+    /// the first six symbols tell: before its first path.
+    fn offers(&self, start: &Start, symbols: &SymbolStack) -> Self::Offers
+        ensures exact { IsPermutation (rules_offered (files self.now) start.now symbols.now) (offered self.now symbols.now result) }
+        ensures sets { All IsSourceFile (files self.now) };
+
+    /// The path that comes next in the look-up, with its file's number, and where the look-up stands after
+    /// it; None where no more is offered. The symbols are those that the look-up began with. The path's own
+    /// start has file number 0. It takes no memory, and constant time within paths that ask for the same
+    /// symbols.
+    fn next_offer(
+        &self,
+        symbols: &SymbolStack,
+        at: Self::Offers,
+    ) -> Option<(u32, &PartialPath, Self::Offers)>
+        ensures { MatchOption result (offered self.now symbols.now at ≡ []) (λ found. offered self.now symbols.now at ≡ (found.0, found.1.now) ∷ offered self.now symbols.now found.2) };
 
     /// Whether the node is a cut node of its file.
     fn is_cut(&self, at: &NodeAt) -> bool

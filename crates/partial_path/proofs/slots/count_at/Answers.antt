@@ -1,0 +1,11 @@
+use Rattle.std.proofs.Common.{rules, take}
+use Rattle.std.proofs.lemmas.List.Sorted.{IsPartitionPoint-from_clause}
+use Rattle.partial_path.specs.Keys.{texts}
+use Rattle.partial_path.specs.Inside.{is_at_slot}
+use Rattle.partial_path.proofs.Halved.{prefix_from_point}
+use Rattle.partial_path.proofs.slots.count_at.Goals as goal
+
+pub returns-clause-value : goal.returns-clause-value
+returns-clause-value c =
+    prefix_from_point (is_at_slot c.args.start (take c.args.count (texts c.args.symbols.now))) _ _ c.partition_point.ensures.bound
+    (IsPartitionPoint-from_clause (is_at_slot c.args.start (take c.args.count (texts c.args.symbols.now))) _ _ c.partition_point.ensures.partitioned c.requires.parted (λ a r q k. search rules))
