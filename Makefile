@@ -1,8 +1,13 @@
 # Short names for the kit's commands; nothing is built here that they don't build.
 
-.PHONY: example test
+.PHONY: example build test
 
+# Compiles the program without its proofs and answers the stored graph.
 example:
+	cd crates/navd && rt try -- once < stdin
+
+# Proves all that the program stands on, builds it as crates/navd/out/navd, and answers the stored graph.
+build:
 	cd crates/navd && rt run -- once < stdin
 
 test:

@@ -11,7 +11,7 @@ use Rattle.path_store.specs.Store.{Kept, kept_of, find_doc, with_doc}
 use Rattle.index_gate.specs.declared.fault.FileFault.{FileFault}
 use Rattle.index_gate.specs.Graphs.{graph_of_doc}
 use Rattle.index_gate.specs.Indexed.{IsIndexed, AreIndexed, docs_of, has_doc, CountsWalks, IsDocWeight}
-use Rattle.index_gate.specs.Stops.{Finds, Adds}
+use Rattle.index_gate.specs.Reading.{Finds, Adds}
 use Rattle.index_gate.proofs.Held.{held_none, held_some, held_found, found_indexed, has_left, has_right, has_neither}
 
 -- what a store finds

@@ -8,7 +8,7 @@ use Rattle.path_store.specs.Documents.{Doc}
 use Rattle.path_store.specs.Store.{Kept, kept_of}
 use Rattle.index_gate.specs.declared.fault.IndexFault.{IndexFault}
 use Rattle.index_gate.specs.Indexed.{IsIndexed, HasCause, docs_of, has_doc, missing, IsDocWeight, AreDocWeights}
-use Rattle.index_gate.specs.Stops.{Refuses, Adds}
+use Rattle.index_gate.specs.Reading.{Refuses, Adds}
 use Rattle.index_gate.proofs.UnderWay.{IsUnderWay, one_more, stopped, few_stopped}
 
 -- what each error tells

@@ -10,7 +10,7 @@ use Rattle.path_store.specs.Store.{Kept, kept_of, with_docs, HasSomeOf}
 use Rattle.index_gate.specs.declared.fault.IndexFault.{IndexFault}
 use Rattle.index_gate.specs.declared.fault.IndexFault.TheVariants as fault
 use Rattle.index_gate.specs.Indexed.{IsIndexed, AreIndexed, AreFilesOf, HasNoFault, HasCause, docs_of, has_doc, missing, AddsMissing, AddsSome, CountsAllWalks, CountsWalks, IsDocWeight, AreDocWeights}
-use Rattle.index_gate.specs.Stops.{Refuses, Adds, AddsNone, AddsOne}
+use Rattle.index_gate.specs.Reading.{Refuses, Adds, AddsNone, AddsOne}
 use Rattle.index_gate.proofs.Held.{indexed_more, indexed_both, indexed_some, docs_more, docs_both}
 use Rattle.index_gate.proofs.Missing.{AreNew, missing_if, missing_new, new_first, with_all_new}
 

@@ -14,7 +14,7 @@ use Rattle.py_graph.specs.declared.fault.TransFault.{TransFault}
 use Rattle.path_store.specs.Documents.{Doc}
 use Rattle.index_gate.specs.declared.fault.FileFault.{FileFault}
 use Rattle.index_gate.specs.declared.fault.FileFault.TheVariants.{UnknownKind, TooLarge, Text, Python, Named}
-use Rattle.index_gate.specs.declared.fault.TheConstants.{MAX_BYTES}
+use Rattle.index_gate.specs.Limits.{max_bytes}
 use Rattle.index_gate.specs.declared.kind.DocumentKind.{DocumentKind}
 use Rattle.index_gate.specs.declared.kind.DocumentKind.TheVariants.{GraphFile, PythonModule}
 
@@ -49,7 +49,7 @@ graph_of_kind PythonModule doc = from_module doc.path (parse_of doc.bytes)
 abbrev pub graph_told : Option DocumentKind → Doc → Result Graph FileFault
 graph_told None doc = Err UnknownKind
 graph_told (Some kind) doc =
-    if nat_lt MAX_BYTES (length doc.bytes) then Err (TooLarge (length doc.bytes)) else graph_of_kind kind doc
+    if nat_lt max_bytes (length doc.bytes) then Err (TooLarge (length doc.bytes)) else graph_of_kind kind doc
 
 -- the graph of a document: its kind is looked at first, then its size, then its bytes
 abbrev pub graph_of_doc : Doc → Result Graph FileFault

@@ -1,3 +1,4 @@
+pub mod Limits
 pub mod Graphs
 pub mod Indexed
-pub mod Stops
+pub mod Reading

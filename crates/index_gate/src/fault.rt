@@ -39,6 +39,24 @@ impl fmt::Display for FileFault {
     }
 }
 
+/// Why a document has no graph, or no paths.
+#[derive(Clone, Copy, Debug, PartialEq, Eq)]
+pub enum ReadFault {
+    /// The document has this fault.
+    File(FileFault),
+    /// Memory was refused.
+    NoMemory,
+}
+
+impl fmt::Display for ReadFault {
+    fn fmt<W: fmt::Write>(&self, f: &mut fmt::Formatter<W>) -> fmt::Result {
+        match self {
+            ReadFault::File(fault) => write!(f, "{fault}"),
+            ReadFault::NoMemory => f.write_str("memory was refused"),
+        }
+    }
+}
+
 /// Why documents aren't indexed.
 #[derive(Debug, Drop)]
 pub enum IndexFault {

@@ -3,11 +3,10 @@ ghost use Rattle.partial_path.specs.PathSets.{FileRules};
 ghost use Rattle.path_store.specs.Store.{kept_of, with_doc};
 ghost use Rattle.index_gate.specs.declared.fault.IndexFault.TheVariants.{NoMemory};
 ghost use Rattle.index_gate.specs.Indexed.{IsIndexed, AreIndexed, AreFilesOf, HasCause, AddsMissing, AddsSome, CountsWalks, CountsAllWalks, IsDocWeight, AreDocWeights, docs_of, has_doc, missing};
-ghost use Rattle.index_gate.specs.Stops.{Stops, Refuses, Finds, Adds};
+ghost use Rattle.index_gate.specs.Reading.{HasNone, Refuses, Finds, Adds};
 
-use crate::fault::{FileFault, IndexFault};
+use crate::fault::{FileFault, IndexFault, ReadFault};
 use crate::reading::read_document;
-use crate::stop::Stop;
 use file_paths::{PathsFault, enumerate};
 use graph_nodes::{Name, Steps};
 use nav_io::Gate;
@@ -24,8 +23,8 @@ use std::sync::ledger::Ledger;
 /// store is as it was. `NoMemory` comes where memory is refused, and may come in place of any answer; then
 /// the store may keep the first of the new documents. Each document that is indexed is a job between
 /// `enter` and `leave` of the gate, with its number from 0. One step is counted for each walk made. It
-/// takes time for the documents that the store doesn't keep, and for the others that of finding them. The
-/// store copies the path and the bytes of each document that it comes to keep.
+/// takes time for the documents that the store doesn't keep, and for the others that of finding them. What
+/// the store comes to keep of a document is shared with it, and not copied.
 ///
 /// What a document's graph is, what its faults are and which paths a graph has stands in words in
 /// `docs/DEFINITIONS.md`, and in this crate's `specs/`.
@@ -105,7 +104,7 @@ fn find_shared(store: &PathStore, doc: &Document) -> Result<Option<SharedPaths>,
     }
 }
 
-// Keeps a copy of the document with these paths; the one error is want of memory.
+// Keeps the document, which is shared, with these paths; the one error is want of memory.
 fn keep_new(
     alloc: Global,
     doc: &Document,
@@ -114,7 +113,7 @@ fn keep_new(
 ) -> Result<(), AllocError>
     ensures { OnOk result (fresh.new ≡ with_doc doc.now paths.now fresh.old) }
 {
-    fresh.keep(alloc, doc.copy(alloc)?, paths.share()?)
+    fresh.keep(alloc, doc.share()?, paths.share()?)
 }
 
 /// The paths of a document that no store keeps, as the job of that number.
@@ -135,7 +134,7 @@ fn index_new<G: Gate, L: Ledger>(
     gate.leave(job);
     match found {
         Ok(paths) => Ok(SharedPaths::of(alloc, paths)?),
-        Err(stop) => Err(refusal(alloc, doc, stop)),
+        Err(fault) => Err(refusal(alloc, doc, fault)),
     }
 }
 
@@ -145,28 +144,28 @@ fn index_one<L: Ledger>(
     alloc: Global,
     doc: &Document,
     steps: &mut Steps<L>,
-) -> Result<FilePaths, Stop>
+) -> Result<FilePaths, ReadFault>
     ensures file { IfOk result (λ file. IsIndexed (kept_of doc.now file)) }
     ensures steps { IfOk result (λ file. CountsWalks file steps.old steps.new) }
-    ensures fault { IfErr result (Stops doc.now) }
+    ensures fault { IfErr result (HasNone doc.now) }
     ensures fewer { (weight : ℕ) → IsDocWeight doc.now weight → steps.new ≤ steps.old + weight }
 {
-    let graph = read_document(alloc, doc)?;
+    let graph = read_document(alloc, doc.path(), doc.bytes())?;
     match enumerate(alloc, graph, steps) {
         Ok(paths) => Ok(paths),
-        Err(PathsFault::Heavy(weight)) => Err(Stop::Fault(FileFault::Heavy(weight))),
-        Err(PathsFault::NoMemory) => Err(Stop::NoMemory),
+        Err(PathsFault::Heavy(weight)) => Err(ReadFault::File(FileFault::Heavy(weight))),
+        Err(PathsFault::NoMemory) => Err(ReadFault::NoMemory),
     }
 }
 
 // The answer where the work on the document ended so.
-fn refusal(alloc: Global, doc: &Document, stop: Stop) -> IndexFault
-    requires { Stops doc.now stop }
+fn refusal(alloc: Global, doc: &Document, fault: ReadFault) -> IndexFault
+    requires { HasNone doc.now fault }
     ensures { Refuses doc.now result }
 {
-    match stop {
-        Stop::NoMemory => IndexFault::NoMemory,
-        Stop::Fault(fault) => match Name::of(alloc, doc.path()) {
+    match fault {
+        ReadFault::NoMemory => IndexFault::NoMemory,
+        ReadFault::File(fault) => match Name::of(alloc, doc.path()) {
             Ok(path) => IndexFault::BadFile { path, fault },
             Err(_) => IndexFault::NoMemory,
         },

@@ -1,9 +1,9 @@
 ghost use Rattle.std.specs.Prelude.{◌≡◌};
 ghost use Rattle.index_gate.specs.Graphs.{kind_of};
 
-/// What a document is.
+/// What a document is, as its path tells.
 #[derive(Clone, Copy, Debug, PartialEq, Eq)]
-pub(crate) enum DocumentKind {
+pub enum DocumentKind {
     /// A graph file, of either format.
     GraphFile,
     /// A module of the Python subset.

@@ -6,11 +6,12 @@ mod indexing;
 mod kind;
 mod laws;
 mod reading;
-mod stop;
 
-pub use fault::{FileFault, IndexFault, MAX_BYTES};
+pub use fault::{FileFault, IndexFault, MAX_BYTES, ReadFault};
 pub use indexing::index_all;
+pub use kind::DocumentKind;
 pub use laws::{a_document_has_one_fault, added_documents_are_held};
+pub use reading::read_document;
 
 #[cfg(test)]
 mod tests;

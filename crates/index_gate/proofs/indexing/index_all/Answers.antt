@@ -2,7 +2,7 @@
 use Rattle.std.specs.Prelude.{◌≤◌, ◌+◌, [], length, take, drop, IfErr}
 use Rattle.std.proofs.Common.{rules, arith, sym, subst}
 use Rattle.index_gate.specs.Indexed.{HasCause, AddsSome, docs_of}
-use Rattle.index_gate.specs.Stops.{Refuses}
+use Rattle.index_gate.specs.Reading.{Refuses}
 use Rattle.index_gate.proofs.UnderWay.{IsUnderWay, begun, few_between, all_added, all_files, all_walks, all_indexed, some_added, some_indexed, none_added}
 use Rattle.index_gate.proofs.Places.{err_tells, on_err, after_doc, fault_at, few_at, at_end}
 use Rattle.index_gate.proofs.indexing.index_all.Goals as goal

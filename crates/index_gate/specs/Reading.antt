@@ -1,5 +1,4 @@
--- Where the work on one document ends, and what one document adds, inside the crate; no public clause cites
--- this.
+-- What reading one document answers, where the work on it ends, and what it adds to a store.
 use Rattle.std.specs.Prelude.{if◌then◌else◌, ◌≡◌, ◌⊎◌, ⊤, ℕ, true, false, List, [], ◌∷◌, ◌++◌, Option, None, Some, Result, Ok, Err}
 use Rattle.graph_nodes.specs.Graph.{Graph}
 use Rattle.graph_json.specs.declared.fault.GraphTextFault.{GraphTextFault}
@@ -10,25 +9,26 @@ use Rattle.index_gate.specs.declared.fault.FileFault.{FileFault}
 use Rattle.index_gate.specs.declared.fault.FileFault.TheVariants.{Text}
 use Rattle.index_gate.specs.declared.fault.IndexFault.{IndexFault}
 use Rattle.index_gate.specs.declared.fault.IndexFault.TheVariants as fault
-use Rattle.index_gate.specs.declared.stop.Stop.{Stop}
-use Rattle.index_gate.specs.declared.stop.Stop.TheVariants.{Fault, NoMemory}
+use Rattle.index_gate.specs.declared.fault.ReadFault.{ReadFault}
+use Rattle.index_gate.specs.declared.fault.ReadFault.TheVariants.{File, NoMemory}
 use Rattle.index_gate.specs.Indexed.{HasFault, is_memory, is_text_memory, IsIndexed, docs_of, has_doc, CountsWalks}
 
 -- an answer is the one that is defined, unless memory ran out
-abbrev pub Gives : Result Graph Stop → Result Graph FileFault → Type 0
-Gives (Ok g) there = there ≡ Ok g
-Gives (Err (Fault why)) there = (there ≡ Err why) × (is_memory why ≡ false)
-Gives (Err NoMemory) there = ⊤
+abbrev pub IsReading : Result Graph ReadFault → Result Graph FileFault → Type 0
+IsReading (Ok g) there = there ≡ Ok g
+IsReading (Err (File why)) there = (there ≡ Err why) × (is_memory why ≡ false)
+IsReading (Err NoMemory) there = ⊤
 
 -- where reading a graph file ends with this fault
-abbrev pub text_stop : GraphTextFault → Stop
-text_stop why = if is_text_memory why then NoMemory else Fault (Text why)
+abbrev pub text_fault : GraphTextFault → ReadFault
+text_fault why = if is_text_memory why then NoMemory else File (Text why)
 
 -- the work ends because of this fault of the document, unless memory ran out
-abbrev pub Stops : Doc → Stop → Type 0
-Stops doc (Fault why) = HasFault doc why × (is_memory why ≡ false)
-Stops doc NoMemory = ⊤
+abbrev pub HasNone : Doc → ReadFault → Type 0
+HasNone doc (File why) = HasFault doc why × (is_memory why ≡ false)
+HasNone doc NoMemory = ⊤
 
+-- the same, with the document's path
 abbrev pub Refuses : Doc → IndexFault → Type 0
 Refuses doc (fault.BadFile path why) = (doc.path ≡ path) × HasFault doc why × (is_memory why ≡ false)
 Refuses doc fault.NoMemory = ⊤
