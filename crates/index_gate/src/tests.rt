@@ -1,14 +1,11 @@
 ghost use Rattle.std.specs.Prelude.{◌≡◌, ◌<◌, [], OnOk, drop, length};
 ghost use Rattle.index_gate.specs.Indexed.{AreIndexed, CountsAllWalks};
 
-use crate::{FileFault, IndexFault, index_all};
-use graph_json::{GraphTextFault, Part};
-use graph_nodes::{GraphFault, Steps};
+use crate::{IndexFault, index_all};
+use graph_nodes::Steps;
 use nav_io::{Gate, Unguarded};
 use partial_path::SharedPaths;
 use path_store::{Document, PathStore};
-use py_graph::TransFault;
-use py_subset::PyFault;
 use std::alloc::Global;
 use std::cell::Cell;
 use std::marker::Brand;
@@ -156,75 +153,122 @@ fn figures(files: &[SharedPaths], place: usize) -> Option<(u32, usize)> {
     Some((paths.weight(), paths.paths().len()))
 }
 
-/// The first document with a fault, and its fault.
-fn fault_of(alloc: Global, rows: &[(&str, &str)]) -> Result<Option<(usize, FileFault)>, Fail> {
-    let docs = documents(alloc, rows)?;
-    match indexed(alloc, &docs, &Unguarded) {
-        Ok(_) => Ok(None),
-        Err(IndexFault::NoMemory) => Err(Fail::new("memory was refused")),
-        Err(IndexFault::BadFile { path, fault }) => {
-            let place = docs.iter().position(|doc| doc.path() == path.as_str());
-            Ok(place.map(|place| (place, fault)))
-        }
+/// The first document with a fault, and its fault, as the answer says it; `none` where there is none.
+fn fault_of(alloc: Global, docs: &[Document]) -> Result<String, Fail> {
+    match indexed(alloc, docs, &Unguarded) {
+        Ok(_) => Ok(String::from_str(alloc, "none")?),
+        Err(fault) => Ok(format!(in alloc; "{fault}")?),
     }
 }
 
-#[test]
-fn each_fault_is_told(rt: HostRuntime) -> Result<(), Fail> {
-    let alloc = rt.alloc();
-    let rows = [
-        ("notes.txt", "", FileFault::UnknownKind),
-        (".json", "", FileFault::UnknownKind),
-        ("a.sg.json", "{", FileFault::Text(GraphTextFault::BadJson)),
-        (
-            "a.sg.json",
-            "[]",
-            FileFault::Text(GraphTextFault::BadShape(Part::Top)),
-        ),
-        (
-            "a.sg.json",
-            r#"{"nodes":[{"kind":"scope"}],"edges":[["jump",0,0]]}"#,
-            FileFault::Text(GraphTextFault::Graph(GraphFault::JumpSource(0))),
-        ),
-        (
-            "a.sg.json",
-            r#"{"format":2,"nodes":[{"kind":"scope","name":"a"},{"kind":"drop","name":"a"}],"edges":[]}"#,
-            FileFault::Text(GraphTextFault::SameName(1)),
-        ),
-        (
-            "a.py",
-            "x = [i for i in y]",
-            FileFault::Python(PyFault::Unsupported(0)),
-        ),
-        (
-            "a.py",
-            "x = 1\n  y\n",
-            FileFault::Python(PyFault::Expected(1)),
-        ),
-        ("my-tool.py", "", FileFault::Named(TransFault::BadName)),
-    ];
-    for (path, text, fault) in rows {
-        assert_eq!(rt; fault_of(alloc, &[(path, text)])?, Some((0, fault)));
+/// The fault of the document of that path and text alone.
+fn fault_at(alloc: Global, path: &str, text: &str) -> Result<String, Fail> {
+    fault_of(alloc, &documents(alloc, &[(path, text)])?)
+}
+
+/// Documents, each its path, a bar and its text, with an at sign for a newline; semicolons between them; and behind
+/// an arrow what is told of them.
+const FAULTS: &str = r##"notes.txt| => notes.txt: the path has no ending that is known
+.json| => .json: the path has no ending that is known
+a.sg.json|{ => a.sg.json: not JSON
+a.sg.json|[] => a.sg.json: the graph has a wrong form
+a.sg.json|{"nodes":[{"kind":"scope"}],"edges":[["jump",0,0]]} => a.sg.json: edge 0 leaves the jump
+a.sg.json|{"nodes":[{"kind":"scope"}],"edges":[[0,1,0]]} => a.sg.json: edge 0 has an end that is no node
+a.sg.json|{"nodes":[{"kind":"scope"},{}],"edges":[]} => a.sg.json: node 1 has a wrong form
+a.sg.json|{"nodes":[{"kind":"push_scoped","symbol":"x","scope":0}],"edges":[]} => a.sg.json: node 0 names a scope that isn't exported
+a.sg.json|{"format":2,"nodes":[{"kind":"scope","name":"a"},{"kind":"drop","name":"a"}],"edges":[]} => a.sg.json: node 1 has the name of an earlier node
+a.sg.json|{"format":2,"nodes":[{"kind":"scope","name":"a"}],"edges":[["a","b",0]]} => a.sg.json: edge 0 names a node that isn't there
+a.py|x = [i for i in y] => a.py: line 0 has a form that is left out
+a.py|x = 1@  y@ => a.py: no module goes on as line 1 does
+a.py|if x:@    y@  z@ => a.py: line 2 goes back to no open block
+a.py|x = ? => a.py: line 0 has no token there
+my-tool.py| => my-tool.py: the path gives no name of a module
+.sg.json|{"nodes":[],"edges":[]} => none
+a.sg.json|{"nodes":[],"edges":[]};b.py|x =;notes.txt| => b.py: no module goes on as line 0 does
+b.py|x = 1;notes.txt|;c.py|x = => notes.txt: the path has no ending that is known
+b.py|x = 1@;a.sg.json|{"nodes":[],"edges":[]} => none"##;
+
+/// The documents that a row of the table tells.
+fn documents_of(alloc: Global, row: &str) -> Result<Vec<Document>, Fail> {
+    let mut docs = Vec::new(alloc);
+    for part in row.split(';') {
+        let (path, text) = part.split_once('|').unwrap_or((part, ""));
+        let mut bytes = Vec::from_slice(alloc, text.as_bytes())?;
+        for byte in bytes.iter_mut() {
+            if *byte == b'@' {
+                *byte = b'\n';
+            }
+        }
+        docs.push(Document::taking(alloc, String::from_str(alloc, path)?, bytes)?)?;
     }
-    // The ending alone is a name of that kind.
-    assert_eq!(rt; fault_of(alloc, &[(".sg.json", GRAPH)])?, None);
+    Ok(docs)
+}
+
+/// The first row that is told otherwise, and what is told; else an empty text.
+fn first_wrong(alloc: Global) -> Result<String, Fail> {
+    for row in FAULTS.split('\n') {
+        let (docs, wanted) = row.split_once(" => ").unwrap_or((row, "no arrow"));
+        let told = fault_of(alloc, &documents_of(alloc, docs)?)?;
+        if told.as_str() != wanted {
+            return Ok(format!(in alloc; "{row}, but {told}")?);
+        }
+    }
+    Ok(String::new(alloc))
+}
+
+#[test]
+fn the_first_fault_of_the_first_document_is_told(rt: HostRuntime) -> Result<(), Fail> {
+    assert_eq!(rt; first_wrong(rt.alloc())?.as_str(), "");
     Ok(())
 }
 
+/// Indexes the first documents, and then the others over the store that keeps these, with the gate; tells
+/// how many the store keeps at the end, and whether the others had a fault.
+fn kept_on<G: Gate, L: Ledger>(
+    alloc: Global,
+    first: &[Document],
+    others: &[Document],
+    gate: &G,
+    blank: Blank,
+) -> Result<(usize, bool), IndexFault>
+    requires name { blank.name ≡ L.name }
+    requires parts { blank.parts ≡ L.parts }
+    requires some { 0 < blank.parts }
+{
+    let mut store = PathStore::new(alloc);
+    let mut steps = Steps::<L>::new(blank);
+    index_all(&(), alloc, first, &mut store, &Unguarded, &mut steps)?;
+    let stopped = index_all(&(), alloc, others, &mut store, gate, &mut steps).is_err();
+    Ok((store.len(), stopped))
+}
+
+fn kept<G: Gate>(
+    alloc: Global,
+    first: &[Document],
+    others: &[Document],
+    gate: &G,
+) -> Result<(usize, bool), IndexFault> {
+    kept_on::<G, Brand>(alloc, first, others, gate, Blank::new(1))
+}
+
 #[test]
-fn the_first_fault_is_told(rt: HostRuntime) -> Result<(), Fail> {
+fn jobs_are_numbered_among_new_documents_and_left_after_a_fault(rt: HostRuntime) -> Result<(), Fail> {
     let alloc = rt.alloc();
-    let rows = [("a.sg.json", GRAPH), ("b.py", "x ="), ("notes.txt", "")];
+    let first = documents_of(alloc, "a.py|x = 1;b.py|y = 2")?;
+    let others = documents_of(alloc, "a.py|x = 1;c.py|;b.py|y = 2;d.py|z = 3;notes.txt|;e.py|")?;
+    let gate = Noted {
+        entered: Cell::new(0),
+        left: Cell::new(0),
+        in_turn: Cell::new(true),
+    };
+    let Ok(told) = kept(alloc, &first, &others, &gate) else {
+        return Err(Fail::new("the first documents have no fault"));
+    };
+    assert_eq!(rt; told, (2, true));
     assert_eq!(rt;
-        fault_of(alloc, &rows)?,
-        Some((1, FileFault::Python(PyFault::Expected(0))))
+        (gate.entered.get(), gate.left.get(), gate.in_turn.get()),
+        (3, 3, true)
     );
-    assert_eq!(rt;
-        fault_of(alloc, &rows[2..])?,
-        Some((0, FileFault::UnknownKind))
-    );
-    assert_eq!(rt; fault_of(alloc, &rows[..1])?, None);
-    assert_eq!(rt; fault_of(alloc, &[])?, None);
     Ok(())
 }
 
@@ -241,21 +285,12 @@ fn padded(alloc: Global, len: usize) -> Result<String, Fail> {
 fn a_document_has_at_most_a_mebibyte(rt: HostRuntime) -> Result<(), Fail> {
     let alloc = rt.alloc();
     let most = padded(alloc, 1_048_576)?;
-    assert_eq!(rt; fault_of(alloc, &[("a.sg.json", most.as_str())])?, None);
     let more = padded(alloc, 1_048_577)?;
-    let large = FileFault::TooLarge(1_048_577);
-    assert_eq!(rt;
-        fault_of(alloc, &[("a.sg.json", more.as_str())])?,
-        Some((0, large))
-    );
-    assert_eq!(rt;
-        fault_of(alloc, &[("my-tool.py", more.as_str())])?,
-        Some((0, large))
-    );
-    assert_eq!(rt;
-        fault_of(alloc, &[("notes.txt", more.as_str())])?,
-        Some((0, FileFault::UnknownKind))
-    );
+    assert_eq!(rt; fault_at(alloc, "a.sg.json", most.as_str())?.as_str(), "none");
+    for path in ["a.sg.json", "my-tool.py"] {
+        let wanted = format!(in alloc; "{path}: 1048577 bytes are too many")?;
+        assert_eq!(rt; fault_at(alloc, path, more.as_str())?.as_str(), wanted.as_str());
+    }
     Ok(())
 }
 
@@ -284,10 +319,9 @@ fn a_file_has_a_greatest_weight(rt: HostRuntime) -> Result<(), Fail> {
     };
     assert_eq!(rt; figures(&files, 0), Some((983_041, 0)));
     let text = ladder(alloc, 17)?;
-    let heavy = FileFault::Heavy(1_000_001);
     assert_eq!(rt;
-        fault_of(alloc, &[("a.sg.json", text.as_str())])?,
-        Some((0, heavy))
+        fault_at(alloc, "a.sg.json", text.as_str())?.as_str(),
+        "a.sg.json: the file's walks have too many edges together"
     );
     Ok(())
 }

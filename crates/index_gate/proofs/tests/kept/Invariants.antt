@@ -1,0 +1,5 @@
+use Rattle.index_gate.proofs.tests.kept.Given as goal
+
+-- the ledger is the one that was opened here
+abbrev pub ghosts-kept_on : goal.ghosts-kept_on
+ghosts-kept_on g a = record { name = a.blank.name; parts = a.blank.parts }
