@@ -10,3 +10,5 @@ pub mod Reordered
 pub mod Halved
 pub mod Asking
 pub mod Edgeless
+pub mod FileNumberLaws
+pub mod MovedRules
