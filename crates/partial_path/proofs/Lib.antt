@@ -13,3 +13,5 @@ pub mod Asking
 pub mod Offered
 pub mod Listing
 pub mod Edgeless
+pub mod FileNumberLaws
+pub mod MovedRules

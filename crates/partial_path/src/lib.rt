@@ -11,7 +11,11 @@ mod file_paths;
 mod filling;
 mod laws;
 mod matching;
+<<<<<<< HEAD
 mod offers;
+=======
+mod moving;
+>>>>>>> b34a4c60d04ac65f2ad49a418763ace10169282a
 mod path;
 mod places;
 mod rule;
@@ -26,6 +30,7 @@ pub use fault::PathFault;
 pub use file_list::{FileList, ListOffers};
 pub use file_paths::FilePaths;
 pub use laws::{cut_prefixes_are_closed, cycles_are_cut, no_edges_no_walks};
+pub use moving::file_zero_moves;
 pub use offers::FileOffers;
 pub use path::PartialPath;
 pub use places::{edge_at, is_at_definition, is_definition_spot, node_at};
