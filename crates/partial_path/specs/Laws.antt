@@ -1,5 +1,6 @@
--- Laws of the definitions: what cut edges and counted runs are for, and which path set is known at once.
-use Rattle.std.specs.Prelude.{◌≡◌, ◌≢◌, List, [], ◌∷◌, ◌++◌, IsTrue, IsSome, Contains}
+-- Laws of the definitions: what cut edges and counted runs are for, which path set is known at once, what a
+-- file's rules are in a list of files, and which of them a look-up offers.
+use Rattle.std.specs.Prelude.{◌≡◌, ◌≢◌, ℕ, List, [], ◌∷◌, ◌++◌, map, Some, slice_get, IsTrue, IsSome, Contains}
 use Rattle.std.specs.List.{AllByRecursion, list_any}
 use Rattle.graph_nodes.specs.declared.node.Edge.{Edge}
 use Rattle.graph_nodes.specs.declared.node.Place.{Place}
@@ -10,8 +11,13 @@ use Rattle.partial_path.specs.declared.config.EdgeAt.{EdgeAt}
 use Rattle.partial_path.specs.Step.{is_cut_edge}
 use Rattle.partial_path.specs.Runs.{run, IsStraight, IsClosed}
 use Rattle.partial_path.specs.Counted.{IsCounted}
-use Rattle.partial_path.specs.Walks.{IsWeight}
-use Rattle.partial_path.specs.PathSets.{IsPathSet}
+use Rattle.partial_path.specs.Walks.{run_from, highest_from, IsWeight}
+use Rattle.partial_path.specs.Rules.{Rule}
+use Rattle.partial_path.specs.Apply.{apply, height}
+use Rattle.partial_path.specs.Moved.{moved_edge, moved_start, moved}
+use Rattle.partial_path.specs.FileNumbers.{IsOfFileZero}
+use Rattle.partial_path.specs.PathSets.{FileRules, IsRuleOf, IsPathSet}
+use Rattle.partial_path.specs.Sources.{rules_offered}
 
 -- a closed and straight run
 pub record IsClosedStraight (files : List Graph) (c : Config) (es : List EdgeAt) : Type 0 where
@@ -44,3 +50,23 @@ CyclesAreCut = (g : Graph) (es : List Edge) → IsCycle g es → IsTrue (list_an
 -- a graph without edges has no walk: no rules are its path set, and its weight is 0
 abbrev pub NoEdgesNoWalks : Type 0
 NoEdgesNoWalks = (g : Graph) → g.edges ≡ [] → IsPathSet g [] × IsWeight g 0
+
+-- the rule moved to that place in the files stands for the run of its edges, moved there: applying it is that
+-- run on every configuration, and its peak is exact wherever it applies
+pub record IsMovedRun (files : List Graph) (base : ℕ) (rule : Rule) : Type 0 where
+  pub applies : (c : Config) → apply (moved base rule) c ≡ run_from files (moved_start base rule.start) (map (moved_edge base) rule.edges) c
+  pub peak : (c : Config) → IsSome (apply (moved base rule) c)
+      → height (moved base rule) c ≡ highest_from files (moved_start base rule.start) (map (moved_edge base) rule.edges) c
+
+-- a rule of one file, moved to the file's place in a list of files, is the run of its edges there
+abbrev pub MovedRulesAreRuns : Type 0
+MovedRulesAreRuns =
+    (files : List Graph) (base : ℕ) (g : Graph) (rule : Rule) → slice_get files base ≡ Some g → IsRuleOf g rule → IsOfFileZero rule
+    → IsMovedRun files base rule
+
+-- of the rules of a list of files, one that applies to a configuration is offered at its start to the
+-- configuration's symbols
+abbrev pub AppliedRulesAreOffered : Type 0
+AppliedRulesAreOffered =
+    (files : List FileRules) (file : ℕ) (f : FileRules) (rule : Rule) (c : Config) → slice_get files file ≡ Some f → Contains f.rules rule
+    → IsSome (apply (moved file rule) c) → Contains (rules_offered files (moved_start file rule.start) c.stacks.symbols) (file, rule)

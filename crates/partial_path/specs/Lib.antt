@@ -7,6 +7,7 @@ pub mod Laws
 pub mod Rules
 pub mod Apply
 pub mod Moved
+pub mod FileNumbers
 pub mod Walks
 pub mod PathSets
 pub mod Starts
