@@ -1,6 +1,6 @@
 -- Following edges of one file of a list: it is following them in that file alone, as file 0, with the file
 -- numbers changed. So a rule of the file, moved, is the run of its edges, moved.
-use Rattle.std.proofs.Common.{◌≡◌, refl, sym, ◌∙◌, ap, ℕ, ◌+◌, List, [], ◌∷◌, map, max, Option, Some, None, if◌then◌else◌, arith}
+use Rattle.std.proofs.Common.{◌≡◌, refl, sym, ◌∙◌, ap, ℕ, ◌+◌, Bool, false, List, [], ◌∷◌, map, max, Option, Some, None, if◌then◌else◌, arith}
 use Rattle.std.specs.Prelude.{◌&&◌, nat_eq, slice_get}
 use Rattle.std.specs.Option.{option_map, option_and_then, option_map_or, is_some}
 use Rattle.std.specs.List.{AllByRecursion}
@@ -13,8 +13,9 @@ use Rattle.graph_nodes.specs.declared.node.NodeKind.{NodeKind}
 use Rattle.graph_nodes.specs.declared.node.NodeKind.TheVariants.{Scope, Push, PushScoped, Pop, PopScoped, Drops}
 use Rattle.graph_nodes.specs.declared.node.Place.{Place}
 use Rattle.graph_nodes.specs.declared.node.Place.TheVariants as place
-use Rattle.graph_nodes.specs.Graph.{Graph}
-use Rattle.graph_nodes.specs.Whole.{node_of, edge_of}
+use Rattle.graph_nodes.specs.Graph.{Graph, is_reference}
+use Rattle.graph_nodes.specs.Whole.{node_of, edge_of, is_cut_of, is_reference_of}
+use Rattle.graph_nodes.specs.Cut.{is_cut}
 use Rattle.stacks_vars.specs.declared.scopes.NodeAt.{NodeAt}
 use Rattle.stacks_vars.specs.declared.items.SymbolItem.{SymbolItem}
 use Rattle.stacks_vars.specs.declared.stacks.Stacks.{Stacks}
@@ -33,7 +34,7 @@ use Rattle.partial_path.specs.Apply.{apply}
 use Rattle.partial_path.specs.Walks.{alone, begin, run_from, highest, highest_from}
 use Rattle.partial_path.specs.Moved.{moved_edge, moved_start}
 use Rattle.partial_path.specs.FileNumbers.{EdgeIn, StartIn}
-use Rattle.partial_path.specs.Laws.{MovedRulesAreRuns}
+use Rattle.partial_path.specs.Laws.{MovedRulesAreRuns, MovedStartsAreStarts}
 use Rattle.partial_path.proofs.Swaps.{IsZero, sw_nodes, sw_item, sw_stacks, sw_spot, sw_config, items_twice, stacks_twice, config_twice, numbers_stand, tested, some_mapped}
 use Rattle.partial_path.proofs.SwappedRules.{jumped, begun, applied, as_high}
 
@@ -198,3 +199,19 @@ moved_rules_are_runs files base g rule there exact zeros =
           ∙ exact.peak (sw_config base c) (sym (some_mapped (sw_config base) (apply rule (sw_config base c))) ∙ ap is_some (sym (applied base rule c zeros)) ∙ some)
           ∙ sym (as_deep_from files base g there rule.start rule.edges c zeros.start edges);
     }
+
+-- where walks start
+
+zero_then : (n : ℕ) (b : Bool) → n ≡ 0 → b ≡ nat_eq n 0 && b
+zero_then n b zero = sym (ap (λ m. nat_eq m 0 && b) zero)
+
+pub moved_starts_are_starts : MovedStartsAreStarts
+moved_starts_are_starts files base g (Before node) there zero =
+    let sum : base + node.file ≡ base = omega (arith, zero) in
+    (λ i. is_reference_of files (sum i) node.node) ∙ ap (λ found. option_map_or (λ (g : Graph). is_reference g.nodes node.node) found false) there
+    ∙ zero_then node.file (is_reference g.nodes node.node) zero
+moved_starts_are_starts files base g (After spot.Root) there zero = refl
+moved_starts_are_starts files base g (After (spot.At node)) there zero =
+    let sum : base + node.file ≡ base = omega (arith, zero) in
+    (λ i. is_cut_of files (sum i) (place.At node.node)) ∙ ap (λ found. option_map_or (λ (g : Graph). is_cut g (place.At node.node)) found false) there
+    ∙ zero_then node.file (is_cut g (place.At node.node)) zero

@@ -8,14 +8,15 @@ use Rattle.graph_nodes.specs.Graph.{Graph}
 use Rattle.graph_nodes.specs.Cut.{is_cut}
 use Rattle.partial_path.specs.declared.config.Config.{Config}
 use Rattle.partial_path.specs.declared.config.EdgeAt.{EdgeAt}
+use Rattle.partial_path.specs.declared.rule.Start.{Start}
 use Rattle.partial_path.specs.Step.{is_cut_edge}
 use Rattle.partial_path.specs.Runs.{run, IsStraight, IsClosed}
 use Rattle.partial_path.specs.Counted.{IsCounted}
-use Rattle.partial_path.specs.Walks.{run_from, highest_from, IsWeight}
+use Rattle.partial_path.specs.Walks.{run_from, highest_from, starts_walks, starts_walks_of, IsWeight}
 use Rattle.partial_path.specs.Rules.{Rule}
 use Rattle.partial_path.specs.Apply.{apply, height}
 use Rattle.partial_path.specs.Moved.{moved_edge, moved_start, moved}
-use Rattle.partial_path.specs.FileNumbers.{IsOfFileZero}
+use Rattle.partial_path.specs.FileNumbers.{IsOfFileZero, StartIn}
 use Rattle.partial_path.specs.PathSets.{FileRules, IsRuleOf, IsPathSet}
 use Rattle.partial_path.specs.Sources.{rules_offered}
 
@@ -63,6 +64,12 @@ abbrev pub MovedRulesAreRuns : Type 0
 MovedRulesAreRuns =
     (files : List Graph) (base : ℕ) (g : Graph) (rule : Rule) → slice_get files base ≡ Some g → IsRuleOf g rule → IsOfFileZero rule
     → IsMovedRun files base rule
+
+-- walks of one file start where walks of a list of files start that has the file at that place, moved there
+abbrev pub MovedStartsAreStarts : Type 0
+MovedStartsAreStarts =
+    (files : List Graph) (base : ℕ) (g : Graph) (start : Start) → slice_get files base ≡ Some g → StartIn (λ (file : ℕ). file ≡ 0) start
+    → starts_walks_of files (moved_start base start) ≡ starts_walks g start
 
 -- of the rules of a list of files, one that applies to a configuration is offered at its start to the
 -- configuration's symbols

@@ -1,4 +1,9 @@
-ghost use Rattle.partial_path.specs.Laws.{AppliedRulesAreOffered, CutPrefixesAreClosed, CyclesAreCut, MovedRulesAreRuns, NoEdgesNoWalks};
+ghost use Rattle.std.specs.Prelude.{◌≡◌};
+ghost use Rattle.partial_path.specs.declared.bounds.TheConstants.{MAX_RUNS};
+ghost use Rattle.partial_path.specs.declared.slots.TheConstants.{KEY_SIZE};
+ghost use Rattle.partial_path.specs.Limits.{max_runs};
+ghost use Rattle.partial_path.specs.Keys.{key_size};
+ghost use Rattle.partial_path.specs.Laws.{AppliedRulesAreOffered, CutPrefixesAreClosed, CyclesAreCut, MovedRulesAreRuns, MovedStartsAreStarts, NoEdgesNoWalks};
 
 /// A law: where a counted run has been followed up to one of its cut edges, that prefix is a closed and
 /// straight run itself.
@@ -26,4 +31,15 @@ pub fn moved_paths_are_runs()
 /// configuration's symbols.
 pub fn applied_paths_are_offered()
     ensures { AppliedRulesAreOffered }
+{}
+
+/// A law: walks of a file start where walks of the list of files start, the start moved to the file's place.
+pub fn moved_starts_are_starts()
+    ensures { MovedStartsAreStarts }
+{}
+
+/// A law: the limits of the program are those of the definitions.
+pub fn limits_are_as_stated()
+    ensures runs { MAX_RUNS ≡ max_runs }
+    ensures keys { KEY_SIZE ≡ key_size }
 {}
