@@ -1,6 +1,6 @@
 -- Laws of the definitions: what cut edges and counted runs are for, which path set is known at once, what a
 -- file's rules are in a list of files, and which of them a look-up offers.
-use Rattle.std.specs.Prelude.{◌≡◌, ◌≢◌, ℕ, List, [], ◌∷◌, ◌++◌, map, Some, slice_get, IsTrue, IsSome, Contains}
+use Rattle.std.specs.Prelude.{◌≡◌, ◌≢◌, ℕ, List, [], ◌∷◌, ◌++◌, map, filter, Some, slice_get, All, IsTrue, IsSome, Contains}
 use Rattle.std.specs.List.{AllByRecursion, list_any}
 use Rattle.graph_nodes.specs.declared.node.Edge.{Edge}
 use Rattle.graph_nodes.specs.declared.node.Place.{Place}
@@ -8,7 +8,11 @@ use Rattle.graph_nodes.specs.Graph.{Graph}
 use Rattle.graph_nodes.specs.Cut.{is_cut}
 use Rattle.partial_path.specs.declared.config.Config.{Config}
 use Rattle.partial_path.specs.declared.config.EdgeAt.{EdgeAt}
+use Rattle.partial_path.specs.declared.config.Spot.TheVariants as spot
 use Rattle.partial_path.specs.declared.rule.Start.{Start}
+use Rattle.partial_path.specs.declared.rule.Start.TheVariants.{Before, After}
+use Rattle.stacks_vars.specs.declared.items.SymbolItem.{SymbolItem}
+use Rattle.partial_path.specs.Spots.{node_at}
 use Rattle.partial_path.specs.Step.{is_cut_edge}
 use Rattle.partial_path.specs.Runs.{run, IsStraight, IsClosed}
 use Rattle.partial_path.specs.Counted.{IsCounted}
@@ -18,7 +22,7 @@ use Rattle.partial_path.specs.Apply.{apply, height}
 use Rattle.partial_path.specs.Moved.{moved_edge, moved_start, moved}
 use Rattle.partial_path.specs.FileNumbers.{IsOfFileZero, StartIn}
 use Rattle.partial_path.specs.PathSets.{FileRules, IsRuleOf, IsPathSet}
-use Rattle.partial_path.specs.Sources.{rules_offered}
+use Rattle.partial_path.specs.Sources.{IsSourceFile, is_offered, numbered, rules_offered, rules_offered_in}
 
 -- a closed and straight run
 pub record IsClosedStraight (files : List Graph) (c : Config) (es : List EdgeAt) : Type 0 where
@@ -77,3 +81,13 @@ abbrev pub AppliedRulesAreOffered : Type 0
 AppliedRulesAreOffered =
     (files : List FileRules) (file : ℕ) (f : FileRules) (rule : Rule) (c : Config) → slice_get files file ≡ Some f → Contains f.rules rule
     → IsSome (apply (moved file rule) c) → Contains (rules_offered files (moved_start file rule.start) c.stacks.symbols) (file, rule)
+
+-- at the root each file offers what it offers alone; and what is offered at another start, of one file, is what
+-- that file alone offers
+pub record AreOwnOffers : Type 0 where
+  pub root : (file : ℕ) (f : FileRules) (symbols : List SymbolItem)
+      → rules_offered_in file f (After spot.Root) symbols ≡ map (numbered file) (filter (is_offered (After spot.Root) symbols) f.rules)
+  pub before : (files : List FileRules) (file : ℕ) (f : FileRules) (node : ℕ) (symbols : List SymbolItem) → All IsSourceFile files → slice_get files file ≡ Some f
+      → rules_offered files (Before (node_at file node)) symbols ≡ map (numbered file) (filter (is_offered (Before (node_at 0 node)) symbols) f.rules)
+  pub after : (files : List FileRules) (file : ℕ) (f : FileRules) (node : ℕ) (symbols : List SymbolItem) → All IsSourceFile files → slice_get files file ≡ Some f
+      → rules_offered files (After (spot.At (node_at file node))) symbols ≡ map (numbered file) (filter (is_offered (After (spot.At (node_at 0 node))) symbols) f.rules)

@@ -3,7 +3,7 @@ ghost use Rattle.partial_path.specs.declared.bounds.TheConstants.{MAX_RUNS};
 ghost use Rattle.partial_path.specs.declared.slots.TheConstants.{KEY_SIZE};
 ghost use Rattle.partial_path.specs.Limits.{max_runs};
 ghost use Rattle.partial_path.specs.Keys.{key_size};
-ghost use Rattle.partial_path.specs.Laws.{AppliedRulesAreOffered, CutPrefixesAreClosed, CyclesAreCut, MovedRulesAreRuns, MovedStartsAreStarts, NoEdgesNoWalks};
+ghost use Rattle.partial_path.specs.Laws.{AppliedRulesAreOffered, AreOwnOffers, CutPrefixesAreClosed, CyclesAreCut, MovedRulesAreRuns, MovedStartsAreStarts, NoEdgesNoWalks};
 
 /// A law: where a counted run has been followed up to one of its cut edges, that prefix is a closed and
 /// straight run itself.
@@ -36,6 +36,12 @@ pub fn applied_paths_are_offered()
 /// A law: walks of a file start where walks of the list of files start, the start moved to the file's place.
 pub fn moved_starts_are_starts()
     ensures { MovedStartsAreStarts }
+{}
+
+/// A law: what is offered at a start of one file is what that file alone offers; at the root each file offers
+/// what it offers alone.
+pub fn files_offer_their_own()
+    ensures { AreOwnOffers }
 {}
 
 /// A law: the limits of the program are those of the definitions.
