@@ -15,3 +15,7 @@ pub mod Listing
 pub mod Edgeless
 pub mod FileNumberLaws
 pub mod MovedRules
+pub mod Swaps
+pub mod SwappedRules
+pub mod SwappedRuns
+pub mod Applied

@@ -1,6 +1,7 @@
 pub mod Spots
 pub mod Step
 pub mod Runs
+pub mod Limits
 pub mod Counted
 pub mod Same
 pub mod Laws

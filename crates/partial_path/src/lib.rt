@@ -11,11 +11,8 @@ mod file_paths;
 mod filling;
 mod laws;
 mod matching;
-<<<<<<< HEAD
-mod offers;
-=======
 mod moving;
->>>>>>> b34a4c60d04ac65f2ad49a418763ace10169282a
+mod offers;
 mod path;
 mod places;
 mod rule;
@@ -29,7 +26,10 @@ pub use config::{Config, EdgeAt, Spot};
 pub use fault::PathFault;
 pub use file_list::{FileList, ListOffers};
 pub use file_paths::FilePaths;
-pub use laws::{cut_prefixes_are_closed, cycles_are_cut, no_edges_no_walks};
+pub use laws::{
+    applied_paths_are_offered, cut_prefixes_are_closed, cycles_are_cut, files_offer_their_own,
+    limits_are_as_stated, moved_paths_are_runs, moved_starts_are_starts, no_edges_no_walks,
+};
 pub use moving::file_zero_moves;
 pub use offers::FileOffers;
 pub use path::PartialPath;
