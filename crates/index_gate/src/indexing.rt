@@ -2,13 +2,14 @@ ghost use Rattle.std.specs.Prelude.{◌≡◌, ◌≢◌, ◌≤◌, ◌+◌, �
 ghost use Rattle.partial_path.specs.PathSets.{FileRules};
 ghost use Rattle.path_store.specs.Store.{kept_of, with_doc};
 ghost use Rattle.index_gate.specs.declared.fault.IndexFault.TheVariants.{NoMemory};
+ghost use Rattle.index_gate.specs.Graphs.{graph_of_doc};
 ghost use Rattle.index_gate.specs.Indexed.{IsIndexed, AreIndexed, AreFilesOf, HasCause, AddsMissing, AddsSome, CountsWalks, CountsAllWalks, IsDocWeight, AreDocWeights, docs_of, has_doc, missing};
-ghost use Rattle.index_gate.specs.Reading.{HasNone, Refuses, Finds, Adds};
+ghost use Rattle.index_gate.specs.Reading.{IsReading, HasNone, Refuses, Finds, Adds};
 
 use crate::fault::{FileFault, IndexFault, ReadFault};
 use crate::reading::read_document;
 use file_paths::{PathsFault, enumerate};
-use graph_nodes::{Name, Steps};
+use graph_nodes::{FileGraph, Name, Steps};
 use nav_io::Gate;
 use partial_path::{FilePaths, SharedPaths};
 use path_store::{Document, PathStore};
@@ -150,12 +151,19 @@ fn index_one<L: Ledger>(
     ensures fault { IfErr result (HasNone doc.now) }
     ensures fewer { (weight : ℕ) → IsDocWeight doc.now weight → steps.new ≤ steps.old + weight }
 {
-    let graph = read_document(alloc, doc.path(), doc.bytes())?;
+    let graph = graph_of(alloc, doc)?;
     match enumerate(alloc, graph, steps) {
         Ok(paths) => Ok(paths),
         Err(PathsFault::Heavy(weight)) => Err(ReadFault::File(FileFault::Heavy(weight))),
         Err(PathsFault::NoMemory) => Err(ReadFault::NoMemory),
     }
+}
+
+// The graph of the document.
+fn graph_of(alloc: Global, doc: &Document) -> Result<FileGraph, ReadFault>
+    ensures { IsReading result (graph_of_doc doc.now) }
+{
+    read_document(alloc, doc.path(), doc.bytes())
 }
 
 // The answer where the work on the document ended so.
