@@ -1,6 +1,8 @@
 //! What no clause says: that paths are found with memory at hand, and what they do on worked graphs.
 ghost use Rattle.std.specs.Prelude.{◌≡◌, ◌<◌};
 
+mod offers;
+
 use crate::{PathsFault, enumerate};
 use graph_nodes::{FileGraph, Steps};
 use graph_text::{apply_inside, files_of, stacks_of};

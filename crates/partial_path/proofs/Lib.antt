@@ -13,9 +13,9 @@ pub mod Asking
 pub mod Offered
 pub mod Listing
 pub mod Edgeless
-pub mod FileNumberLaws
-pub mod MovedRules
 pub mod Swaps
 pub mod SwappedRules
 pub mod SwappedRuns
 pub mod Applied
+pub mod FileNumberLaws
+pub mod MovedRules

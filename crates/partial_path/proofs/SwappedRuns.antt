@@ -190,7 +190,8 @@ module _ (files : List Graph) (b : ℕ) (g : Graph) (there : slice_get files b �
 
 -- a rule of the file, moved, is the run of its edges, moved
 pub moved_rules_are_runs : MovedRulesAreRuns
-moved_rules_are_runs files base g rule there exact zeros =
+moved_rules_are_runs files base g rule there exact =
+    let zeros = exact.files in
     let edges = recursion_from_All (EdgeIn IsZero) rule.edges zeros.edges in
     record {
       applies = λ c. applied base rule c zeros ∙ ap (option_map (sw_config base)) (exact.applies (sw_config base c)) ∙ sym (ran_from files base g there rule.start rule.edges c zeros.start edges);

@@ -20,7 +20,7 @@ use Rattle.partial_path.specs.Walks.{run_from, highest_from, starts_walks, start
 use Rattle.partial_path.specs.Rules.{Rule}
 use Rattle.partial_path.specs.Apply.{apply, height}
 use Rattle.partial_path.specs.Moved.{moved_edge, moved_start, moved}
-use Rattle.partial_path.specs.FileNumbers.{IsOfFileZero, StartIn}
+use Rattle.partial_path.specs.FileNumbers.{StartIn}
 use Rattle.partial_path.specs.PathSets.{FileRules, IsRuleOf, IsPathSet}
 use Rattle.partial_path.specs.Sources.{IsSourceFile, is_offered, numbered, rules_offered, rules_offered_in}
 
@@ -66,8 +66,7 @@ pub record IsMovedRun (files : List Graph) (base : ℕ) (rule : Rule) : Type 0 w
 -- a rule of one file, moved to the file's place in a list of files, is the run of its edges there
 abbrev pub MovedRulesAreRuns : Type 0
 MovedRulesAreRuns =
-    (files : List Graph) (base : ℕ) (g : Graph) (rule : Rule) → slice_get files base ≡ Some g → IsRuleOf g rule → IsOfFileZero rule
-    → IsMovedRun files base rule
+    (files : List Graph) (base : ℕ) (g : Graph) (rule : Rule) → slice_get files base ≡ Some g → IsRuleOf g rule → IsMovedRun files base rule
 
 -- walks of one file start where walks of a list of files start that has the file at that place, moved there
 abbrev pub MovedStartsAreStarts : Type 0
