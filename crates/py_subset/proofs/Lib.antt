@@ -16,3 +16,4 @@ pub mod ViableLists
 pub mod Ready
 pub mod ReadyGrammar
 pub mod FirstFault
+pub mod Texts

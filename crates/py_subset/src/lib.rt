@@ -9,6 +9,7 @@ mod header;
 mod imports;
 mod items;
 mod keywords;
+mod laws;
 mod layout;
 mod lex;
 mod making;
@@ -26,6 +27,7 @@ mod tree;
 mod whole;
 
 pub use items::Items;
+pub use laws::{lookahead_reads_texts, texts_are_read_once};
 pub use token::PyFault;
 pub use tree::{
     Arm, Atom, BinOp, Expr, Exprs, FromItem, ImportItem, Joined, Module, Operand, Postfix, Primary,

@@ -49,7 +49,7 @@ impl Tokens {
     ghost use Rattle.py_subset.specs.Marks as marks;
     ghost use Rattle.py_subset.specs.Language as language;
     ghost use Rattle.py_subset.specs.Parsers as parsers;
-    ghost use Rattle.py_subset.specs.Whole as whole;
+    ghost use Rattle.py_subset.specs.Refusals as refusals;
 
     /// No tokens.
     pub fn new(alloc: Global) -> Tokens
@@ -77,7 +77,7 @@ impl Tokens {
 
     /// The line of the next token, or this one where there is none.
     pub fn line_or(&self, end: u32) -> u32
-        ensures { result ≡ whole.line_or end self.now }
+        ensures { result ≡ refusals.line_or end self.now }
     {
         match self.left.front() {
             Some(token) => token.word.line,
