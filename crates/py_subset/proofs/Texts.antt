@@ -1,20 +1,19 @@
 -- A text is read as one module or one fault, which the reading with one token of lookahead gives.
-use Rattle.std.proofs.Common.{◌≡◌, ◌⊎◌, ◌↔◌, inl, inr, ℕ, ◌+◌, List, [], ◌∷◌, ◌++◌, length, Result, Ok, Err, refl, ap, sym, subst, ◌∙◌, append_assoc}
+use Rattle.std.proofs.Common.{◌≡◌, ◌⊎◌, ◌↔◌, inl, inr, ℕ, List, [], ◌∷◌, ◌++◌, Result, Ok, Err, refl, ap, sym, subst, ◌∙◌, append_assoc}
 use Rattle.std.proofs.lemmas.List.{append-nil}
 use Rattle.py_subset.specs.declared.token.Token.{Token}
 use Rattle.py_subset.specs.declared.token.PyFault.{PyFault}
 use Rattle.py_subset.specs.declared.token.PyFault.TheVariants as fault
 use Rattle.py_subset.specs.declared.tree.Module.{Module}
 use Rattle.py_subset.specs.Grammar.{Derives}
-use Rattle.py_subset.specs.Layout.{tokens_of, end_line, Reads, ◌>>=◌}
-use Rattle.py_subset.specs.Statements.{module_of}
-use Rattle.py_subset.specs.Whole.{parse_of, whole}
+use Rattle.py_subset.specs.Layout.{tokens_of, end_line, Reads}
+use Rattle.py_subset.specs.Whole.{parse_of}
 use Rattle.py_subset.specs.Refusals.{refusal}
 use Rattle.py_subset.specs.Correct.{IsModule}
 use Rattle.py_subset.specs.FirstFault.{BeginsModule, IsRefused, IsFirstFault}
 use Rattle.py_subset.specs.Texts.{HasFault, IsRead, Answers}
-use Rattle.py_subset.proofs.Correct.{derived, found, one}
-use Rattle.py_subset.proofs.FirstFault.{first_fault, fault_is, told, tokens_err}
+use Rattle.py_subset.proofs.Correct.{derived, one}
+use Rattle.py_subset.proofs.FirstFault.{first_fault, fault_is, tokens_err}
 
 -- the second list begins with the first one and the first token that is left behind that
 abbrev IsLonger : List Token → List Token → List Token → Type 0

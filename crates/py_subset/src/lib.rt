@@ -28,7 +28,10 @@ mod whole;
 
 pub use items::Items;
 pub use laws::{lookahead_reads_texts, texts_are_read_once};
-pub use token::PyFault;
+pub use piece::{Bracket, Flaw, Piece, PieceKind};
+pub use reading::{Place, Reading};
+pub use token::{Mark, PyFault, Token};
+pub use token_list::Tokens;
 pub use tree::{
     Arm, Atom, BinOp, Expr, Exprs, FromItem, ImportItem, Joined, Module, Operand, Postfix, Primary,
     PyText, Sign, Stmt, Target, Word,

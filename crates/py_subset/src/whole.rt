@@ -32,6 +32,7 @@ fn is_unsupported(mark: Mark) -> bool
         | Mark::OpenSquare
         | Mark::OpenCurly
         | Mark::Dot => true,
+        // Any other token is one that is expected elsewhere.
         _ => false,
     }
 }
@@ -48,6 +49,7 @@ fn refusal(end: u32, left: &Tokens) -> PyFault
     }
 }
 
+/// The module or the first fault, by the reading with one token of lookahead.
 #[tactic(auto, unfolding(crate::specs::Whole::parse_of))]
 fn read(alloc: Global, text: &[u8]) -> Result<Module, PyFault>
     requires { length text.now < 2 ^ 32 }
