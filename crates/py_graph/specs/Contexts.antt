@@ -12,9 +12,13 @@ pub record Context : Type 0 where
   pub self : Option (List ℕ × ℕ)  -- in a method's block, the first parameter's name and the attributes of its class
   pub p : ℕ  -- a precedence
 
+-- the greatest precedence that an edge can have
+abbrev pub max_precedence : ℕ
+max_precedence = 65535
+
 -- the context of the statement at a place, from 1, of the block of a module, function or class
 abbrev pub at_place : ℕ → Context → Context
-at_place i c = record { b = c.b; l = c.l; o = c.o; r = c.r; class = c.class; self = c.self; p = min (i + 1) 65535 }
+at_place i c = record { b = c.b; l = c.l; o = c.o; r = c.r; class = c.class; self = c.self; p = min (i + 1) max_precedence }
 
 -- the block of a module with this scope
 abbrev pub in_module : ℕ → Context

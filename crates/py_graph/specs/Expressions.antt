@@ -99,10 +99,12 @@ abbrev pub in_round : Option Visit → Visit
 in_round None = parts []
 in_round (Some es) = es
 
+-- a list in square brackets has no value
 abbrev pub in_square : Option Visit → Visit
 in_square None = parts []
 in_square (Some es) = parts (es ∷ [])
 
+-- an atom
 abbrev pub atom_row : Atom-F Visit PostVisit Visit Visit Visit Visit Visit → Visit
 atom_row (Atom-F.Name x) = name x
 atom_row Atom-F.Number = parts []
@@ -113,22 +115,28 @@ atom_row Atom-F.NoneWord = parts []
 atom_row (Atom-F.Round es) = in_round es
 atom_row (Atom-F.Square es) = in_square es
 
+-- a member or a call
 abbrev pub postfix_row : Postfix-F Visit PostVisit Visit Visit Visit Visit Visit → PostVisit
 postfix_row (Postfix-F.Member x) = member x
 postfix_row (Postfix-F.Call es) = call es
 
+-- an atom with the members and calls after it
 abbrev pub primary_row : Primary-F Visit PostVisit Visit Visit Visit Visit Visit → Visit
 primary_row p = chain (reverse p.posts) p.atom
 
+-- a primary with the signs before it
 abbrev pub operand_row : Operand-F Visit PostVisit Visit Visit Visit Visit Visit → Visit
 operand_row o = signed (length o.signs) o.primary
 
+-- an operator and the operand after it
 abbrev pub joined_row : Joined-F Visit PostVisit Visit Visit Visit Visit Visit → Visit
 joined_row j = j.operand
 
+-- operands with operators between
 abbrev pub expr_row : Expr-F Visit PostVisit Visit Visit Visit Visit Visit → Visit
 expr_row e = operated e.first e.rest
 
+-- expressions with commas between
 abbrev pub exprs_row : Exprs-F Visit PostVisit Visit Visit Visit Visit Visit → Visit
 exprs_row es = tuple es.items es.last_comma
 
@@ -136,20 +144,26 @@ exprs_row es = tuple es.items es.last_comma
 abbrev pub expr : Expr → Visit
 expr = fold-Expr Visit PostVisit Visit Visit Visit Visit Visit atom_row postfix_row expr_row exprs_row joined_row operand_row primary_row
 
+-- whole expressions with commas between
 abbrev pub exprs : Exprs → Visit
 exprs = fold-Exprs Visit PostVisit Visit Visit Visit Visit Visit atom_row postfix_row expr_row exprs_row joined_row operand_row primary_row
 
+-- a whole atom
 abbrev pub atom : Atom → Visit
 atom = fold-Atom Visit PostVisit Visit Visit Visit Visit Visit atom_row postfix_row expr_row exprs_row joined_row operand_row primary_row
 
+-- a whole member or call
 abbrev pub postfix : Postfix → PostVisit
 postfix = fold-Postfix Visit PostVisit Visit Visit Visit Visit Visit atom_row postfix_row expr_row exprs_row joined_row operand_row primary_row
 
+-- a whole primary
 abbrev pub primary : Primary → Visit
 primary = fold-Primary Visit PostVisit Visit Visit Visit Visit Visit atom_row postfix_row expr_row exprs_row joined_row operand_row primary_row
 
+-- a whole operand
 abbrev pub operand : Operand → Visit
 operand = fold-Operand Visit PostVisit Visit Visit Visit Visit Visit atom_row postfix_row expr_row exprs_row joined_row operand_row primary_row
 
+-- a whole operator with its operand
 abbrev pub joined : Joined → Visit
 joined = fold-Joined Visit PostVisit Visit Visit Visit Visit Visit atom_row postfix_row expr_row exprs_row joined_row operand_row primary_row

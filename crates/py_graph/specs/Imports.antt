@@ -33,10 +33,12 @@ backward (x ∷ xs) = do
 abbrev pub dotted : List Word → Steps (Option (ℕ × ℕ))
 dotted xs = backward (reverse xs)
 
+-- the first node of a dotted name
 abbrev pub first_node : Option (ℕ × ℕ) → Option ℕ
 first_node None = None
 first_node (Some d) = Some d.0
 
+-- the last node of a dotted name
 abbrev pub last_node : Option (ℕ × ℕ) → Option ℕ
 last_node None = None
 last_node (Some d) = Some d.1
@@ -58,6 +60,7 @@ import_as xs y c = do
   d ← dotted xs
   n ▸? first_node d
 
+-- an imported module, with its alias if it has one
 abbrev pub import_aliased : List Word → Option Word → StmtVisit
 import_aliased xs None = import_name xs
 import_aliased xs (Some y) = import_as xs y

@@ -12,6 +12,7 @@ use Rattle.py_graph.specs.Contexts.{Context}
 abbrev pub Grows : Graph → Graph → Type 0
 Grows g h = length g.nodes ≤ length h.nodes
 
+-- The graph has the node.
 abbrev pub IsNode : Graph → ℕ → Type 0
 IsNode g n = n < length g.nodes
 
@@ -20,13 +21,16 @@ abbrev pub IsNodeIf : Graph → Option ℕ → Type 0
 IsNodeIf g None = Unit {0}
 IsNodeIf g (Some n) = n < length g.nodes
 
+-- The graph has both nodes.
 abbrev pub ArePair : Graph → ℕ × ℕ → Type 0
 ArePair g p = (p.0 < length g.nodes) × (p.1 < length g.nodes)
 
+-- Where there is a pair, the graph has both nodes.
 abbrev pub ArePairIf : Graph → Option (ℕ × ℕ) → Type 0
 ArePairIf g None = Unit {0}
 ArePairIf g (Some p) = (p.0 < length g.nodes) × (p.1 < length g.nodes)
 
+-- Where there is a self, the graph has the node of its attributes.
 abbrev pub IsSelfIf : Graph → Option (List ℕ × ℕ) → Type 0
 IsSelfIf g None = Unit {0}
 IsSelfIf g (Some p) = p.1 < length g.nodes

@@ -29,6 +29,7 @@ abbrev pub arrive : Option ℕ → ℕ → Steps (Unit {0})
 arrive None n = from_root n
 arrive (Some t) n = t ▸ n
 
+-- whether no part stands behind
 abbrev pub is_last : List (List ℕ) → Bool
 is_last [] = true
 is_last (x ∷ xs) = false
@@ -64,6 +65,7 @@ abbrev pub told : Option (Unit {0} × Graph) → Result Graph TransFault
 told None = Err (fault.TooManyNodes 16385)
 told (Some r) = limited r.1
 
+-- the graph of a module whose path gives these parts, if it gives a name
 abbrev pub graph_of_named : Option (List (List ℕ)) → List Stmt → Result Graph TransFault
 graph_of_named None body = Err fault.BadName
 graph_of_named (Some parts) body = told (table parts body empty)

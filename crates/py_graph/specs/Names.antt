@@ -13,6 +13,7 @@ keywords =
     ∷ codes "import" ∷ codes "in" ∷ codes "is" ∷ codes "lambda" ∷ codes "nonlocal" ∷ codes "not" ∷ codes "or"
     ∷ codes "pass" ∷ codes "raise" ∷ codes "return" ∷ codes "try" ∷ codes "while" ∷ codes "with" ∷ codes "yield" ∷ []
 
+-- whether the name is a keyword
 abbrev pub is_keyword : List ℕ → Bool
 is_keyword name = list_any (λ k. bytes_eq k name) keywords
 
@@ -43,6 +44,7 @@ abbrev pub are_names : List (List ℕ) → Bool
 are_names [] = false
 are_names (part ∷ parts) = list_all is_name (part ∷ parts)
 
+-- these parts, where they are a module's name
 abbrev pub named : List (List ℕ) → Option (List (List ℕ))
 named parts = if are_names parts then Some parts else None
 

@@ -17,10 +17,11 @@ binding x = node (Pop x.text false) (Some (span_of x))
 abbrev pub reference : Word → Steps ℕ
 reference x = node (Push x.text true) (Some (span_of x))
 
--- `pop .` and `push .`
+-- `pop .`
 abbrev pub pop_dot : Steps ℕ
 pop_dot = node (Pop (codes ".") false) None
 
+-- `push .`
 abbrev pub push_dot : Steps ℕ
 push_dot = node (Push (codes ".") false) None
 
@@ -32,20 +33,23 @@ pop_call = node (PopScoped (codes "()") false) None
 abbrev pub push_call : ℕ → Steps ℕ
 push_call scope = node (PushScoped (codes "()") scope false) None
 
--- `pop` and `push` of the numeral j
+-- `pop` of the numeral j
 abbrev pub pop_number : ℕ → Steps ℕ
 pop_number j = node (Pop (decimal j) false) None
 
+-- `push` of the numeral j
 abbrev pub push_number : ℕ → Steps ℕ
 push_number j = node (Push (decimal j) false) None
 
--- `scope`, `scope E` and `drop`
+-- `scope`
 abbrev pub scope : Steps ℕ
 scope = node (Scope false) None
 
+-- `scope E`
 abbrev pub open_scope : Steps ℕ
 open_scope = node (Scope true) None
 
+-- `drop`
 abbrev pub drops : Steps ℕ
 drops = node Drops None
 

@@ -50,15 +50,25 @@ assign_member t x e c = do
 -- the bare name s, where it is self's name, with self's attributes
 abbrev pub named_self : Atom-F Atom Postfix Expr Exprs Joined Operand Primary → Option (List ℕ × ℕ) → Option (Word × ℕ)
 named_self (Atom-F.Name s) (Some self) = if bytes_eq s.text self.0 then Some (s, self.1) else None
-named_self _ _ = None
+named_self (Atom-F.Name s) None = None
+named_self Atom-F.Number self = None
+named_self Atom-F.Text self = None
+named_self Atom-F.TrueWord self = None
+named_self Atom-F.FalseWord self = None
+named_self Atom-F.NoneWord self = None
+named_self (Atom-F.Round es) self = None
+named_self (Atom-F.Square es) self = None
 
+-- self, where the primary is self's bare name
 abbrev pub self_in : Primary → Option (List ℕ × ℕ) → Option (Word × ℕ)
 self_in t self = if length t.posts == 0 then named_self (out-Atom t.atom) self else None
 
+-- an assignment to a member of self, or of something else
 abbrev pub assign_to : Option (Word × ℕ) → Primary → Word → Exprs → StmtVisit
 assign_to (Some s) t x e = assign_attribute s.0 s.1 x e
 assign_to None t x e = assign_member t x e
 
+-- an assignment
 abbrev pub assign : Target → Exprs → StmtVisit
 assign (target.Name x) e c = assign_name x e c
 assign (target.Member t x) e c = assign_to (self_in t c.self) t x e c
@@ -94,12 +104,18 @@ while_row condition body otherwise c = do
   suite body c
   suite otherwise c
 
--- `for x in e`
-abbrev pub for_row : Word → Exprs → List StmtVisit → List StmtVisit → StmtVisit
-for_row x e body otherwise c = do
+-- what `for x in e` does before its blocks
+abbrev pub for_head : Word → Exprs → StmtVisit
+for_head x e c = do
   n ← definition x
   edge c.b n c.p
   exprs e c.l
+  nothing
+
+-- `for x in e`
+abbrev pub for_row : Word → Exprs → List StmtVisit → List StmtVisit → StmtVisit
+for_row x e body otherwise c = do
+  for_head x e c
   suite body c
   suite otherwise c
 
@@ -130,5 +146,6 @@ stmt_row (Stmt-F.Class n supers body) = class n (map expr supers) body
 abbrev pub stmt : Stmt → StmtVisit
 stmt = fold-Stmt StmtVisit StmtVisit stmt_row arm_row
 
+-- whole arms
 abbrev pub arm : Arm → StmtVisit
 arm = fold-Arm StmtVisit StmtVisit stmt_row arm_row

@@ -16,14 +16,17 @@ use Rattle.graph_nodes.specs.Graph.{Graph}
 abbrev pub Steps : Type 0 → Type 0
 Steps A = Graph → Option (A × Graph)
 
+-- what follows from a value, on the graph after it
 abbrev pub go_on : {A B : Type 0} → (A → Steps B) → Option (A × Graph) → Option (B × Graph)
 go_on f None = None
 go_on f (Some r) = f r.0 r.1
 
+-- first the one, and then what follows from its value
 infixl 10 ◌>>=◌
 abbrev pub ◌>>=◌ : {A B : Type 0} → Steps A → (A → Steps B) → Steps B
 p >>= f = λ g. go_on f (p g)
 
+-- first the one, and then the other
 infixl 10 ◌>>◌
 abbrev pub ◌>>◌ : {A B : Type 0} → Steps A → Steps B → Steps B
 p >> q = p >>= (λ _. q)
@@ -32,6 +35,7 @@ p >> q = p >>= (λ _. q)
 abbrev pub value : {A : Type 0} → A → Steps A
 value x = λ g. Some (x, g)
 
+-- no step, and no value
 abbrev pub nothing : Steps (Unit {0})
 nothing = value tt
 
@@ -86,13 +90,15 @@ abbrev pub ◌▸?◌ : ℕ → Option ℕ → Steps (Unit {0})
 u ▸? None = nothing
 u ▸? (Some v) = u ▸ v
 
--- `root > v`, `u > root` and `u > jump`
+-- `root > v`
 abbrev pub from_root : ℕ → Steps (Unit {0})
 from_root v = join place.Root (place.At v) 0
 
+-- `u > root`
 abbrev pub to_root : ℕ → Steps (Unit {0})
 to_root u = join (place.At u) place.Root 0
 
+-- `u > jump`
 abbrev pub to_jump : ℕ → Steps (Unit {0})
 to_jump u = join (place.At u) place.Jump 0
 

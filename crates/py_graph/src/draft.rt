@@ -186,6 +186,7 @@ impl Draft {
     }
 }
 
+/// One node more; the one error is want of memory, and then nothing changes.
 fn put_node(nodes: &mut Vec<Node>, node: Node) -> Result<(), AllocError>
     ensures ok { OnOk result (nodes.new.items ≡ nodes.old.items ++ node ∷ []) }
     ensures err { OnErr result (nodes.new.items ≡ nodes.old.items) }
@@ -207,6 +208,7 @@ fn put_two(nodes: &mut Vec<Node>, first: Node, second: Node) -> Result<(), Alloc
     Ok(())
 }
 
+/// One edge more; the one error is want of memory, and then nothing changes.
 fn put_edge(edges: &mut Vec<Edge>, edge: Edge) -> Result<(), AllocError>
     ensures err { OnErr result (edges.new.items ≡ edges.old.items) }
     ensures ok { OnOk result (edges.new.items ≡ edges.old.items ++ edge ∷ []) }
@@ -222,7 +224,11 @@ fn refused(fault: GraphFault) -> TransFault
 {
     match fault {
         GraphFault::NoMemory => TransFault::NoMemory,
-        _ => TransFault::BadName,
+        GraphFault::TooManyNodes(_)
+        | GraphFault::TooManyEdges(_)
+        | GraphFault::BadEnd(_)
+        | GraphFault::JumpSource(_)
+        | GraphFault::BadScope(_) => TransFault::BadName,
     }
 }
 

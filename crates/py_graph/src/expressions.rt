@@ -43,7 +43,7 @@ pub fn exprs(alloc: Global, draft: &mut Draft, l: u32, es: &Exprs) -> Result<Opt
     ensures grows { Grows draft.old draft.new }
     ensures inside { IfOk result (IsNodeIf draft.new) }
 {
-    match es.items.as_slice() {
+    match es.items.items() {
         [one] if !es.last_comma => expr(alloc, draft, l, one),
         items => parts(alloc, draft, l, items),
     }
@@ -75,7 +75,7 @@ pub fn expr(alloc: Global, draft: &mut Draft, l: u32, e: &Expr) -> Result<Option
     if e.rest.is_empty() {
         return Ok(v);
     }
-    operands(alloc, draft, l, e.rest.as_slice())
+    operands(alloc, draft, l, e.rest.items())
 }
 
 /// Further operands in text order, with no value.
@@ -115,7 +115,7 @@ fn primary(alloc: Global, draft: &mut Draft, l: u32, e: &Primary) -> Result<Opti
     ensures grows { Grows draft.old draft.new }
     ensures inside { IfOk result (IsNodeIf draft.new) }
 {
-    match e.posts.as_slice() {
+    match e.posts.items() {
         [] => atom(alloc, draft, l, &e.atom),
         [before @ .., last] => {
             let (n, t) = postfix(alloc, draft, l, last)?;
@@ -162,7 +162,7 @@ fn postfix(alloc: Global, draft: &mut Draft, l: u32, e: &Postfix) -> Result<(u32
 {
     match e {
         Postfix::Member(x) => member(alloc, draft, x),
-        Postfix::Call(es) => call(alloc, draft, l, es.as_slice()),
+        Postfix::Call(es) => call(alloc, draft, l, es.items()),
     }
 }
 
@@ -211,6 +211,7 @@ pub fn atom(alloc: Global, draft: &mut Draft, l: u32, e: &Atom) -> Result<Option
             exprs(alloc, draft, l, es)?;
             Ok(None)
         }
-        _ => Ok(None),
+        Atom::Round(None) | Atom::Square(None) => Ok(None),
+        Atom::Number | Atom::Text | Atom::TrueWord | Atom::FalseWord | Atom::NoneWord => Ok(None),
     }
 }

@@ -155,11 +155,13 @@ impl<'a> Frame<'a> {
         if !t.posts.is_empty() {
             return None;
         }
-        match (&t.atom, self.this) {
-            (Atom::Name(s), Some((name, attributes))) if s.text.as_str() == name => {
-                Some((s, attributes))
-            }
-            _ => None,
+        let Some((name, attributes)) = self.this else {
+            return None;
+        };
+        match &t.atom {
+            Atom::Name(s) if s.text.as_str() == name => Some((s, attributes)),
+            Atom::Name(_) | Atom::Round(_) | Atom::Square(_) => None,
+            Atom::Number | Atom::Text | Atom::TrueWord | Atom::FalseWord | Atom::NoneWord => None,
         }
     }
 }
@@ -170,7 +172,7 @@ fn this_of<'a>(class: Option<(u32, u32)>, parameters: &'a [Word]) -> Option<(&'a
 {
     match (class, parameters) {
         (Some((_, attributes)), [first, ..]) => Some((first.text.as_str(), attributes)),
-        _ => None,
+        (Some(_), []) | (None, _) => None,
     }
 }
 

@@ -118,8 +118,8 @@ fn import_item(alloc: Global, draft: &mut Draft, c: &Frame, i: &ImportItem) -> R
     ensures grows { Grows draft.old draft.new }
 {
     match &i.alias {
-        Some(y) => import_as(alloc, draft, c, i.dotted.as_slice(), y),
-        None => import_name(alloc, draft, c, i.dotted.as_slice()),
+        Some(y) => import_as(alloc, draft, c, i.dotted.items(), y),
+        None => import_name(alloc, draft, c, i.dotted.items()),
     }
 }
 

@@ -62,7 +62,7 @@ fn assign_member(
     ensures grows { Grows draft.old draft.new }
 {
     let (_, k) = member(alloc, draft, x)?;
-    let going = onward(alloc, draft, c.looks(), k, t.posts.as_slice())?;
+    let going = onward(alloc, draft, c.looks(), k, t.posts.items())?;
     let v = atom(alloc, draft, c.looks(), &t.atom)?;
     draft.link_if(going, v)?;
     exprs(alloc, draft, c.looks(), e)?;

@@ -17,7 +17,7 @@ use crate::imports::{from_all, from_items, import_items};
 use crate::nodes::{definition, drops, pop_call, pop_dot, push_dot, scope};
 use crate::parameters::all_parameters;
 use crate::simple::{assign, evaluate, return_row};
-use py_subset::{Arm, Expr, Stmt, Word};
+use py_subset::{Arm, Expr, Exprs, Stmt, Word};
 use std::alloc::Global;
 
 /// The base classes of a class with these members, looked up where the class stands.
@@ -135,7 +135,7 @@ fn arms(alloc: Global, draft: &mut Draft, c: &Frame, arms: &[Arm]) -> Result<(),
 {
     for a in arms {
         expr(alloc, draft, c.looks(), &a.condition)?;
-        suite(alloc, draft, c, a.body.as_slice())?;
+        suite(alloc, draft, c, a.body.items())?;
     }
     Ok(())
 }
@@ -161,6 +161,24 @@ fn function(
     block(alloc, draft, &inside, body)
 }
 
+/// What a `for` does before its blocks: it binds its name, and visits its items.
+fn for_head(
+    alloc: Global,
+    draft: &mut Draft,
+    c: &Frame,
+    x: &Word,
+    items: &Exprs,
+) -> Result<(), Stop>
+    requires c { IsInside draft.old c.now }
+    ensures gives { Gives result draft.new (row.for_head x.now items.now c.now draft.old) }
+    ensures grows { Grows draft.old draft.new }
+{
+    let n = definition(alloc, draft, x)?;
+    draft.edge(c.binds(), n, c.rank())?;
+    exprs(alloc, draft, c.looks(), items)?;
+    Ok(())
+}
+
 /// A statement.
 #[tactic(auto, using(crate::proofs::Sound::standing))]
 #[cycle(stmts)]
@@ -170,9 +188,9 @@ fn stmt(alloc: Global, draft: &mut Draft, c: &Frame, s: &Stmt) -> Result<(), Sto
     ensures grows { Grows draft.old draft.new }
 {
     match s {
-        Stmt::Import(items) => import_items(alloc, draft, c, items.as_slice()),
-        Stmt::From(d, items) => from_items(alloc, draft, c, d.as_slice(), items.as_slice()),
-        Stmt::FromAll(d) => from_all(alloc, draft, c, d.as_slice()),
+        Stmt::Import(items) => import_items(alloc, draft, c, items.items()),
+        Stmt::From(d, items) => from_items(alloc, draft, c, d.items(), items.items()),
+        Stmt::FromAll(d) => from_all(alloc, draft, c, d.items()),
         Stmt::Assign(target, e) => assign(alloc, draft, c, target, e),
         Stmt::Evaluate(es) => evaluate(alloc, draft, c, es),
         Stmt::Return(e) => return_row(alloc, draft, c, e),
@@ -181,8 +199,8 @@ fn stmt(alloc: Global, draft: &mut Draft, c: &Frame, s: &Stmt) -> Result<(), Sto
             arms: parts,
             otherwise,
         } => {
-            arms(alloc, draft, c, parts.as_slice())?;
-            suite(alloc, draft, c, otherwise.as_slice())
+            arms(alloc, draft, c, parts.items())?;
+            suite(alloc, draft, c, otherwise.items())
         }
         Stmt::While {
             condition,
@@ -190,8 +208,8 @@ fn stmt(alloc: Global, draft: &mut Draft, c: &Frame, s: &Stmt) -> Result<(), Sto
             otherwise,
         } => {
             expr(alloc, draft, c.looks(), condition)?;
-            suite(alloc, draft, c, body.as_slice())?;
-            suite(alloc, draft, c, otherwise.as_slice())
+            suite(alloc, draft, c, body.items())?;
+            suite(alloc, draft, c, otherwise.items())
         }
         Stmt::For {
             name,
@@ -199,32 +217,18 @@ fn stmt(alloc: Global, draft: &mut Draft, c: &Frame, s: &Stmt) -> Result<(), Sto
             body,
             otherwise,
         } => {
-            let n = definition(alloc, draft, name)?;
-            draft.edge(c.binds(), n, c.rank())?;
-            exprs(alloc, draft, c.looks(), items)?;
-            suite(alloc, draft, c, body.as_slice())?;
-            suite(alloc, draft, c, otherwise.as_slice())
+            for_head(alloc, draft, c, name, items)?;
+            suite(alloc, draft, c, body.items())?;
+            suite(alloc, draft, c, otherwise.items())
         }
         Stmt::Def {
             name,
             parameters,
             body,
-        } => function(
-            alloc,
-            draft,
-            c,
-            name,
-            parameters.as_slice(),
-            body.as_slice(),
-        ),
-        Stmt::Class { name, bases, body } => class(
-            alloc,
-            draft,
-            c,
-            name,
-            body.as_slice(),
-            bases.as_slice(),
-        ),
+        } => function(alloc, draft, c, name, parameters.items(), body.items()),
+        Stmt::Class { name, bases, body } => {
+            class(alloc, draft, c, name, body.items(), bases.items())
+        }
     }
 }
 

@@ -1,7 +1,6 @@
 //! The whole: a module's graph, or its fault.
 
 ghost use Rattle.std.specs.Prelude.{[], map};
-ghost use Rattle.graph_nodes.specs.declared.graph.TheConstants.{MAX_EDGES};
 ghost use Rattle.py_graph.specs.Modules.{Translates, graph_of, limited, table, told, graph_of_named};
 ghost use Rattle.py_graph.specs.Inside.{Grows};
 ghost use Rattle.py_graph.specs.Gives.{Gives};
@@ -50,7 +49,7 @@ fn at_stem(alloc: Global, stem: &str, tree: &Module) -> Result<FileGraph, TransF
     if !are_names(parts) {
         return Err(TransFault::BadName);
     }
-    named(alloc, parts, tree.body.as_slice())
+    named(alloc, parts, tree.body.items())
 }
 
 /// The stack graph of a module at a path, by the table of `docs/PYTHON.md`. `BadName` comes exactly

@@ -8,13 +8,13 @@ use Rattle.py_subset.specs.declared.token.Token.{Token}
 use Rattle.py_subset.specs.declared.token.Mark.{Mark}
 use Rattle.py_subset.specs.declared.token.Mark.TheVariants as m
 use Rattle.py_subset.specs.declared.tree.Word.{Word}
-use Rattle.py_subset.specs.Marks.{same, marks, number}
+use Rattle.py_subset.specs.Marks.{same, number}
 use Rattle.py_subset.specs.Language.{Language, next, only}
 use Rattle.py_subset.specs.Language as rule
 use Rattle.py_subset.specs.Chosen.{chosen}
 use Rattle.py_subset.specs.Parsers.{Parser, Reply, rest, told, ◌>>=◌}
 use Rattle.py_subset.specs.Parsers as read
-use Rattle.py_subset.proofs.MarkNumbers.{same-is, at_number, number_small}
+use Rattle.py_subset.proofs.MarkNumbers.{marks, same-is, at_number, number_small}
 
 abbrev pub Test : Type 0
 Test = Mark → Bool

@@ -11,7 +11,8 @@ use Rattle.py_subset.specs.Layout.{tokens_of, end_line, Reads, ◌>>=◌}
 use Rattle.py_subset.specs.Grammar.{stmt, block}
 use Rattle.py_subset.specs.Parsers.{Reply}
 use Rattle.py_subset.specs.Statements.{module_of}
-use Rattle.py_subset.specs.Whole.{parse_of, whole, refusal}
+use Rattle.py_subset.specs.Whole.{parse_of, whole}
+use Rattle.py_subset.specs.Refusals.{refusal}
 use Rattle.py_subset.specs.FirstFault.{BeginsModule, IsFirstFault, TellsFirst}
 use Rattle.py_subset.proofs.CompleteGrammar.{f-module}
 use Rattle.py_subset.proofs.Near.{left, moved, Alike}
@@ -52,10 +53,10 @@ not_both body other t ts e =
 not_read : (us : List Token) (x : List Stmt × List Token) → refused us ≡ reply x → ⊥
 not_read us x e = cc
 
-abbrev told : PyFault → Result Module PyFault
+abbrev pub told : PyFault → Result Module PyFault
 told e = Err e
 
-fault_is : (a b : PyFault) → told a ≡ told b → a ≡ b
+pub fault_is : (a b : PyFault) → told a ≡ told b → a ≡ b
 fault_is a b e = cc
 
 module _ (end : ℕ) (ts : List Token) (why : PyFault) where
@@ -117,7 +118,7 @@ read_of : (end : ℕ) (r : Result (List Token) PyFault) (ts : List Token) → r 
 read_of end r ts e = rw e refl
 
 -- A fault of the grammar is the first one.
-first_fault : (text : List ℕ) (why : PyFault) → parse_of text ≡ Err why → (ts : List Token) → tokens_of text ≡ Ok ts → IsFirstFault (end_line text) ts why
+pub first_fault : (text : List ℕ) (why : PyFault) → parse_of text ≡ Err why → (ts : List Token) → tokens_of text ≡ Ok ts → IsFirstFault (end_line text) ts why
 unfolding parse_of
 first_fault text why e ts is = by_reading (end_line text) ts why (sym (read_of (end_line text) (tokens_of text) ts is) ∙ e)
 
@@ -131,7 +132,7 @@ tells_first (Err (fault.Unsupported n)) text h = first_fault text (fault.Unsuppo
 tells_first (Err (fault.Expected n)) text h = first_fault text (fault.Expected n) h
 tells_first (Err (fault.TooDeep n)) text h = first_fault text (fault.TooDeep n) h
 
-tokens_err : (end : ℕ) (r : Result (List Token) PyFault) (why : PyFault) → r ≡ Err why → (r >>= λ ts. whole end (module_of (length ts + 1) (length ts + 1) ts)) ≡ Err why
+pub tokens_err : (end : ℕ) (r : Result (List Token) PyFault) (why : PyFault) → r ≡ Err why → (r >>= λ ts. whole end (module_of (length ts + 1) (length ts + 1) ts)) ≡ Err why
 tokens_err end r why e = rw e refl
 
 -- A fault of the tokens is the answer.

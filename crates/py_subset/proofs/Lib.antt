@@ -1,3 +1,8 @@
+-- Which clause rests on which file. Functions of tokens: `lex::tokens` on Pieces, Cut and Prefix; those with loops over
+-- tokens on Turns; `mark::same` on MarkNumbers. Of `parse`: `derived` on Sound and SoundGrammar; `complete` on Complete
+-- and CompleteGrammar; `dotted` on DottedLemmas and DottedGrammar; `first` on Near, Viable, ViableLists, Ready,
+-- ReadyGrammar and FirstFault; `tokens` on FirstFault. Correct puts them together for `parse`, and has that of
+-- `one_module`; Texts has `read`, and the laws `texts_are_read_once` and `lookahead_reads_texts`.
 pub mod Prefix
 pub mod Pieces
 pub mod Cut
@@ -16,3 +21,4 @@ pub mod ViableLists
 pub mod Ready
 pub mod ReadyGrammar
 pub mod FirstFault
+pub mod Texts

@@ -1,9 +1,15 @@
 -- A mark is known by its number.
-use Rattle.std.proofs.Common.{◌≡◌, ℕ, true, get_or, ◌<◌, length, lit<, refl, ap, sym, ◌∙◌}
-use Rattle.std.proofs.lemmas.Bool.{eqb-true}
+use Rattle.std.proofs.Common.{◌≡◌, ℕ, Bool, true, false, get_or, ◌<◌, List, [], ◌∷◌, length, lit<, refl, ap, sym, ◌∙◌}
+use Rattle.std.proofs.lemmas.Bool.{eqb-true, eq-eqb}
+use denote.Enum.Bare.{sameb, same_true, true_same}
+use Rattle.py_subset.specs.contracts.token.Mark.{the_type}
 use Rattle.py_subset.specs.declared.token.Mark.{Mark}
 use Rattle.py_subset.specs.declared.token.Mark.TheVariants as m
-use Rattle.py_subset.specs.Marks.{number, marks, same}
+use Rattle.py_subset.specs.Marks.{number, same}
+
+-- all marks, each at its number
+abbrev pub marks : List Mark
+marks = m.Name ∷ m.Number ∷ m.Text ∷ m.Newline ∷ m.Indent ∷ m.Dedent ∷ m.End ∷ m.FalseWord ∷ m.NoneWord ∷ m.TrueWord ∷ m.And ∷ m.As ∷ m.Break ∷ m.Class ∷ m.Continue ∷ m.Def ∷ m.Elif ∷ m.Else ∷ m.For ∷ m.From ∷ m.If ∷ m.Import ∷ m.In ∷ m.Is ∷ m.Not ∷ m.Or ∷ m.Pass ∷ m.Return ∷ m.While ∷ m.Foreign ∷ m.OpenRound ∷ m.CloseRound ∷ m.OpenSquare ∷ m.CloseSquare ∷ m.OpenCurly ∷ m.CloseCurly ∷ m.Comma ∷ m.Colon ∷ m.Dot ∷ m.Assign ∷ m.Plus ∷ m.Minus ∷ m.Star ∷ m.Slash ∷ m.DoubleSlash ∷ m.Percent ∷ m.Power ∷ m.Ampersand ∷ m.Bar ∷ m.Caret ∷ m.Tilde ∷ m.ShiftLeft ∷ m.ShiftRight ∷ m.Less ∷ m.Greater ∷ m.LessEqual ∷ m.GreaterEqual ∷ m.EqualEqual ∷ m.NotEqual ∷ []
 
 pub at_number : (a : Mark) → get_or marks (number a) m.End ≡ a
 at_number m.Name = refl
@@ -69,6 +75,15 @@ at_number m.NotEqual = refl
 -- Marks with one number are one mark.
 pub same-is : (a b : Mark) → same a b ≡ true → a ≡ b
 same-is a b e = sym (at_number a) ∙ ap (λ (n : ℕ). get_or marks n m.End) (eqb-true (number a) (number b) e) ∙ at_number b
+
+alike : (p q : Bool) → (p ≡ true → q ≡ true) → (q ≡ true → p ≡ true) → p ≡ q
+alike true q f g = sym (f refl)
+alike false true f g = g refl
+alike false false f g = refl
+
+-- What `==` answers at marks is the test of their numbers.
+pub equal-same : (a b : Mark) → sameb the_type a b ≡ same a b
+equal-same a b = alike (sameb the_type a b) (same a b) (λ e. eq-eqb (number a) (number b) (ap number (same_true the_type tt a b e))) (λ e. true_same the_type a b (same-is a b e))
 
 pub number_small : (a : Mark) → number a < length marks
 number_small m.Name = lit< tt

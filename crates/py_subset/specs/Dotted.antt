@@ -18,6 +18,7 @@ has_name (w ∷ ws) = true
 abbrev pub items_dotted : List ImportItem → Bool
 items_dotted items = list_all (λ item. has_name item.dotted) items
 
+-- whether all answers are true
 abbrev pub all : List Bool → Bool
 all answers = list_all (λ b. b) answers
 
@@ -31,8 +32,14 @@ stmt_step (Stmt-F.While condition body otherwise) = all body && all otherwise
 stmt_step (Stmt-F.For word items body otherwise) = all body && all otherwise
 stmt_step (Stmt-F.Def word parameters body) = all body
 stmt_step (Stmt-F.Class word bases body) = all body
-stmt_step _ = true
+stmt_step (Stmt-F.Assign target value) = true
+stmt_step (Stmt-F.Evaluate value) = true
+stmt_step (Stmt-F.Return value) = true
+stmt_step Stmt-F.Pass = true
+stmt_step Stmt-F.Break = true
+stmt_step Stmt-F.Continue = true
 
+-- one arm
 abbrev pub arm_step : Arm-F Bool Bool → Bool
 arm_step arm = all arm.body
 
@@ -40,6 +47,7 @@ arm_step arm = all arm.body
 abbrev pub is_dotted : Stmt → Bool
 is_dotted = fold-Stmt Bool Bool stmt_step arm_step
 
+-- the same of an arm
 abbrev pub arm_dotted : Arm → Bool
 arm_dotted = fold-Arm Bool Bool stmt_step arm_step
 
@@ -47,6 +55,7 @@ arm_dotted = fold-Arm Bool Bool stmt_step arm_step
 abbrev pub are_dotted : List Stmt → Bool
 are_dotted body = list_all is_dotted body
 
+-- the same of several arms
 abbrev pub arms_dotted : List Arm → Bool
 arms_dotted arms = list_all arm_dotted arms
 

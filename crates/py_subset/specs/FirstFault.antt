@@ -6,7 +6,7 @@ use Rattle.py_subset.specs.declared.token.PyFault.TheVariants as fault
 use Rattle.py_subset.specs.declared.tree.Module.{Module}
 use Rattle.py_subset.specs.Layout.{tokens_of, end_line}
 use Rattle.py_subset.specs.Grammar.{Derives}
-use Rattle.py_subset.specs.Whole.{refusal}
+use Rattle.py_subset.specs.Refusals.{refusal}
 
 -- A module begins with these tokens.
 abbrev pub BeginsModule : List Token → Type 0

@@ -122,6 +122,7 @@ module _ (depth : ℕ) where
   abbrev pub simple_line : Language Stmt
   simple_line = simple ◃ m.Newline
 
+  -- expr
   abbrev pub condition : Language Expr
   condition = expr (exprs depth)
 

@@ -6,6 +6,7 @@ use Rattle.py_subset.specs.declared.token.Mark.TheVariants as m
 use Rattle.py_subset.specs.declared.tree.Word.{Word}
 use Rattle.py_subset.specs.Marks.{same}
 
+-- what a rule reads: tokens, a tree, and the tokens after it
 abbrev pub Language : Type 0 → Type 1
 Language A = List Token → A → List Token → Type 0
 
@@ -19,6 +20,7 @@ abbrev pub marked : {A : Type 0} → (Mark → Option A) → Language A
 marked f [] x us = ⊥
 marked f (t ∷ ts) x us = (f t.mark ≡ Some x) × (us ≡ ts)
 
+-- the one mark that stands for nothing more
 abbrev pub only : Mark → Mark → Option (Unit {0})
 only mark other = if same other mark then Some tt else None
 

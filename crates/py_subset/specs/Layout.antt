@@ -15,6 +15,7 @@ use Rattle.py_subset.specs.declared.reading.Reading.{Reading}
 use Rattle.py_subset.specs.declared.reading.Place.{Place}
 use Rattle.py_subset.specs.Pieces.{piece_at}
 
+-- first the one, and then what follows from its value; the first fault ends it
 infixl 10 ◌>>=◌
 abbrev pub ◌>>=◌ : {A B : Type 0} → Result A PyFault → (A → Result B PyFault) → Result B PyFault
 (Ok x) >>= f = f x
@@ -24,6 +25,7 @@ abbrev pub ◌>>=◌ : {A B : Type 0} → Result A PyFault → (A → Result B P
 abbrev pub token : Mark → ℕ → Token
 token mark line = record { mark = mark; word = record { text = []; line = line; from_column = 0; to_column = 0 } }
 
+-- a name where it stands, with its text
 abbrev pub name_token : List ℕ → Place → Token
 name_token text place = record { mark = m.Name; word = record { text = text; line = place.line; from_column = place.column; to_column = place.column + length text } }
 
@@ -31,6 +33,7 @@ name_token text place = record { mark = m.Name; word = record { text = text; lin
 abbrev pub most_open : ℕ
 most_open = 64
 
+-- the reading with a token more
 abbrev pub add : Token → Reading → Reading
 add t r = record r { tokens = r.tokens ++ t ∷ [] }
 
@@ -58,19 +61,23 @@ indented place r =
     else Ok (record r { tokens = r.tokens ++ token m.Indent place.line ∷ []; blocks = r.blocks ++ place.column ∷ []; fresh = false }))
     else Err (fault.BadIndent place.line))
 
+-- the first token of a line begins it
 abbrev pub begin : Place → Reading → Result Reading PyFault
 begin place r = if r.fresh then indented place r else Ok r
 
+-- the mark of an opening bracket
 abbrev pub open_mark : Bracket → Mark
 open_mark bracket.Round = m.OpenRound
 open_mark bracket.Square = m.OpenSquare
 open_mark bracket.Curly = m.OpenCurly
 
+-- the mark of a closing bracket
 abbrev pub close_mark : Bracket → Mark
 close_mark bracket.Round = m.CloseRound
 close_mark bracket.Square = m.CloseSquare
 close_mark bracket.Curly = m.CloseCurly
 
+-- whether two brackets are of one kind
 abbrev pub is_same : Bracket → Bracket → Bool
 is_same bracket.Round bracket.Round = true
 is_same bracket.Square bracket.Square = true
@@ -82,23 +89,29 @@ abbrev pub closes : Bracket → Option Bracket → Bool
 closes b None = false
 closes b (Some inner) = is_same inner b
 
+-- the fault that a flaw is, with its line
 abbrev pub fault_of : Flaw → ℕ → PyFault
 fault_of flaw.NotAscii line = fault.NotAscii line
 fault_of flaw.BadToken line = fault.BadToken line
 fault_of flaw.Unsupported line = fault.Unsupported line
 
+-- a name
 abbrev pub name : List ℕ → Place → Reading → Result Reading PyFault
 name bytes place r = begin place r >>= λ s. Ok (add (name_token bytes place) s)
 
+-- a token that is no name, string or bracket
 abbrev pub plain : Mark → Place → Reading → Result Reading PyFault
 plain mark place r = begin place r >>= λ s. Ok (add (token mark place.line) s)
 
+-- a string, in which no carriage return may stand
 abbrev pub text : Bool → Place → Reading → Result Reading PyFault
 text has_return place r = begin place r >>= λ s. if has_return then Err (fault.BadToken place.line) else Ok (add (token m.Text place.line) s)
 
+-- an opening bracket, unless one more is too many
 abbrev pub opened : Bracket → Place → Reading → Result Reading PyFault
 opened b place r = begin place r >>= λ s. if is_full s then Err (fault.TooDeep place.line) else Ok (add (token (open_mark b) place.line) (record s { brackets = s.brackets ++ b ∷ [] }))
 
+-- a closing bracket, which closes the innermost one
 abbrev pub closed : Bracket → Place → Reading → Result Reading PyFault
 closed b place r =
     if closes b (slice_get r.brackets (length r.brackets - 1))
@@ -119,7 +132,9 @@ counted (k.Text has_return) bytes place r = text has_return place r
 counted (k.Open b) bytes place r = opened b place r
 counted (k.Close b) bytes place r = closed b place r
 counted (k.Broken why) bytes place r = Err (fault_of why place.line)
-counted _ bytes place r = Ok r
+counted (k.Blanks tab) bytes place r = Ok r
+counted k.Comment bytes place r = Ok r
+counted k.LineEnd bytes place r = Ok r
 
 -- What a piece adds. No tab stands in the indentation of a line that counts.
 abbrev pub step : PieceKind → List ℕ → Place → Reading → Result Reading PyFault
@@ -140,6 +155,7 @@ pub record Placed : Type 0 where
   pub bytes : List ℕ
   pub place : Place
 
+-- the pieces in turn, and then the end of the text
 abbrev pub layout : ℕ → List Placed → Reading → Result (List Token) PyFault
 layout line [] r = finish line r
 layout line (p ∷ ps) r = step p.kind p.bytes p.place r >>= λ s. layout line ps s
@@ -166,7 +182,9 @@ start = record { tokens = []; blocks = []; brackets = []; fresh = true; tab = fa
 abbrev pub end_line : List ℕ → ℕ
 end_line bytes = count_by (λ b. b == 10) bytes
 
--- The tokens of a text, but for END, or its first fault.
+-- The tokens of a text, but for END, or its first fault. What a piece adds (`step`) depends on the blocks and brackets
+-- that are open where it stands, and on what stands before it on its line; so the rule of tokens is a fold over the
+-- pieces into which the text is cut, and is stated as one.
 abbrev pub tokens_of : List ℕ → Result (List Token) PyFault
 tokens_of bytes = layout (end_line bytes) (cut 0 (record { line = 0; column = 0 }) bytes) start
 

@@ -8,8 +8,10 @@ pub mod Dotted
 pub mod Parsers
 pub mod Parsing
 pub mod Statements
+pub mod Refusals
 pub mod Whole
 pub mod Chosen
 pub mod Grammar
 pub mod Correct
 pub mod FirstFault
+pub mod Texts

@@ -1,8 +1,9 @@
 -- Numbers of marks, by which two marks are told apart.
-use Rattle.std.specs.Prelude.{ℕ, Bool, ◌==◌, List, [], ◌∷◌}
+use Rattle.std.specs.Prelude.{ℕ, Bool, ◌==◌}
 use Rattle.py_subset.specs.declared.token.Mark.{Mark}
 use Rattle.py_subset.specs.declared.token.Mark.TheVariants as m
 
+-- the number of a mark
 abbrev pub number : Mark → ℕ
 number m.Name = 0
 number m.Number = 1
@@ -63,10 +64,6 @@ number m.LessEqual = 55
 number m.GreaterEqual = 56
 number m.EqualEqual = 57
 number m.NotEqual = 58
-
--- all marks, each at its number
-abbrev pub marks : List Mark
-marks = m.Name ∷ m.Number ∷ m.Text ∷ m.Newline ∷ m.Indent ∷ m.Dedent ∷ m.End ∷ m.FalseWord ∷ m.NoneWord ∷ m.TrueWord ∷ m.And ∷ m.As ∷ m.Break ∷ m.Class ∷ m.Continue ∷ m.Def ∷ m.Elif ∷ m.Else ∷ m.For ∷ m.From ∷ m.If ∷ m.Import ∷ m.In ∷ m.Is ∷ m.Not ∷ m.Or ∷ m.Pass ∷ m.Return ∷ m.While ∷ m.Foreign ∷ m.OpenRound ∷ m.CloseRound ∷ m.OpenSquare ∷ m.CloseSquare ∷ m.OpenCurly ∷ m.CloseCurly ∷ m.Comma ∷ m.Colon ∷ m.Dot ∷ m.Assign ∷ m.Plus ∷ m.Minus ∷ m.Star ∷ m.Slash ∷ m.DoubleSlash ∷ m.Percent ∷ m.Power ∷ m.Ampersand ∷ m.Bar ∷ m.Caret ∷ m.Tilde ∷ m.ShiftLeft ∷ m.ShiftRight ∷ m.Less ∷ m.Greater ∷ m.LessEqual ∷ m.GreaterEqual ∷ m.EqualEqual ∷ m.NotEqual ∷ []
 
 -- whether two marks are one
 abbrev pub same : Mark → Mark → Bool

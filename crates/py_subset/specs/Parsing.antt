@@ -32,51 +32,66 @@ begins_expr m.Plus = true
 begins_expr m.Tilde = true
 begins_expr _ = false
 
+-- whether a mark is this one
 abbrev pub is : Mark → Mark → Bool
 is mark other = same other mark
 
+-- the marks of signs before an operand
 abbrev pub begins_sign : Mark → Bool
 begins_sign mark = is_some (tree.sign_of mark)
 
+-- the marks with which an operator begins
 unfoldable pub begins_joined : Mark → Bool
 begins_joined mark = is_some (tree.op_of mark) || same mark m.Not || same mark m.Is
 
+-- the marks with which a member or a call begins
 unfoldable pub begins_postfix : Mark → Bool
 begins_postfix mark = same mark m.Dot || same mark m.OpenRound
 
 -- The number bounds the turns of each repetition.
 module _ (turns : ℕ) (inner : Parser Exprs) where
+  -- what stands in round brackets
   unfoldable pub in_round : Parser (Option Exprs)
   in_round = m.OpenRound ▹ (opt begins_expr inner ◃ m.CloseRound)
 
+  -- what stands in square brackets
   unfoldable pub in_square : Parser (Option Exprs)
   in_square = m.OpenSquare ▹ (opt begins_expr inner ◃ m.CloseSquare)
 
+  -- a name, what stands in brackets, or a constant
   unfoldable pub atom : Parser Atom
   atom = choice (is m.Name) (image a.Name name) (choice (is m.OpenRound) (image a.Round in_round)
       (choice (is m.OpenSquare) (image a.Square in_square) (marked tree.constant_of)))
 
+  -- a member or a call
   unfoldable pub postfix : Parser Postfix
   postfix = choice (is m.Dot) (image tree.member_of (m.Dot ▹ name)) (image tree.call_of in_round)
 
+  -- an atom with the members and calls after it
   unfoldable pub primary : Parser Primary
   primary = both tree.primary_of atom (star begins_postfix postfix turns)
 
+  -- a primary with the signs before it
   unfoldable pub operand : Parser Operand
   operand = both tree.operand_of (star begins_sign (marked tree.sign_of) turns) primary
 
+  -- `not in` and its operand
   unfoldable pub negated : Parser Joined
   negated = m.Not ▹ m.In ▹ image (tree.joined_of op.NotIn) operand
 
+  -- `is` or `is not`, and its operand
   unfoldable pub compared : Parser Joined
   compared = m.Is ▹ choice (is m.Not) (m.Not ▹ image (tree.joined_of op.IsNot) operand) (image (tree.joined_of op.Is) operand)
 
+  -- an operator and the operand after it
   unfoldable pub joined : Parser Joined
   joined = choice (is m.Not) negated (choice (is m.Is) compared (both tree.joined_of (marked tree.op_of) operand))
 
+  -- operands with operators between
   unfoldable pub expr : Parser Expr
   expr = both tree.expr_of operand (star begins_joined joined turns)
 
+  -- expressions with commas between
   unfoldable pub exprs_with : Parser Exprs
   exprs_with = image tree.exprs_of (several begins_expr expr turns)
 

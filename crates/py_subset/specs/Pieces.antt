@@ -16,6 +16,7 @@ use Rattle.py_subset.specs.declared.piece.Bracket.TheVariants as bracket
 abbrev pub is_blank : ℕ → Bool
 is_blank b = (b == 32) || (b == 9)
 
+-- an ASCII digit
 abbrev pub is_digit : ℕ → Bool
 is_digit b = nat_le 48 b && nat_le b 57
 
@@ -23,9 +24,11 @@ is_digit b = nat_le 48 b && nat_le b 57
 abbrev pub begins_name : ℕ → Bool
 begins_name b = (nat_le 97 b && nat_le b 122) || (nat_le 65 b && nat_le b 90) || (b == 95)
 
+-- what a name goes on with
 abbrev pub is_in_name : ℕ → Bool
 is_in_name b = begins_name b || is_digit b
 
+-- a quote of either kind
 abbrev pub is_quote : ℕ → Bool
 is_quote b = (b == 39) || (b == 34)
 
@@ -104,6 +107,7 @@ foreign_keyword name =
 abbrev pub keyword : List ℕ → Option Mark
 keyword name = option_or (short_keyword name) (option_or (long_keyword name) (foreign_keyword name))
 
+-- a piece of this kind and length
 abbrev pub of : PieceKind → ℕ → Piece
 of kind n = record { kind = kind; len = n }
 
@@ -111,6 +115,7 @@ of kind n = record { kind = kind; len = n }
 abbrev pub broken : Flaw → Piece
 broken why = of (k.Broken why) 1
 
+-- a token that is no name, string or bracket
 abbrev pub plain : Mark → ℕ → Piece
 plain mark n = of (k.Plain mark) n
 
@@ -121,6 +126,7 @@ doubled b c d single double equal =
     if c == b then (if d == 61 then plain m.Foreign 3 else plain double 2)
     else (if c == 61 then plain equal 2 else plain single 1)
 
+-- a sign that may go on with `=` alone
 abbrev pub assigned : ℕ → Mark → Piece
 assigned c single = if c == 61 then plain m.Foreign 2 else plain single 1
 
@@ -128,6 +134,7 @@ assigned c single = if c == 61 then plain m.Foreign 2 else plain single 1
 abbrev pub unknown : ℕ → Piece
 unknown b = if nat_le 128 b then broken flaw.NotAscii else (if b == 92 then broken flaw.Unsupported else broken flaw.BadToken)
 
+-- the bracket that this byte is
 abbrev pub bracket_at : ℕ → Option PieceKind
 bracket_at b =
     if b == 40 then Some (k.Open bracket.Round)
@@ -149,6 +156,7 @@ short_sign b c =
     else (if (b == 33) && (c == 61) then Some (plain m.NotEqual 2)
     else None)))))
 
+-- signs that assign where `=` is behind them
 abbrev pub assigning_sign : ℕ → ℕ → Option Piece
 assigning_sign b c =
     if b == 43 then Some (assigned c m.Plus)
@@ -161,6 +169,7 @@ assigning_sign b c =
     else (if b == 58 then Some (assigned c m.Colon)
     else None)))))))
 
+-- signs that may be doubled
 abbrev pub doubling_sign : ℕ → ℕ → ℕ → Option Piece
 doubling_sign b c d =
     if b == 42 then Some (doubled b c d m.Star m.Power m.Foreign)
@@ -169,6 +178,7 @@ doubling_sign b c d =
     else (if b == 60 then Some (doubled b c d m.Less m.ShiftLeft m.LessEqual)
     else None)))
 
+-- the longest sign that begins with these bytes, or which fault it is
 abbrev pub sign : ℕ → ℕ → ℕ → Piece
 sign b c d = unwrap_or (option_or (short_sign b c) (option_or (assigning_sign b c) (doubling_sign b c d))) (unknown b)
 
@@ -192,6 +202,7 @@ text_piece quote text =
 abbrev pub return_piece : ℕ → Piece
 return_piece c = if c == 10 then of k.LineEnd 2 else broken flaw.BadToken
 
+-- spaces and tabs
 abbrev pub blanks_piece : ℕ → List ℕ → Piece
 blanks_piece n text = of (k.Blanks (holds 9 (take n text))) n
 
@@ -213,6 +224,7 @@ piece_at text =
     else (if is_quote b then text_piece b text
     else other_piece b (slice_index text 1) (slice_index text 2)))))
 
+-- The piece is no name.
 abbrev pub IsNoName : PieceKind → Type 0
 IsNoName k.Name = ⊥
 IsNoName kind = Unit {0}

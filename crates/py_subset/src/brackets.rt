@@ -14,7 +14,9 @@ fn is_same(a: Bracket, b: Bracket) -> bool
         (Bracket::Round, Bracket::Round) => true,
         (Bracket::Square, Bracket::Square) => true,
         (Bracket::Curly, Bracket::Curly) => true,
-        _ => false,
+        (Bracket::Round, Bracket::Square | Bracket::Curly) => false,
+        (Bracket::Square, Bracket::Round | Bracket::Curly) => false,
+        (Bracket::Curly, Bracket::Round | Bracket::Square) => false,
     }
 }
 

@@ -1,3 +1,5 @@
+//! A vector that contracts see as a list.
+
 ghost use Rattle.std.specs.Prelude.{◌≡◌, [], ◌∷◌, ◌++◌, ◌-◌, length, take, slice_get, ◌↔◌, IsTrue, OnOk, OnErr};
 
 use std::alloc::{AllocError, Global};
@@ -21,7 +23,7 @@ impl<T> Model for Items<T> {
 }
 
 impl<T> Items<T> {
-    /// No elements.
+    /// No elements. It takes no memory.
     pub fn new(alloc: Global) -> Items<T>
         ensures { result ≡ [] }
     {
@@ -30,11 +32,25 @@ impl<T> Items<T> {
         }
     }
 
+    /// The elements of this vector, in its order. It takes no memory.
+    pub fn of(items: Vec<T>) -> Items<T>
+        ensures { result ≡ items.items }
+    {
+        Items { items }
+    }
+
     /// The elements in order.
-    pub fn as_slice(&self) -> &[T]
+    pub fn items(&self) -> &[T]
         ensures { result.now ≡ self.now }
     {
         self.items.as_slice()
+    }
+
+    /// The vector of the elements, in order.
+    pub fn into_items(self) -> Vec<T>
+        ensures { result.items ≡ self }
+    {
+        self.items
     }
 
     /// How many elements there are.
@@ -68,7 +84,7 @@ impl<T: Drop> Items<T> {
         self.items.truncate(len);
     }
 
-    /// Puts an element at the end. An `Err` changes nothing.
+    /// Puts an element at the end; the one error is want of memory, and then nothing changes.
     pub fn push(&mut self, item: T) -> Result<(), AllocError>
         ensures ok { OnOk result (self.new ≡ self.old ++ item ∷ []) }
         ensures err { OnErr result (self.new ≡ self.old) }

@@ -63,7 +63,7 @@ impl Reading {
     fn indent(&mut self, alloc: Global, place: Place) -> Result<(), PyFault>
         ensures { spec.Does result (spec.indented place self.old) self.new }
     {
-        let blocks = self.blocks.as_slice();
+        let blocks = self.blocks.items();
         let len = blocks.len();
         let n = kept(place.column, blocks);
         if innermost(&blocks[..n]) == place.column {
@@ -144,7 +144,7 @@ impl Reading {
     fn closed(&mut self, alloc: Global, b: Bracket, place: Place) -> Result<(), PyFault>
         ensures { spec.Does result (spec.closed b place self.old) self.new }
     {
-        let brackets = self.brackets.as_slice();
+        let brackets = self.brackets.items();
         let len = brackets.len();
         if !closes(b, brackets) {
             return Err(PyFault::BadToken(place.line));
@@ -190,7 +190,7 @@ impl Reading {
     }
 
     /// Takes the next piece, with its bytes and its place. After an `Err` the reading is over.
-    pub fn take(
+    pub(crate) fn take(
         &mut self,
         alloc: Global,
         kind: PieceKind,
@@ -211,13 +211,22 @@ impl Reading {
                 Ok(())
             }
             PieceKind::LineEnd => self.line_end(alloc, place),
-            _ if self.tab => Err(PyFault::Unsupported(place.line)),
-            _ => self.counted(alloc, kind, bytes, place),
+            PieceKind::Name
+            | PieceKind::Plain(_)
+            | PieceKind::Text(_)
+            | PieceKind::Open(_)
+            | PieceKind::Close(_)
+            | PieceKind::Broken(_) => {
+                if self.tab {
+                    return Err(PyFault::Unsupported(place.line));
+                }
+                self.counted(alloc, kind, bytes, place)
+            }
         }
     }
 
     /// Ends the reading, at the line of the text's end.
-    pub fn finish(&mut self, alloc: Global, line: u32) -> Result<(), PyFault>
+    pub(crate) fn finish(&mut self, alloc: Global, line: u32) -> Result<(), PyFault>
         ensures { spec.Does result (spec.finish line self.old) self.new.tokens }
     {
         if self.brackets.len() > 0 {

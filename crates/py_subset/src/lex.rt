@@ -11,6 +11,7 @@ use crate::token::PyFault;
 use crate::token_list::Tokens;
 use std::alloc::Global;
 
+/// Before the first line.
 fn start(alloc: Global) -> Reading
     ensures { result ≡ spec.start }
 {
@@ -23,6 +24,7 @@ fn start(alloc: Global) -> Reading
     }
 }
 
+/// The place after a piece of this kind and length.
 fn past(kind: PieceKind, len: u32, place: Place) -> Place
     requires room { place.line + place.column + len < 2 ^ 32 }
     requires some { 0 < len }
@@ -34,13 +36,21 @@ fn past(kind: PieceKind, len: u32, place: Place) -> Place
             line: place.line + 1,
             column: 0,
         },
-        _ => Place {
+        PieceKind::Blanks(_)
+        | PieceKind::Comment
+        | PieceKind::Name
+        | PieceKind::Plain(_)
+        | PieceKind::Text(_)
+        | PieceKind::Open(_)
+        | PieceKind::Close(_)
+        | PieceKind::Broken(_) => Place {
             line: place.line,
             column: place.column + len,
         },
     }
 }
 
+/// The text from an index on.
 fn rest_from(text: &[u8], at: usize) -> &[u8]
     requires { at ≤ length text.now }
     ensures { result.now ≡ drop at text.now }
@@ -48,6 +58,7 @@ fn rest_from(text: &[u8], at: usize) -> &[u8]
     &text[at..]
 }
 
+/// The first bytes of a text, this many.
 fn front(text: &[u8], len: usize) -> &[u8]
     requires { len ≤ length text.now }
     ensures { result.now ≡ take len text.now }

@@ -9,6 +9,7 @@ mod header;
 mod imports;
 mod items;
 mod keywords;
+mod laws;
 mod layout;
 mod lex;
 mod making;
@@ -26,7 +27,11 @@ mod tree;
 mod whole;
 
 pub use items::Items;
-pub use token::PyFault;
+pub use laws::{lookahead_reads_texts, texts_are_read_once};
+pub use piece::{Bracket, Flaw, Piece, PieceKind};
+pub use reading::{Place, Reading};
+pub use token::{Mark, PyFault, Token};
+pub use token_list::Tokens;
 pub use tree::{
     Arm, Atom, BinOp, Expr, Exprs, FromItem, ImportItem, Joined, Module, Operand, Postfix, Primary,
     PyText, Sign, Stmt, Target, Word,

@@ -17,7 +17,7 @@ pub fn token(alloc: Global, mark: Mark, line: u32) -> Token
     Token {
         mark,
         word: Word {
-            text: PyText::new(String::new(alloc)),
+            text: PyText::of(String::new(alloc)),
             line,
             from_column: 0,
             to_column: 0,
@@ -35,7 +35,7 @@ pub fn name_token(alloc: Global, name: &[u8], place: Place) -> Result<Token, All
     Ok(Token {
         mark: Mark::Name,
         word: Word {
-            text: PyText::new(String::from_utf8_lossy(alloc, name)?),
+            text: PyText::of(String::from_utf8_lossy(alloc, name)?),
             line: place.line,
             from_column: place.column,
             to_column: place.column + name.len() as u32,

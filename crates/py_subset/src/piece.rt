@@ -11,7 +11,7 @@ use crate::keywords::keyword;
 use crate::sign_pieces::{bracket_at, sign};
 use crate::token::Mark;
 
-/// A bracket.
+/// The kind of a bracket.
 #[derive(Clone, Copy, Debug, PartialEq, Eq)]
 pub enum Bracket {
     Round,
@@ -22,8 +22,11 @@ pub enum Bracket {
 /// Why no token begins at a place.
 #[derive(Clone, Copy, Debug, PartialEq, Eq)]
 pub enum Flaw {
+    /// A byte from 128 up.
     NotAscii,
+    /// A byte that begins no token, a string that isn't closed on its line, or a lone carriage return.
     BadToken,
+    /// A token of Python that is left out, such as a number with a fraction.
     Unsupported,
 }
 
@@ -32,22 +35,29 @@ pub enum Flaw {
 pub enum PieceKind {
     /// Spaces and tabs, and whether there is a tab.
     Blanks(bool),
+    /// From `#` up to the end of the line.
     Comment,
+    /// A newline, alone or after a carriage return.
     LineEnd,
+    /// A name that is no keyword.
     Name,
     /// A token other than a name, a string or a bracket.
     Plain(Mark),
     /// A string, and whether a carriage return is in it.
     Text(bool),
+    /// An opening bracket.
     Open(Bracket),
+    /// A closing bracket.
     Close(Bracket),
+    /// No token begins here.
     Broken(Flaw),
 }
 
-/// A piece, and how many bytes it takes.
+/// A piece of a text, and how many bytes it takes. Pieces are what definitions cut a text into.
 #[derive(Clone, Copy, Debug, PartialEq, Eq)]
 pub struct Piece {
     pub kind: PieceKind,
+    /// In bytes.
     pub len: usize,
 }
 

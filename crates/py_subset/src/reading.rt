@@ -17,9 +17,10 @@ pub struct Place {
     pub column: u32,
 }
 
-/// What has been read of a text.
+/// What has been read of a text: the tokens so far, and what the next line and bracket depend on.
 #[derive(Drop)]
 pub struct Reading {
+    /// The tokens so far.
     pub tokens: Tokens,
     /// The columns of the open blocks, the innermost last.
     pub blocks: Items<u32>,

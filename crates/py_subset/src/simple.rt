@@ -21,6 +21,7 @@ fn jump_of(mark: Mark) -> Option<Stmt>
         Mark::Pass => Some(Stmt::Pass),
         Mark::Break => Some(Stmt::Break),
         Mark::Continue => Some(Stmt::Continue),
+        // No other token is a statement.
         _ => None,
     }
 }
@@ -36,7 +37,8 @@ fn primary_target(primary: Primary) -> Option<Target>
         Some(Postfix::Call(_)) => None,
         None => match atom {
             Atom::Name(word) => Some(Target::Name(word)),
-            _ => None,
+            Atom::Number | Atom::Text | Atom::TrueWord | Atom::FalseWord | Atom::NoneWord => None,
+            Atom::Round(_) | Atom::Square(_) => None,
         },
     }
 }

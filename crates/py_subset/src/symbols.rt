@@ -30,6 +30,7 @@ pub fn begins_expr(mark: Mark) -> bool
         | Mark::Minus
         | Mark::Plus
         | Mark::Tilde => true,
+        // An expression begins with no other token.
         _ => false,
     }
 }
@@ -43,6 +44,7 @@ fn sign_of(mark: Mark) -> Option<Sign>
         Mark::Minus => Some(Sign::Minus),
         Mark::Plus => Some(Sign::Plus),
         Mark::Tilde => Some(Sign::Invert),
+        // No other token is a sign.
         _ => None,
     }
 }
@@ -73,6 +75,7 @@ fn op_of(mark: Mark) -> Option<BinOp>
         Mark::GreaterEqual => Some(BinOp::GreaterEqual),
         Mark::EqualEqual => Some(BinOp::Equal),
         Mark::NotEqual => Some(BinOp::NotEqual),
+        // No other token is an operator alone.
         _ => None,
     }
 }
@@ -87,6 +90,7 @@ fn constant_of(mark: Mark) -> Option<Atom>
         Mark::TrueWord => Some(Atom::TrueWord),
         Mark::FalseWord => Some(Atom::FalseWord),
         Mark::NoneWord => Some(Atom::NoneWord),
+        // No other token is an atom without a text.
         _ => None,
     }
 }

@@ -38,19 +38,27 @@ impl fmt::Display for PyFault {
     }
 }
 
-/// Which token it is.
+/// Which token it is, by its name: a class of words, a keyword or a sign.
 #[derive(Clone, Copy, Debug, PartialEq, Eq)]
 pub enum Mark {
+    /// A name that is no keyword.
     Name,
     Number,
+    /// A string.
     Text,
+    /// The end of a line that counts.
     Newline,
+    /// The begin of a block.
     Indent,
+    /// The end of a block.
     Dedent,
     /// The end of the text.
     End,
+    /// The word `False`.
     FalseWord,
+    /// The word `None`.
     NoneWord,
+    /// The word `True`.
     TrueWord,
     And,
     As,
@@ -104,10 +112,12 @@ pub enum Mark {
     NotEqual,
 }
 
-/// A token. The text and the columns are told for names alone.
+/// A token, of which definitions say what a text is made of. A word other than a name has its line alone:
+/// its text is empty and its columns are 0.
 #[derive(Debug, Drop)]
 pub struct Token {
     pub mark: Mark,
+    /// Where it stands, and a name's text.
     pub word: Word,
 }
 

@@ -49,10 +49,10 @@ impl Tokens {
     ghost use Rattle.py_subset.specs.Marks as marks;
     ghost use Rattle.py_subset.specs.Language as language;
     ghost use Rattle.py_subset.specs.Parsers as parsers;
-    ghost use Rattle.py_subset.specs.Whole as whole;
+    ghost use Rattle.py_subset.specs.Refusals as refusals;
 
     /// No tokens.
-    pub fn new(alloc: Global) -> Tokens
+    pub(crate) fn new(alloc: Global) -> Tokens
         ensures { result ≡ [] }
     {
         Tokens {
@@ -61,7 +61,7 @@ impl Tokens {
     }
 
     /// Puts a token at the end.
-    pub fn push(&mut self, token: Token) -> Result<(), AllocError>
+    pub(crate) fn push(&mut self, token: Token) -> Result<(), AllocError>
         ensures { OnOk result (self.new ≡ self.old ++ token ∷ []) }
     {
         self.left.push_back(token)?;
@@ -69,15 +69,15 @@ impl Tokens {
     }
 
     /// How many tokens there are.
-    pub fn len(&self) -> usize
+    pub(crate) fn len(&self) -> usize
         ensures { result ≡ length self.now }
     {
         self.left.len()
     }
 
     /// The line of the next token, or this one where there is none.
-    pub fn line_or(&self, end: u32) -> u32
-        ensures { result ≡ whole.line_or end self.now }
+    pub(crate) fn line_or(&self, end: u32) -> u32
+        ensures { result ≡ refusals.line_or end self.now }
     {
         match self.left.front() {
             Some(token) => token.word.line,
@@ -86,7 +86,7 @@ impl Tokens {
     }
 
     /// The mark of the next token.
-    pub fn peek(&self) -> Mark
+    pub(crate) fn peek(&self) -> Mark
         ensures { result ≡ language.next self.now }
     {
         match self.left.front() {
@@ -96,21 +96,21 @@ impl Tokens {
     }
 
     /// Whether the next token has this mark.
-    pub fn sees(&self, mark: Mark) -> bool
+    pub(crate) fn sees(&self, mark: Mark) -> bool
         ensures { result ≡ marks.same (language.next self.now) mark }
     {
         same(self.peek(), mark)
     }
 
     /// Passes over the next token.
-    pub fn pass(&mut self)
+    pub(crate) fn pass(&mut self)
         ensures { self.new ≡ parsers.rest self.old }
     {
         let _ = self.left.pop_front();
     }
 
     /// Takes a token with this mark.
-    pub fn take(&mut self, mark: Mark) -> Result<(), Stop>
+    pub(crate) fn take(&mut self, mark: Mark) -> Result<(), Stop>
         ensures { parsers.Gives result self.new (parsers.tok mark self.old) }
     {
         if self.sees(mark) {
@@ -122,7 +122,7 @@ impl Tokens {
     }
 
     /// Takes a name.
-    pub fn name(&mut self) -> Result<Word, Stop>
+    pub(crate) fn name(&mut self) -> Result<Word, Stop>
         ensures { parsers.Gives result self.new (parsers.name self.old) }
     {
         if !self.sees(Mark::Name) {

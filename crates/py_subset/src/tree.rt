@@ -25,8 +25,8 @@ impl Model for PyText {
 }
 
 impl PyText {
-    /// A text of these characters.
-    pub(crate) fn new(text: String) -> PyText
+    /// A text of these characters. It takes no memory.
+    pub fn of(text: String) -> PyText
         ensures { result ≡ string_bytes text }
     {
         PyText { text }

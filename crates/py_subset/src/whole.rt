@@ -6,6 +6,8 @@ ghost use Rattle.py_subset.specs.Layout.{Reads, tokens_of};
 ghost use Rattle.py_subset.specs.Correct.{IsModule};
 ghost use Rattle.py_subset.specs.Dotted.{HasDotted};
 ghost use Rattle.py_subset.specs.declared.tree.Module.{Module};
+ghost use Rattle.py_subset.specs.Refusals as refusals;
+ghost use Rattle.py_subset.specs.Texts.{Answers};
 ghost use Rattle.py_subset.specs.Whole as spec;
 
 use crate::block::module_body;
@@ -17,7 +19,7 @@ use std::alloc::Global;
 
 /// Whether a token that is refused stands for a form of Python that is left out.
 fn is_unsupported(mark: Mark) -> bool
-    ensures { result ≡ spec.is_unsupported mark }
+    ensures { result ≡ refusals.is_unsupported mark }
 {
     match mark {
         Mark::Foreign
@@ -30,13 +32,14 @@ fn is_unsupported(mark: Mark) -> bool
         | Mark::OpenSquare
         | Mark::OpenCurly
         | Mark::Dot => true,
+        // Any other token is one that is expected elsewhere.
         _ => false,
     }
 }
 
 /// The fault at the next token, which is refused.
 fn refusal(end: u32, left: &Tokens) -> PyFault
-    ensures { result ≡ spec.refusal end left.now }
+    ensures { result ≡ refusals.refusal end left.now }
 {
     let line = left.line_or(end);
     if is_unsupported(left.peek()) {
@@ -46,6 +49,7 @@ fn refusal(end: u32, left: &Tokens) -> PyFault
     }
 }
 
+/// The module or the first fault, by the reading with one token of lookahead.
 #[tactic(auto, unfolding(crate::specs::Whole::parse_of))]
 fn read(alloc: Global, text: &[u8]) -> Result<Module, PyFault>
     requires { length text.now < 2 ^ 32 }
@@ -66,9 +70,10 @@ fn read(alloc: Global, text: &[u8]) -> Result<Module, PyFault>
 /// by byte position, and where the text has none, the fault at the first token such that no module begins
 /// with the tokens up to and including it. `NoMemory` comes where memory runs out, and may come on any
 /// text. Time and memory are linear in the text.
-#[tactic(auto, using(crate::proofs::Correct::whole_texts))]
+#[tactic(auto, using(crate::proofs::Correct::whole_texts, crate::proofs::Texts::read_texts))]
 pub fn parse(alloc: Global, text: &[u8]) -> Result<Module, PyFault>
     requires { length text.now < 2 ^ 32 }
+    ensures read { Answers text.now result }
     ensures exact { Reads result (spec.parse_of text.now) }
     ensures derived { IfOk result (IsModule text.now) }
     ensures dotted { IfOk result HasDotted }

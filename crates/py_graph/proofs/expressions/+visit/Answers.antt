@@ -3,4 +3,4 @@ use Rattle.py_graph.proofs.expressions.+visit.Goals as goal
 
 -- With an operator there are two operands or more.
 pub expr-returns-clause-gives : goal.expr-returns-clause-gives
-expr-returns-clause-gives t c = expr-more c.args.e.now c.args.l c.args.draft.now c.operand.new.draft c.operands.new.draft c.in_ok-v.v c.as_slice.result.now c.operands.result c.as_slice.ensures (λ h. cc (c.if-is_empty.ensures.1 h)) (c.in_ok-v.ensures.gives) c.operands.ensures.gives
+expr-returns-clause-gives t c = expr-more c.args.e.now c.args.l c.args.draft.now c.operand.new.draft c.operands.new.draft c.in_ok-v.v c.items.result.now c.operands.result c.items.ensures (λ h. cc (c.if-is_empty.ensures.1 h)) (c.in_ok-v.ensures.gives) c.operands.ensures.gives
