@@ -5,3 +5,4 @@ pub mod Once
 pub mod Faults
 pub mod Adding
 pub mod Places
+pub mod Graphs

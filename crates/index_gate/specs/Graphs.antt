@@ -1,5 +1,5 @@
 -- The graph of a document, or why it has none. What a document's paths weigh plays no part here.
-use Rattle.std.specs.Prelude.{codes, ℕ, eqb, nat_lt, if◌then◌else◌, List, length, Option, None, Some, Result, Ok, Err}
+use Rattle.std.specs.Prelude.{◌≡◌, ◌↔◌, MatchBool, codes, ℕ, eqb, nat_lt, if◌then◌else◌, List, length, Option, None, Some, Result, Ok, Err}
 use Rattle.std.specs.List.{ends_with}
 use Rattle.graph_nodes.specs.Graph.{Graph}
 use Rattle.graph_nodes.specs.declared.node.Node.{Node}
@@ -7,6 +7,7 @@ use Rattle.graph_nodes.specs.declared.node.Edge.{Edge}
 use Rattle.graph_json.specs.Reading.{graph_from}
 use Rattle.graph_json.specs.declared.fault.GraphTextFault.{GraphTextFault}
 use Rattle.py_subset.specs.Whole.{parse_of}
+use Rattle.py_subset.specs.Texts.{IsRead}
 use Rattle.py_subset.specs.declared.token.PyFault.{PyFault}
 use Rattle.py_subset.specs.declared.tree.Module.{Module}
 use Rattle.py_graph.specs.Modules.{graph_of}
@@ -54,3 +55,25 @@ graph_told (Some kind) doc =
 -- the graph of a document: its kind is looked at first, then its size, then its bytes
 abbrev pub graph_of_doc : Doc → Result Graph FileFault
 graph_of_doc doc = graph_told (kind_of doc.path) doc
+
+-- The same as a relation, which says of a module what it is by the grammar and the rule of the first fault alone.
+
+-- the bytes of a document of this kind are that graph, or have that fault
+unfoldable pub HasGraphOfKind : DocumentKind → Doc → Result Graph FileFault → Type 0
+HasGraphOfKind GraphFile doc r = r ≡ from_text (graph_from doc.bytes)
+HasGraphOfKind PythonModule doc r =
+    (m : Result Module PyFault) × IsRead doc.bytes m × (r ≡ from_module doc.path m)
+
+-- a document whose path tells this kind
+abbrev pub HasGraphTold : Option DocumentKind → Doc → Result Graph FileFault → Type 0
+HasGraphTold None doc r = r ≡ Err UnknownKind
+HasGraphTold (Some kind) doc r =
+    MatchBool (nat_lt max_bytes (length doc.bytes)) (r ≡ Err (TooLarge (length doc.bytes))) (HasGraphOfKind kind doc r)
+
+-- a document has this graph, or this first fault
+abbrev pub HasGraph : Doc → Result Graph FileFault → Type 0
+HasGraph doc r = HasGraphTold (kind_of doc.path) doc r
+
+-- a document has one graph or one first fault, and the function above gives it
+abbrev pub DocumentsHaveOneGraph : Type 0
+DocumentsHaveOneGraph = (doc : Doc) (r : Result Graph FileFault) → HasGraph doc r ↔ (graph_of_doc doc ≡ r)

@@ -1,7 +1,10 @@
 ghost use Rattle.std.specs.Prelude.{◌≡◌, ◌++◌, List, []};
 ghost use Rattle.path_store.specs.Documents.{Doc};
 ghost use Rattle.index_gate.specs.declared.fault.FileFault.{FileFault};
+ghost use Rattle.index_gate.specs.Graphs.{DocumentsHaveOneGraph};
 ghost use Rattle.index_gate.specs.Indexed.{HasFault, HasNoFault, missing};
+
+use py_subset::lookahead_reads_texts;
 
 #[tactic(auto, using(crate::proofs::Once::added_held))]
 /// A law of documents that are missing: when they have been added, none of them is missing any more.
@@ -15,3 +18,11 @@ pub fn a_document_has_one_fault()
     ensures one { (doc : Doc) (a b : FileFault) → HasFault doc a → HasFault doc b → a ≡ b }
     ensures none { (doc : Doc) (a : FileFault) → HasFault doc a → HasNoFault doc → ⊥ }
 {}
+
+/// A law of documents: the graph of a document, or its first fault, is the one that the formats, the grammar
+/// of Python and the rule of the first fault say.
+pub fn a_document_has_one_graph()
+    ensures { DocumentsHaveOneGraph }
+{
+    lookahead_reads_texts();
+}

@@ -10,7 +10,7 @@ mod reading;
 pub use fault::{FileFault, IndexFault, MAX_BYTES, ReadFault};
 pub use indexing::index_all;
 pub use kind::DocumentKind;
-pub use laws::{a_document_has_one_fault, added_documents_are_held};
+pub use laws::{a_document_has_one_fault, a_document_has_one_graph, added_documents_are_held};
 pub use reading::read_document;
 
 #[cfg(test)]
