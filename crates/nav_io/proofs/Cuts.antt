@@ -1,6 +1,6 @@
 -- How a text that grows or shrinks is cut into lines.
-use Rattle.std.proofs.Common.{◌≡◌, ℕ, ◌+◌, ◌-◌, ◌<◌, ◌≤◌, List, ◌++◌, length, take, drop, refl, sym, ap, ◌∙◌, arith, length-drop, length-append, Option, Some, None, Bool, true, false, cond, not, append_assoc, ◌⊎◌, inl, inr}
-use Rattle.std.proofs.lemmas.List.{take_all}
+use Rattle.std.proofs.Common.{◌≡◌, ℕ, ◌+◌, ◌-◌, ◌<◌, ◌≤◌, List, ◌++◌, length, take, drop, refl, sym, ap, ◌∙◌, arith, length-drop, length-append, Option, Some, None, Bool, true, false, cond, not, append_assoc, ◌⊎◌, inl, inr, [], ◌∷◌, zero, suc}
+use Rattle.std.proofs.lemmas.List.{take_all, drop-drop}
 use Rattle.std.proofs.lemmas.List.Sums.{prefix_len-le-length}
 use Rattle.std.proofs.lemmas.List.Folds.{prefix_len-append}
 use Rattle.std.proofs.lemmas.Bool.{ltb-true, ltb-false, eq-eqb, eqb-true, false_from_ne_true, cases_lt}
@@ -87,3 +87,36 @@ pub prepend_known-moved : (xs ys zs : List ℕ) (old new : Option (List ℕ)) �
     prepend_known zs new ≡ prepend_known xs old
 prepend_known-moved xs ys zs old new e moved =
     ap (λ bytes. prepend_known bytes new) e ∙ prepend_known-append xs ys new ∙ ap (λ known. prepend_known xs known) (sym moved)
+
+line_len-drop_by : (k x : ℕ) (xs : List ℕ) (t : Bool) → is_newline x ≡ t →
+    (k ≤ line_len xs → line_len xs ≡ k + line_len (drop k xs)) → suc k ≤ line_len (x ∷ xs) →
+    line_len (x ∷ xs) ≡ suc k + line_len (drop k xs)
+line_len-drop_by k x xs true e more h =
+    let none : line_len (x ∷ xs) ≡ 0 = ap (λ t. cond (not t) (1 + line_len xs) 0) e in
+    absurd (omega (arith, h, none))
+line_len-drop_by k x xs false e more h =
+    let one : line_len (x ∷ xs) ≡ 1 + line_len xs = ap (λ t. cond (not t) (1 + line_len xs) 0) e in
+    let rest = more (omega (arith, h, one)) in
+    omega (arith, one, rest)
+
+-- bytes of the first line may be left out of the search for its end
+pub line_len-drop : (k : ℕ) (xs : List ℕ) → k ≤ line_len xs → line_len xs ≡ k + line_len (drop k xs)
+line_len-drop zero xs h = omega arith
+line_len-drop (suc k) [] h = absurd (omega (arith, h))
+line_len-drop (suc k) (x ∷ xs) h = line_len-drop_by k x xs (is_newline x) refl (line_len-drop k xs) h
+
+-- the end of the first line from a place on, where the search began behind some of its bytes
+pub line_len-searched : (searched from n : ℕ) (xs : List ℕ) → searched ≤ line_len (drop from xs) →
+    line_len (drop (from + searched) xs) ≡ n → line_len (drop from xs) ≡ searched + n
+line_len-searched searched from n xs h e =
+    let far = line_len-drop searched (drop from xs) h in
+    let same : line_len (drop searched (drop from xs)) ≡ line_len (drop (from + searched) xs) = ap line_len (drop-drop searched from xs) in
+    omega (arith, far, same, e)
+
+-- the search may begin there
+pub searched-within : (searched from : ℕ) (xs : List ℕ) → from ≤ length xs → searched ≤ line_len (drop from xs) → from + searched ≤ length xs
+searched-within searched from xs within h = omega (arith, h, line_len-drop-le from xs within)
+
+-- bytes that come behind make no line shorter
+pub searched-grows : (searched : ℕ) (old more new : List ℕ) → searched ≤ line_len old → new ≡ old ++ more → searched ≤ line_len new
+searched-grows searched old more new h e = rw e (omega (arith, h, line_len-append-le old more))

@@ -3,3 +3,4 @@ pub mod Cuts
 pub mod CutLaws
 pub mod ReadingLaws
 pub mod CallerLemmas
+pub mod FrontLaws

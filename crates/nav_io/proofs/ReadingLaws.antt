@@ -7,8 +7,7 @@ use Rattle.std.specs.Option.{IfSome, option_map, option_to_list}
 use Rattle.std.specs.Io.KnownBytes.{prepend_known, IsAtEnd}
 use Rattle.nav_io.specs.declared.lines.LineError.{LineError}
 use Rattle.nav_io.specs.declared.lines.LineError.TheVariants.{ReadFault, TooLong}
-use Rattle.nav_io.specs.declared.lines.TheConstants.{LINE_MAX}
-use Rattle.nav_io.specs.Lines.{line_len, after_line, line_at_front, lines}
+use Rattle.nav_io.specs.Lines.{line_max, line_len, after_line, line_at_front, lines}
 use Rattle.nav_io.specs.Reading.{Reading, ahead, AfterLine, AfterError}
 use Rattle.nav_io.proofs.Cuts.{line_len-le, line_len-append-le}
 use Rattle.nav_io.proofs.CutLaws.{line_at_front-append, after_line-append, lines-cut, first_line-newline-after_line}
@@ -91,7 +90,7 @@ none_of : (front rest : List ℕ) (ended : Bool) (line : Option (List ℕ)) → 
 none_of [] rest ended line end is after nothing = (after, end refl)
 none_of (byte ∷ more) rest ended line end is after nothing = absurd (none-some _ (sym nothing ∙ is))
 
-at_end_of : (old mid : Reading) (left left' : Option (List ℕ)) → Finds old mid left left' →
+pub at_end_of : (old mid : Reading) (left left' : Option (List ℕ)) → Finds old mid left left' →
     (IsTrue old.ended → IsAtEnd left) → IsTrue mid.ended → IsAtEnd left'
 at_end_of old mid left left' found before now = elim (found.at_end now) [
   | inl e ↦ rw (found.past_end e).1 (before e)
@@ -109,7 +108,7 @@ after_line_of old mid rest left left' line found end is after = record {
 }
 
 pub after_error_of : (old mid : Reading) (left left' : Option (List ℕ)) (error : LineError) → Finds old mid left left' → mid.ended ≡ old.ended →
-    (error ≡ ReadFault → (old.ended ≡ false) × (line_len mid.front ≡ length mid.front)) → (error ≡ TooLong → LINE_MAX < line_len mid.front) →
+    (error ≡ ReadFault → (old.ended ≡ false) × (line_len mid.front ≡ length mid.front)) → (error ≡ TooLong → line_max < line_len mid.front) →
     AfterError old mid left left' error
 after_error_of old mid left left' error found same fault long = record {
   kept = found.kept;

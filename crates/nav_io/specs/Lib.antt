@@ -7,3 +7,4 @@ pub mod Mem
 pub mod Lending
 pub mod Doors
 pub mod Reading
+pub mod Over

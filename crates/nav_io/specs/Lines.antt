@@ -2,6 +2,10 @@
 use Rattle.std.specs.Prelude.{◌≡◌, ℕ, ◌-◌, Bool, ◌==◌, List, [], ◌∷◌, ◌++◌, length, take, Option, None, Some}
 use Rattle.std.specs.List.{slice_split, position_or_len, before_first, after_first}
 
+-- the most bytes that a line may have, its newline not counted
+abbrev pub line_max : ℕ
+line_max = 8388608
+
 -- the byte 10 ends a line
 abbrev pub is_newline : ℕ → Bool
 is_newline byte = byte == 10

@@ -1,11 +1,10 @@
 -- What is seen of a line reader, and what a call of it says of the text ahead.
-use Rattle.std.specs.Prelude.{◌≡◌, ℕ, ◌<◌, ◌⊎◌, Bool, false, IsTrue, if◌then◌else◌, List, [], ◌∷◌, ◌++◌, length, Option, None, IfSome}
+use Rattle.std.specs.Prelude.{◌≡◌, ℕ, ◌<◌, ◌⊎◌, Bool, ◌||◌, false, IsTrue, if◌then◌else◌, nat_lt, nat_le, List, [], ◌∷◌, ◌++◌, length, take, drop, Option, None, Some, IfSome, MatchOption}
 use Rattle.std.specs.Option.{option_map}
 use Rattle.std.specs.Io.KnownBytes.{prepend_known, IsAtEnd}
 use Rattle.nav_io.specs.declared.lines.LineError.{LineError}
 use Rattle.nav_io.specs.declared.lines.LineError.TheVariants.{ReadFault, TooLong}
-use Rattle.nav_io.specs.declared.lines.TheConstants.{LINE_MAX}
-use Rattle.nav_io.specs.Lines.{line_len, after_line}
+use Rattle.nav_io.specs.Lines.{line_max, line_len, line_at_front, after_line}
 
 -- A line reader: the bytes that it took and hasn't answered yet, and whether it met the end of input.
 pub record Reading : Type 0 where
@@ -36,4 +35,48 @@ pub record AfterError (old new : Reading) (left left' : Option (List ℕ)) (erro
   pub at_end : (IsTrue old.ended → IsAtEnd left) → IsTrue new.ended → IsAtEnd left'
   -- a fault comes only where no line is in front and the end wasn't met
   pub fault : error ≡ ReadFault → (line_len new.front ≡ length new.front) × (new.ended ≡ false)
-  pub too_long : error ≡ TooLong → LINE_MAX < line_len new.front
+  pub too_long : error ≡ TooLong → line_max < line_len new.front
+
+-- the first line in front is whole: a newline ends it, or the end was met
+abbrev pub is_whole : Reading → Bool
+is_whole reader = reader.ended || nat_lt (line_len reader.front) (length reader.front)
+
+-- the first line in front, if it is whole; at the end of input there is none
+abbrev pub whole_line : Reading → Option (List ℕ)
+whole_line reader = if is_whole reader then line_at_front reader.front else None
+
+-- the reader without the whole line in front, if there is one
+abbrev pub past_whole_line : Reading → Reading
+past_whole_line reader = record reader { front = if is_whole reader then after_line reader.front else reader.front }
+
+-- the first n bytes of a text, or nothing where it has fewer
+abbrev pub bytes_at_front : ℕ → List ℕ → Option (List ℕ)
+bytes_at_front n text = if nat_le n (length text) then Some (take n text) else None
+
+-- n bytes are in front, or no more will come
+abbrev pub has_bytes : ℕ → Reading → Bool
+has_bytes n reader = reader.ended || nat_le n (length reader.front)
+
+-- the bytes, or none
+abbrev pub bytes_or_none : Option (List ℕ) → List ℕ
+bytes_or_none None = []
+bytes_or_none (Some bytes) = bytes
+
+-- After n bytes or at the end, where next are the bytes and left became left':
+pub record AfterBytes (n : ℕ) (old new : Reading) (left left' next : Option (List ℕ)) : Type 0 where
+  -- what stood behind the bytes is ahead, and all where there are none
+  pub rest : MatchOption next (ahead new left' ≡ ahead old left) (λ bytes. ahead new left' ≡ option_map (drop n) (ahead old left))
+  -- no byte is lost
+  pub kept : prepend_known (bytes_or_none next ++ new.front) left' ≡ prepend_known old.front left
+  -- without the bytes, fewer are in front and the end was met
+  pub none : next ≡ None → (length new.front < n) × IsTrue new.ended
+  pub at_end : (IsTrue old.ended → IsAtEnd left) → IsTrue new.ended → IsAtEnd left'
+
+-- After an error in place of n bytes, where left became left':
+pub record AfterBytesError (n : ℕ) (old new : Reading) (left left' : Option (List ℕ)) (error : LineError) : Type 0 where
+  -- no byte is lost
+  pub kept : prepend_known new.front left' ≡ prepend_known old.front left
+  pub same_end : new.ended ≡ old.ended
+  pub at_end : (IsTrue old.ended → IsAtEnd left) → IsTrue new.ended → IsAtEnd left'
+  -- a fault comes only where fewer are in front and the end wasn't met
+  pub fault : error ≡ ReadFault → (length new.front < n) × (new.ended ≡ false)

@@ -8,15 +8,17 @@ mod mem;
 mod sink;
 mod source;
 mod std_io;
+mod tcp;
 mod write;
 
 pub use gate::{Gate, Unguarded};
 pub use house::{Door, House, HouseFault};
-pub use lines::{LINE_MAX, LineError, LineReader, NoMemory};
+pub use lines::{LINE_MAX, LineError, LineReader, NoMemory, TooLong};
 pub use mem::{MemDoor, MemHouse, MemSink, MemSource};
 pub use sink::{Sink, SinkError};
 pub use source::{Failed, Source};
 pub use std_io::{StdSink, StdSource};
+pub use tcp::{TcpDoor, TcpHouse};
 pub use write::{WriteError, write_all};
 
 #[cfg(test)]

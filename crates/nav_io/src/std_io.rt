@@ -1,8 +1,13 @@
-//! Sources and sinks over std's readers and writers. They count faults and tell nothing of bytes.
-ghost use Rattle.std.specs.Prelude.{◌≡◌, None};
+//! Sources and sinks over std's readers and writers. They count faults, pass bytes on as they are, and tell
+//! nothing of them as a source or a sink, since a reader needn't tell either.
+ghost use Rattle.std.specs.Prelude.{◌≡◌, ◌<◌, ◌≤◌, None, length, take, IfOk, OnOk, OnErr, is_err};
+ghost use Rattle.std.specs.Io.KnownBytes.{ReadConsumes, Appends};
+ghost use Rattle.nav_io.specs.Faults.{HasRisen, counted};
+ghost use Rattle.nav_io.specs.Over.{Over};
 
 use crate::{Failed, Sink, SinkError, Source};
 use std::io::{Read, Write};
+use std::marker::Model;
 
 /// A source over a reader.
 #[derive(Drop)]
@@ -11,10 +16,16 @@ pub struct StdSource<R> {
     faults: u64,
 }
 
+impl<R> Model for StdSource<R> {
+    ghost Value = { Over R };
+
+    ghost view = { λ source. record { inner = source.reader; faults = source.faults } };
+}
+
 impl<R: Read> StdSource<R> {
     /// A source with no fault yet.
     pub fn new(reader: R) -> StdSource<R>
-        ensures { ⟦<StdSource<R> as Source>⟧.faults result ≡ 0 }
+        ensures { result ≡ record { inner = reader; faults = 0 } }
     {
         StdSource { reader, faults: 0 }
     }
@@ -25,7 +36,16 @@ impl<R: Read> Source for StdSource<R> {
 
     ghost faults = { λ source. source.faults };
 
-    fn read(&mut self, buf: &mut [u8]) -> Result<usize, Failed> {
+    fn read(&mut self, buf: &mut [u8]) -> Result<usize, Failed>
+        ensures bound { IfOk result (λ n. n ≤ length buf.new) }
+        ensures count { self.old.faults ≤ self.new.faults }
+        ensures cause { OnErr result (HasRisen self.old.faults self.new.faults) }
+
+        // What the reader gave is what is answered, and each of its errors is a fault.
+        ensures passed { ReadConsumes (R.remaining self.old.inner) (R.remaining self.new.inner) result buf.new }
+        ensures ok { OnOk result (self.new.faults ≡ self.old.faults) }
+        ensures err { OnErr result (self.new.faults ≡ counted self.old.faults) }
+    {
         match self.reader.read(buf) {
             Ok(n) => Ok(n),
             Err(_) => {
@@ -43,10 +63,16 @@ pub struct StdSink<W> {
     faults: u64,
 }
 
+impl<W> Model for StdSink<W> {
+    ghost Value = { Over W };
+
+    ghost view = { λ sink. record { inner = sink.writer; faults = sink.faults } };
+}
+
 impl<W: Write> StdSink<W> {
     /// A sink with no fault yet.
     pub fn new(writer: W) -> StdSink<W>
-        ensures { ⟦<StdSink<W> as Sink>⟧.faults result ≡ 0 }
+        ensures { result ≡ record { inner = writer; faults = 0 } }
     {
         StdSink { writer, faults: 0 }
     }
@@ -57,7 +83,19 @@ impl<W: Write> Sink for StdSink<W> {
 
     ghost faults = { λ sink. sink.faults };
 
-    fn write(&mut self, bytes: &[u8]) -> Result<usize, SinkError> {
+    fn write(&mut self, bytes: &[u8]) -> Result<usize, SinkError>
+        ensures bound { IfOk result (λ n. n ≤ length bytes.now) }
+        ensures some { IfOk result (λ n. 0 < length bytes.now → 0 < n) }
+        ensures count { self.old.faults ≤ self.new.faults }
+        ensures cause { result ≡ Err SinkError.Failed → HasRisen self.old.faults self.new.faults }
+
+        // What the writer took is what is answered; each of its errors, and a write that takes no byte of
+        // some, is a fault.
+        ensures passed { IfOk result (λ n.
+            Appends (W.contents self.old.inner) (W.contents self.new.inner) (take n bytes.now)) }
+        ensures ok { OnOk result (self.new.faults ≡ self.old.faults) }
+        ensures err { OnErr result (self.new.faults ≡ counted self.old.faults) }
+    {
         match self.writer.write(bytes) {
             Ok(n) if n > 0 || bytes.is_empty() => Ok(n),
             _ => {

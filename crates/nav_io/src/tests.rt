@@ -4,7 +4,8 @@ ghost use Rattle.std.specs.Prelude.{◌≡◌, None};
 use crate::*;
 use std::alloc::{AllocError, Global};
 use std::io;
-use std::io::{ErrorKind, Read};
+use std::io::{ErrorKind, Read, Write};
+use std::net::{Ipv4Addr, Net, OpenListener, TcpListener, TcpStream};
 use std::test::Fail;
 
 // What a line reader answers, as a text: each line and a bar, or a mark for the error.
@@ -61,6 +62,146 @@ fn lines_are_cut_across_reads(rt: HostRuntime) -> Result<(), Fail> {
             answers(alloc, &mut source)?.as_slice(),
             wanted,
             "at {text:?}, {piece}, {failing}"
+        );
+    }
+    Ok(())
+}
+
+// Pieces that are pushed, between slashes, where `¶` stands for a newline and `$` says that the input has
+// ended; and the lines that are whole after each.
+const PUSHED: &str = "ab/c¶d¶e/f/$ => //abc|d|//ef|
+¶¶/¶ => /||/|
+ab¶/$ => /ab|/
+ab¶¶/$ => /ab||/
+$ => /
+ab/$/cd => //ab|/cd|
+¶a/¶/b¶c/$ => /|/a|/b|/c|";
+
+// What the lines are that are whole after each piece: each with a bar, behind a slash for the piece.
+fn pushed(alloc: Global, pieces: &str) -> Result<Vec<u8>, Fail> {
+    let Ok(mut reader) = LineReader::new(alloc) else {
+        return Err(Fail::new("there is no reader"));
+    };
+    let mut told = Vec::new(alloc);
+    for piece in pieces.split('/') {
+        told.push(b'/')?;
+        if piece == "$" {
+            reader.end();
+        } else if reader
+            .push(piece.replace(alloc, '¶', "\n")?.as_bytes())
+            .is_err()
+        {
+            return Err(Fail::new("nothing can be pushed"));
+        }
+        whole_lines(&mut reader, &mut told)?;
+    }
+    Ok(told)
+}
+
+// Takes the lines that are whole, each with a bar.
+fn whole_lines(reader: &mut LineReader, told: &mut Vec<u8>) -> Result<(), AllocError> {
+    for _ in 0..100 {
+        match reader.whole_line() {
+            Ok(Some(line)) => told.extend_from_slice(line)?,
+            Ok(None) => return Ok(()),
+            Err(TooLong) => return told.push(b'>').map_err(AllocError::from),
+        }
+        told.push(b'|')?;
+    }
+    Ok(())
+}
+
+#[test]
+fn pushed_bytes_are_cut_into_lines(rt: HostRuntime) -> Result<(), Fail> {
+    for row in PUSHED.split('\n') {
+        let (pieces, wanted) = row.split_once(" => ").unwrap_or((row, "no arrow"));
+        assert_eq!(rt;
+            pushed(rt.alloc(), pieces)?.as_slice(),
+            wanted.as_bytes(),
+            "{row}"
+        );
+    }
+    Ok(())
+}
+
+// What a reader tells that so many bytes are pushed to.
+fn pushed_at_once(alloc: Global, bytes: usize) -> Result<Vec<u8>, Fail> {
+    let Ok(mut reader) = LineReader::new(alloc) else {
+        return Err(Fail::new("there is no reader"));
+    };
+    if reader
+        .push(vec![in alloc; b'a'; bytes]?.as_slice())
+        .is_err()
+    {
+        return Err(Fail::new("nothing can be pushed"));
+    }
+    let mut told = Vec::new(alloc);
+    whole_lines(&mut reader, &mut told)?;
+    Ok(told)
+}
+
+#[test]
+fn a_pushed_line_is_too_long_before_it_ends(rt: HostRuntime) -> Result<(), Fail> {
+    assert_eq!(rt;
+        pushed_at_once(rt.alloc(), LINE_MAX)?.as_slice(),
+        b"".as_slice()
+    );
+    assert_eq!(rt;
+        pushed_at_once(rt.alloc(), LINE_MAX + 1)?.as_slice(),
+        b">".as_slice()
+    );
+    Ok(())
+}
+
+// An input, in which `¶` stands for a newline, how many bytes a read gives, and what is asked for: a line
+// by `l`, so many bytes by a digit. And the answers: each with a bar, or a mark in place of one.
+const FRAMES: &str = "n:3¶abcn:2¶de 2 l3l2l => n:3|abc|n:2|de|.
+n:3¶abcn:2¶de 9 l3l2l => n:3|abc|n:2|de|.
+a¶bc 1 l3l => a|.bc|
+abc 2 0321 => |abc|..
+¶b 1 l1 => |b|
+abcd 2 2l => ab|cd|
+abcd 1 5l => .abcd|";
+
+// The answers of a reader: each with a bar, a dot at the end of input, or a mark for the error.
+fn framed(alloc: Global, row: &str) -> Result<Vec<u8>, Fail> {
+    let mut parts = row.split(' ');
+    let (Some(text), Some(piece), Some(asked)) = (parts.next(), parts.next(), parts.next()) else {
+        return Err(Fail::new("a row has three parts"));
+    };
+    let piece = piece.parse::<u32>().unwrap_or(1).max(1);
+    let text = text.replace(alloc, '¶', "\n")?;
+    let mut source = MemSource::new(text.as_bytes().to_vec(alloc)?, piece, Vec::new(alloc));
+    let Ok(mut reader) = LineReader::new(alloc) else {
+        return Err(Fail::new("there is no reader"));
+    };
+    let mut told = Vec::new(alloc);
+    for letter in asked.bytes() {
+        let answer = if letter == b'l' {
+            reader.next_line(&mut source)
+        } else {
+            reader.next_bytes(&mut source, letter.saturating_sub(b'0') as usize)
+        };
+        match answer {
+            Ok(Some(bytes)) => {
+                told.extend_from_slice(bytes)?;
+                told.push(b'|')?;
+            }
+            Ok(None) => told.push(b'.')?,
+            Err(error) => told.push(mark_of(error))?,
+        }
+    }
+    Ok(told)
+}
+
+#[test]
+fn lines_and_bytes_are_read_by_one_reader(rt: HostRuntime) -> Result<(), Fail> {
+    for row in FRAMES.split('\n') {
+        let (asked, wanted) = row.split_once(" => ").unwrap_or((row, "no arrow"));
+        assert_eq!(rt;
+            framed(rt.alloc(), asked)?.as_slice(),
+            wanted.as_bytes(),
+            "{row}"
         );
     }
     Ok(())
@@ -155,6 +296,104 @@ fn all_is_written_or_a_prefix(rt: HostRuntime) -> Result<(), Fail> {
     Ok(())
 }
 
+// A reader of bytes, which gives at most a thousand at a read and fails its call `failing`.
+#[derive(Drop)]
+struct Slow<'a> {
+    left: &'a [u8],
+    calls: u32,
+    failing: u32,
+}
+
+impl<'a> Read for Slow<'a> {
+    fn read(&mut self, buf: &mut [u8]) -> io::Result<usize> {
+        let call = self.calls;
+        self.calls = call.saturating_add(1);
+        if call == self.failing {
+            return Err(io::Error::from(ErrorKind::Other));
+        }
+        let n = buf.len().min(self.left.len()).min(1_000);
+        buf[..n].copy_from_slice(&self.left[..n]);
+        self.left = &self.left[n..];
+        Ok(n)
+    }
+}
+
+// A writer that takes at most a thousand bytes at a write, and no more than it has room for.
+#[derive(Drop)]
+struct Filled {
+    took: Vec<u8>,
+    room: usize,
+}
+
+impl Write for Filled {
+    fn write(&mut self, buf: &[u8]) -> io::Result<usize> {
+        let n = buf.len().min(self.room).min(1_000);
+        self.took.extend_from_slice(&buf[..n])?;
+        self.room -= n;
+        Ok(n)
+    }
+
+    fn flush(&mut self) -> io::Result<()> {
+        Ok(())
+    }
+}
+
+// So many bytes of all values, of which the last is 0.
+fn all_values(alloc: Global, count: u32) -> Result<Vec<u8>, AllocError> {
+    let mut bytes = Vec::new(alloc);
+    for i in 0..count {
+        bytes.push(((count - 1 - i) % 251) as u8)?;
+    }
+    Ok(bytes)
+}
+
+// How many bytes from the front came through a source over a reader as they were; nothing where it failed.
+fn read_well(alloc: Global, count: u32, failing: u32) -> Result<usize, Fail> {
+    let bytes = all_values(alloc, count)?;
+    let mut source = StdSource::new(Slow {
+        left: bytes.as_slice(),
+        calls: 0,
+        failing,
+    });
+    let Ok(mut reader) = LineReader::new(alloc) else {
+        return Err(Fail::new("there is no reader"));
+    };
+    match reader.next_bytes(&mut source, count as usize) {
+        Ok(Some(got)) if got == bytes.as_slice() => Ok(got.len()),
+        _ => Ok(0),
+    }
+}
+
+// How many bytes from the front a sink over a writer took as they were, and how its work ended.
+fn written_well(
+    alloc: Global,
+    count: u32,
+    room: usize,
+) -> Result<(usize, Result<(), WriteError>), Fail> {
+    let bytes = all_values(alloc, count)?;
+    let mut writer = Filled {
+        took: Vec::new(alloc),
+        room,
+    };
+    let ended = written(&mut StdSink::new(&mut writer), bytes.as_slice());
+    if bytes.starts_with(writer.took.as_slice()) {
+        Ok((writer.took.len(), ended))
+    } else {
+        Err(Fail::new("other bytes were written"))
+    }
+}
+
+#[test]
+fn long_texts_pass_through_short_reads_and_writes(rt: HostRuntime) -> Result<(), Fail> {
+    let alloc = rt.alloc();
+    assert_eq!(rt; read_well(alloc, 100_000, 9_999)?, 100_000);
+    assert_eq!(rt; read_well(alloc, 100_000, 70)?, 0);
+    assert_eq!(rt; written_well(alloc, 100_000, 200_000)?, (100_000, Ok(())));
+    let cut = (70_001, Err(WriteError::WriteFault));
+    assert_eq!(rt; written_well(alloc, 100_000, 70_001)?, cut);
+    Ok(())
+}
+
 // A reader that fails.
 #[derive(Drop)]
 struct Broken;
@@ -226,7 +465,7 @@ fn visit<D: Door>(door: &mut D, letter: u8) -> Result<bool, Failed> {
 
 // Opens so many doors and closes them.
 fn open<H: House>(alloc: Global, house: &mut H, count: u32) -> Result<usize, HouseFault> {
-    let doors = house.doors(alloc, 4000, count)?;
+    let doors = house.doors(alloc, 4_000, count)?;
     let given = doors.len();
     house.close(doors);
     Ok(given)
@@ -275,6 +514,55 @@ fn a_house_gives_doors_and_gets_them_back(rt: HostRuntime) -> Result<(), Fail> {
     assert_eq!(rt; house.into_doors().len(), 2);
     let mut broken = MemHouse::new(Vec::new(alloc), true);
     assert_eq!(rt; open(alloc, &mut broken, 0), Err(HouseFault::Failed));
+    Ok(())
+}
+
+// Sends the first line of the next connection back.
+fn echo<D: Door>(alloc: Global, door: &mut D) -> Result<bool, Fail> {
+    let Ok((mut source, mut sink)) = door.accept() else {
+        return Ok(false);
+    };
+    let sent = match LineReader::new(alloc) {
+        Ok(mut reader) => match reader.next_line(&mut source) {
+            Ok(Some(line)) => written(&mut sink, line).is_ok(),
+            _ => false,
+        },
+        Err(_) => false,
+    };
+    door.done(source, sink);
+    Ok(sent)
+}
+
+// What two connections get back that each send a line to the port; one mark where no doors are to be had.
+fn echoed<R: Net>(net: &R, alloc: Global, port: u16) -> Result<Vec<u8>, Fail> {
+    let mut told = Vec::new(alloc);
+    let mut house = TcpHouse::new(net);
+    let Ok(mut doors) = house.doors(alloc, port, 2) else {
+        told.push(b'!')?;
+        return Ok(told);
+    };
+    for line in [b"ab\n", b"cd\n"] {
+        let mut stream = TcpStream::connect(net, (Ipv4Addr::LOCALHOST, port))?;
+        stream.write_all(line)?;
+        if let Some(mut door) = doors.pop() {
+            echo(alloc, &mut door)?;
+        }
+        stream.read_to_end(&mut told)?;
+        told.push(b'|')?;
+    }
+    house.close(doors);
+    Ok(told)
+}
+
+#[test]
+fn a_house_over_sockets_serves_by_each_door(rt: HostRuntime) -> Result<(), Fail> {
+    let alloc = rt.alloc();
+    let other = TcpListener::bind(&rt, (Ipv4Addr::LOCALHOST, 0))?;
+    let port = other.local_addr()?.port();
+    // The port is in use, and then free.
+    assert_eq!(rt; echoed(&rt, alloc, port)?.as_slice(), b"!".as_slice());
+    drop(other);
+    assert_eq!(rt; echoed(&rt, alloc, port)?.as_slice(), b"ab|cd|".as_slice());
     Ok(())
 }
 

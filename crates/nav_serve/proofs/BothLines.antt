@@ -4,15 +4,14 @@ use Rattle.std.specs.Io.KnownBytes.{prepend_known}
 use Rattle.graph_nodes.specs.declared.node.Node.{Node}
 use Rattle.graph_nodes.specs.declared.node.Edge.{Edge}
 use Rattle.graph_nodes.specs.Graph.{Graph}
-use Rattle.nav_io.specs.declared.lines.TheConstants.{LINE_MAX}
 use Rattle.nav_io.specs.declared.lines.LineError.TheVariants.{ReadFault}
-use Rattle.nav_io.specs.Lines.{line_len, after_line, line_at_front}
+use Rattle.nav_io.specs.Lines.{line_max, line_len, after_line, line_at_front}
 use Rattle.nav_io.specs.Reading.{Reading, AfterError}
 use Rattle.nav_io.proofs.Cuts.{prepend_known-append}
 use Rattle.nav_proto.specs.declared.reply.Reply.{Reply}
-use Rattle.nav_serve.specs.declared.words.Command.TheVariants.{Once}
-use Rattle.nav_serve.specs.declared.stop.Stop.{Stop}
-use Rattle.nav_serve.specs.declared.stop.Stop.TheVariants.{SourceFailed, SinkFailed, NoMemory, LongLine}
+use Rattle.nav_serve.specs.declared.tasks.Task.TheVariants.{Once}
+use Rattle.nav_serve.specs.declared.halt.Halt.{Halt}
+use Rattle.nav_serve.specs.declared.halt.Halt.TheVariants.{SourceFailed, SinkFailed, NoMemory, LongLine}
 use Rattle.nav_serve.specs.Files.{graph_line}
 use Rattle.nav_serve.specs.Once.{once_path, IsOnceReply, AnswersRest, AnswersNode, node_line}
 use Rattle.nav_serve.specs.Reads.{ReadsLine, StopsAt}
@@ -54,7 +53,7 @@ no_graph : {A : Type 0} {reply : Reply} (parts : A) → Err reply ≡ Ok parts �
 no_graph parts e = cc
 
 -- the reading stopped at the second line
-pub stops_second : (mid new : Reading) (left left1 left2 next1 : Option (List ℕ)) (g : Graph) (reason : Stop)
+pub stops_second : (mid new : Reading) (left left1 left2 next1 : Option (List ℕ)) (g : Graph) (reason : Halt)
     → ReadsLine fresh mid left left1 next1 → graph_line once_path next1 ≡ Ok (parts g)
     → StopsAt mid new left1 left2 reason → StopsReading Once left left2 reason
 stops_second mid new left left1 left2 None g SourceFailed first is h = absurd (no_graph (parts g) is)
@@ -72,7 +71,7 @@ stops_second mid new None left1 left2 next1 g LongLine first is h = tt
 stops_second mid new (Some input) left1 left2 next1 g LongLine first is h =
     inr (
       (parts g, ap (graph_line once_path) (sym first.line) ∙ is),
-      subst (λ (o : Option (List ℕ)). IfSome o (λ text. LINE_MAX < line_len text)) first.after.rest h,
+      subst (λ (o : Option (List ℕ)). IfSome o (λ text. line_max < line_len text)) first.after.rest h,
     )
 stops_second mid new left left1 left2 next1 g NoMemory first is h = h
 stops_second mid new left left1 left2 next1 g SinkFailed first is h = h

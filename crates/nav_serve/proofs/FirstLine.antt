@@ -4,14 +4,13 @@ use Rattle.std.proofs.lemmas.List.{length-take}
 use Rattle.std.specs.Io.KnownBytes.{prepend_known}
 use Rattle.graph_nodes.specs.declared.node.Node.{Node}
 use Rattle.graph_nodes.specs.declared.node.Edge.{Edge}
-use Rattle.nav_io.specs.declared.lines.TheConstants.{LINE_MAX}
-use Rattle.nav_io.specs.Lines.{line_len, first_line, after_line, line_at_front}
+use Rattle.nav_io.specs.Lines.{line_max, line_len, first_line, after_line, line_at_front}
 use Rattle.nav_io.specs.Reading.{Reading, ahead}
 use Rattle.nav_io.proofs.Cuts.{line_len-le}
 use Rattle.nav_proto.specs.declared.reply.Reply.{Reply}
-use Rattle.nav_serve.specs.declared.words.Command.TheVariants.{Once}
-use Rattle.nav_serve.specs.declared.stop.Stop.{Stop}
-use Rattle.nav_serve.specs.declared.stop.Stop.TheVariants.{SourceFailed, SinkFailed, NoMemory, LongLine}
+use Rattle.nav_serve.specs.declared.tasks.Task.TheVariants.{Once}
+use Rattle.nav_serve.specs.declared.halt.Halt.{Halt}
+use Rattle.nav_serve.specs.declared.halt.Halt.TheVariants.{SourceFailed, SinkFailed, NoMemory, LongLine}
 use Rattle.nav_serve.specs.Files.{graph_line}
 use Rattle.nav_serve.specs.Once.{once_path, IsOnceReply, AnswersRest}
 use Rattle.nav_serve.specs.Reads.{ReadsLine, StopsAt}
@@ -24,11 +23,11 @@ fresh = record { front = []; ended = false }
 
 -- a line that was read is not too long
 pub short_line : (text : List ℕ) (next : Option (List ℕ)) → next ≡ line_at_front text
-    → IfSome next (λ line. length line ≤ LINE_MAX) → LINE_MAX < line_len text → ⊥
+    → IfSome next (λ line. length line ≤ line_max) → line_max < line_len text → ⊥
 short_line [] next e h long = omega (arith, long)
 short_line (byte ∷ more) next e h long =
     let text : List ℕ = byte ∷ more in
-    let within : length (first_line text) ≤ LINE_MAX = subst (λ (o : Option (List ℕ)). IfSome o (λ line. length line ≤ LINE_MAX)) e h in
+    let within : length (first_line text) ≤ line_max = subst (λ (o : Option (List ℕ)). IfSome o (λ line. length line ≤ line_max)) e h in
     omega (arith, within, length-take (line_len text) text, line_len-le text)
 
 -- what is ahead of a fresh reader is what the source has left
@@ -41,7 +40,7 @@ prepend_known-nothing None = refl
 prepend_known-nothing (Some input) = refl
 
 -- the reading stopped at the first line
-pub stops_first : (new : Reading) (left left' : Option (List ℕ)) (reason : Stop)
+pub stops_first : (new : Reading) (left left' : Option (List ℕ)) (reason : Halt)
     → StopsAt fresh new left left' reason → StopsReading Once left left' reason
 stops_first new left left' SourceFailed h =
     (new.front, sym (h.kept ∙ prepend_known-nothing left), inl (h.fault refl).0)

@@ -15,7 +15,10 @@ use Rattle.nav_proto.specs.declared.reply.FileError.{FileError}
 use Rattle.nav_proto.specs.declared.reply.FileError.TheVariants as file
 use Rattle.nav_proto.specs.declared.reply.ShapePart.{ShapePart}
 use Rattle.nav_proto.specs.declared.reply.ShapePart.TheVariants as shape
-use Rattle.nav_serve.specs.declared.file.TheConstants.{MAX_DOCUMENT}
+
+-- how many bytes a document may have
+abbrev pub max_document : ℕ
+max_document = 1048576
 
 -- the part of a graph file, as replies name it
 abbrev pub shape_part : Part → ShapePart
@@ -50,5 +53,5 @@ or_refusal path (Err fault) = Err (BadFile path (file_error fault))
 abbrev pub graph_line : List ℕ → Option (List ℕ) → Result (List Node × List Edge) Reply
 graph_line path None = Err (BadRequest (codes "graph"))
 graph_line path (Some line) =
-    if nat_lt MAX_DOCUMENT (length line) then Err (BadFile path (file.Large (length line)))
+    if nat_lt max_document (length line) then Err (BadFile path (file.Large (length line)))
     else or_refusal path (graph_from line)

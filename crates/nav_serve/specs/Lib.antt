@@ -1,10 +1,12 @@
 pub mod Words
-pub mod Stops
+pub mod Halts
 pub mod Files
 pub mod NodeLine
 pub mod Once
 pub mod Upgrade
 pub mod Taken
+pub mod Outside
+pub mod Commands
 pub mod Serving
 pub mod Refused
 pub mod Reads

@@ -1,26 +1,25 @@
 -- What reading a line by which a command goes on does to the reader and the source, and what it gives.
 use Rattle.std.specs.Prelude.{◌≡◌, ℕ, ◌<◌, ◌≤◌, List, length, Option, IfSome, Result, Ok, Err, ⊤}
 use Rattle.nav_io.specs.declared.lines.LineError.TheVariants.{ReadFault}
-use Rattle.nav_io.specs.declared.lines.TheConstants.{LINE_MAX}
-use Rattle.nav_io.specs.Lines.{line_at_front, line_len, HasNoNewline}
+use Rattle.nav_io.specs.Lines.{line_max, line_at_front, line_len, HasNoNewline}
 use Rattle.nav_io.specs.Reading.{Reading, ahead, AfterLine, AfterError}
 use Rattle.nav_proto.specs.declared.reply.Reply.{Reply}
 use Rattle.nav_serve.specs.declared.file.Refused.{Refused}
 use Rattle.nav_serve.specs.declared.file.Refused.TheVariants as refused
-use Rattle.nav_serve.specs.declared.stop.Stop.{Stop}
-use Rattle.nav_serve.specs.declared.stop.Stop.TheVariants.{SourceFailed, SinkFailed, NoMemory, LongLine}
+use Rattle.nav_serve.specs.declared.halt.Halt.{Halt}
+use Rattle.nav_serve.specs.declared.halt.Halt.TheVariants.{SourceFailed, SinkFailed, NoMemory, LongLine}
 
 -- the reader went from old to new and the source from left to left', and next is the line or none
 pub record ReadsLine (old new : Reading) (left left' next : Option (List ℕ)) : Type 0 where
   pub line : IfSome (ahead old left) (λ text. next ≡ line_at_front text)
-  pub short : IfSome next (λ line. length line ≤ LINE_MAX)
+  pub short : IfSome next (λ line. length line ≤ line_max)
   pub no_newline : IfSome next HasNoNewline
   pub after : AfterLine old new left left' next
 
 -- the reader and the source stopped for this reason
-abbrev pub StopsAt : Reading → Reading → Option (List ℕ) → Option (List ℕ) → Stop → Type 0
+abbrev pub StopsAt : Reading → Reading → Option (List ℕ) → Option (List ℕ) → Halt → Type 0
 StopsAt old new left left' SourceFailed = AfterError old new left left' ReadFault
-StopsAt old new left left' LongLine = IfSome (ahead old left) (λ text. LINE_MAX < line_len text)
+StopsAt old new left left' LongLine = IfSome (ahead old left) (λ text. line_max < line_len text)
 StopsAt old new left left' NoMemory = ⊤
 StopsAt old new left left' SinkFailed = ⊥
 
@@ -31,4 +30,4 @@ ReadsAs old new left left' view defined (Ok x) =
     (next : Option (List ℕ)) × ReadsLine old new left left' next × (defined next ≡ Ok (view x))
 ReadsAs old new left left' view defined (Err (refused.Reply reply)) =
     (next : Option (List ℕ)) × ReadsLine old new left left' next × (defined next ≡ Err reply)
-ReadsAs old new left left' view defined (Err (refused.Stop reason)) = StopsAt old new left left' reason
+ReadsAs old new left left' view defined (Err (refused.Halt reason)) = StopsAt old new left left' reason

@@ -1,11 +1,11 @@
 ghost use Rattle.std.specs.Prelude.{◌≡◌, ◌≢◌, ◌≤◌, ℕ, List, Option, IfOk, IfErr, IfSome, Result, Ok, Err, length};
 ghost use Rattle.std.specs.Option.{option_copied};
-ghost use Rattle.nav_io.specs.declared.lines.TheConstants.{LINE_MAX};
+ghost use Rattle.nav_io.specs.Lines.{line_max};
 ghost use Rattle.nav_proto.specs.declared.reply.Reply.TheVariants.{BadFile};
 ghost use Rattle.nav_serve.specs.Files.{shape_part, graph_error, file_error, graph_line};
-ghost use Rattle.nav_serve.specs.Refused.{Gives, parts};
+ghost use Rattle.nav_serve.specs.Refused.{AnswersAs, parts};
 
-use crate::stop::Stop;
+use crate::halt::Halt;
 use graph_json::{GraphTextFault, Part, read_graph};
 use graph_nodes::{FileGraph, GraphFault};
 use nav_proto::{FileError, Reply, ReplyText, ShapePart};
@@ -19,7 +19,7 @@ pub const MAX_DOCUMENT: usize = 1_048_576;
 #[derive(Debug, Drop)]
 pub enum Refused {
     Reply(Reply),
-    Stop(Stop),
+    Halt(Halt),
 }
 
 impl Refused {
@@ -27,12 +27,12 @@ impl Refused {
     ghost use Rattle.nav_serve.specs.Refused.{reply_of};
 
     /// The reply, or the stop as an error.
-    pub fn reply(self) -> Result<Reply, Stop>
+    pub fn reply(self) -> Result<Reply, Halt>
         ensures { result ≡ reply_of self }
     {
         match self {
             Refused::Reply(reply) => Ok(reply),
-            Refused::Stop(stop) => Err(stop),
+            Refused::Halt(stop) => Err(stop),
         }
     }
 }
@@ -40,19 +40,19 @@ impl Refused {
 impl From<AllocError> for Refused {
     ghost use Rattle.std.specs.Prelude.{◌≡◌};
     ghost use Rattle.nav_serve.specs.declared.file.Refused.TheVariants as refused;
-    ghost use Rattle.nav_serve.specs.declared.stop.Stop.TheVariants as stop;
+    ghost use Rattle.nav_serve.specs.declared.halt.Halt.TheVariants as halt;
 
-    ghost from_gives = { λ _ r. r ≡ refused.Stop stop.NoMemory };
+    ghost from_gives = { λ _ r. r ≡ refused.Halt halt.NoMemory };
 
     fn from(_: AllocError) -> Refused {
-        Refused::Stop(Stop::NoMemory)
+        Refused::Halt(Halt::NoMemory)
     }
 }
 
 /// The graph of the line, read as a graph file of that path, or the reply that refuses it.
 pub fn graph_line(alloc: Global, path: &str, line: Option<&[u8]>) -> Result<FileGraph, Refused>
-    requires { IfSome (option_copied line) (λ bytes. length bytes ≤ LINE_MAX) }
-    ensures { Gives parts result (graph_line path.now (option_copied line.entry)) }
+    requires { IfSome (option_copied line) (λ bytes. length bytes ≤ line_max) }
+    ensures { AnswersAs parts result (graph_line path.now (option_copied line.entry)) }
 {
     let Some(bytes) = line else {
         return Err(Refused::Reply(Reply::BadRequest(ReplyText::of(alloc, "graph")?)));
@@ -62,14 +62,14 @@ pub fn graph_line(alloc: Global, path: &str, line: Option<&[u8]>) -> Result<File
     }
     match read_graph(alloc, bytes) {
         Ok(graph) => Ok(graph),
-        Err(GraphTextFault::NoMemory) => Err(Refused::Stop(Stop::NoMemory)),
+        Err(GraphTextFault::NoMemory) => Err(Refused::Halt(Halt::NoMemory)),
         Err(fault) => refuse(alloc, path, file_error(fault)),
     }
 }
 
 /// Refuses the file of that path for its fault.
 fn refuse(alloc: Global, path: &str, fault: FileError) -> Result<FileGraph, Refused>
-    ensures { Gives parts result (Err (BadFile path.now fault)) }
+    ensures { AnswersAs parts result (Err (BadFile path.now fault)) }
 {
     let path = PathText::of(alloc, path)?;
     Err(Refused::Reply(Reply::BadFile { path, fault }))

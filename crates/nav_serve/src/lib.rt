@@ -1,20 +1,22 @@
 //! The program as a function: the words after its name, its input and output, and its status.
 #![tactic(auto)]
 
-mod answer;
-mod answering;
 mod file;
+mod found_rows;
+mod halt;
+mod input_lines;
+mod laws;
 mod node_line;
+mod once_input;
 mod output;
-mod reading;
 mod running;
-mod stop;
-mod upgrading;
+mod tasks;
+mod upgrade_input;
 mod words;
 
-pub use answering::once;
+pub use laws::once_and_upgrade_are_tasks;
 pub use running::run;
-pub use upgrading::upgrade;
+pub use tasks::{Task, perform};
 
 #[cfg(test)]
 mod tests;

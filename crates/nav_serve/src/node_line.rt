@@ -9,17 +9,17 @@ ghost use Rattle.nav_proto.specs.declared.reply.Reply.TheVariants.{BadRequest};
 ghost use Rattle.nav_serve.specs.NodeLine.{node_number, may_stand};
 ghost use Rattle.graph_json.specs.Reading.{json_of};
 ghost use Rattle.nav_serve.specs.Once.{node_line, json_or_refusal};
-ghost use Rattle.nav_serve.specs.Refused.{Gives};
+ghost use Rattle.nav_serve.specs.Refused.{AnswersAs};
 
 use crate::file::Refused;
-use crate::stop::Stop;
+use crate::halt::Halt;
 use nav_proto::{PlainError, Reply, ReplyText};
 use serde_json::{Category, Map, Value};
 use std::alloc::Global;
 
 /// The position of the node that the line asks for, or the reply that refuses it.
 pub fn node_line(alloc: Global, line: Option<&[u8]>) -> Result<u32, Refused>
-    ensures { Gives (λ n. n) result (node_line (option_copied line.entry)) }
+    ensures { AnswersAs (λ n. n) result (node_line (option_copied line.entry)) }
 {
     let Some(bytes) = line else {
         return no_node(alloc);
@@ -34,18 +34,18 @@ pub fn node_line(alloc: Global, line: Option<&[u8]>) -> Result<u32, Refused>
 /// The JSON value of the bytes, or the reply that refuses them.
 #[tactic(auto, using(graph_json::proofs::Parsing::texts))]
 fn json(alloc: Global, bytes: &[u8]) -> Result<Value, Refused>
-    ensures { Gives view result (json_or_refusal (json_of bytes.now)) }
+    ensures { AnswersAs view result (json_or_refusal (json_of bytes.now)) }
 {
     match Value::from_slice(alloc, bytes) {
         Ok(value) => Ok(value),
-        Err(e) if e.classify() == Category::Memory => Err(Refused::Stop(Stop::NoMemory)),
+        Err(e) if e.classify() == Category::Memory => Err(Refused::Halt(Halt::NoMemory)),
         Err(_) => Err(Refused::Reply(Reply::Plain(PlainError::BadJson))),
     }
 }
 
 /// Refuses a line that asks for no node.
 fn no_node(alloc: Global) -> Result<u32, Refused>
-    ensures { Gives (λ n. n) result (Err (BadRequest (codes "node"))) }
+    ensures { AnswersAs (λ n. n) result (Err (BadRequest (codes "node"))) }
 {
     Err(Refused::Reply(Reply::BadRequest(ReplyText::of(alloc, "node")?)))
 }

@@ -3,38 +3,38 @@ ghost use Rattle.std.specs.Io.KnownBytes.{append_known};
 ghost use Rattle.nav_io.specs.Faults.{HasRisen};
 ghost use Rattle.nav_io.specs.Write.{HoldsPrefix};
 ghost use Rattle.nav_proto.specs.Replies.{reply_text};
-ghost use Rattle.nav_serve.specs.declared.stop.Stop.TheVariants as stop;
+ghost use Rattle.nav_serve.specs.declared.halt.Halt.TheVariants as halt;
 ghost use Rattle.nav_serve.specs.Taken.{with_newline};
 
-use crate::stop::Stop;
+use crate::halt::Halt;
 use nav_io::{Sink, write_all};
 use nav_proto::{Reply, print_reply};
 use std::alloc::Global;
 
 /// The bytes of the reply's text.
-pub fn reply_bytes(alloc: Global, reply: &Reply) -> Result<Vec<u8>, Stop>
+pub fn reply_bytes(alloc: Global, reply: &Reply) -> Result<Vec<u8>, Halt>
     ensures ok { IfOk result (λ text. text.items ≡ reply_text reply.now) }
-    ensures err { IfErr result (λ reason. reason ≡ stop.NoMemory) }
+    ensures err { IfErr result (λ reason. reason ≡ halt.NoMemory) }
 {
     Ok(print_reply(alloc, reply)?.into_string().into_bytes())
 }
 
 /// Writes the text and a newline at once. After a stop the sink holds what it held and a prefix of them.
-pub fn write_line<K: Sink>(sink: &mut K, text: Vec<u8>) -> Result<(), Stop>
+pub fn write_line<K: Sink>(sink: &mut K, text: Vec<u8>) -> Result<(), Halt>
     ensures ok { OnOk result (K.held sink.new ≡ append_known (K.held sink.old) (with_newline text.items)) }
     ensures err { OnErr result (HoldsPrefix (K.held sink.old) (with_newline text.items) (K.held sink.new)) }
 
     ensures count { K.faults sink.old ≤ K.faults sink.new }
-    ensures cause { result ≡ Err stop.SinkFailed → HasRisen (K.faults sink.old) (K.faults sink.new) }
-    ensures not_source { result ≡ Err stop.SourceFailed → ⊥ }
-    ensures not_long { result ≡ Err stop.LongLine → ⊥ }
+    ensures cause { result ≡ Err halt.SinkFailed → HasRisen (K.faults sink.old) (K.faults sink.new) }
+    ensures not_source { result ≡ Err halt.SourceFailed → ⊥ }
+    ensures not_long { result ≡ Err halt.LongLine → ⊥ }
 {
     let mut line = text;
     if line.push(b'\n').is_err() {
-        return Err(Stop::NoMemory);
+        return Err(Halt::NoMemory);
     }
     match write_all(sink, line.as_slice()) {
         Ok(()) => Ok(()),
-        Err(error) => Err(Stop::from(error)),
+        Err(error) => Err(Halt::from(error)),
     }
 }

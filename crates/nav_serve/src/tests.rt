@@ -3,7 +3,7 @@ mod python;
 mod versions;
 
 use crate::words::{Command, command_of};
-use crate::{once, upgrade};
+use crate::{Task, perform};
 use graph_json::print_graph;
 use graph_text::files_of;
 use nav_io::{MemSink, MemSource};
@@ -23,10 +23,10 @@ struct Outside {
     write: u32,
 }
 
-/// The status of a command on this input, and what was written.
+/// The status of a task on this input, and what was written.
 fn served(
     alloc: Global,
-    command: Command,
+    task: Task,
     input: &[u8],
     outside: Outside,
 ) -> Result<(u8, Vec<u8>), Fail> {
@@ -36,22 +36,19 @@ fn served(
         vec![in alloc; outside.read]?,
     );
     let mut sink = MemSink::new(alloc, outside.taken.max(1), vec![in alloc; outside.write]?);
-    let status = match command {
-        Command::Once => once(alloc, &mut source, &mut sink),
-        Command::Upgrade => upgrade(alloc, &mut source, &mut sink),
-    };
+    let status = perform(task, alloc, &mut source, &mut sink);
     Ok((status, sink.held().to_vec(alloc)?))
 }
 
-/// What a command writes on this input, where nothing fails; nothing where its status isn't 0.
-fn written(alloc: Global, command: Command, input: &[u8]) -> Result<Vec<u8>, Fail> {
+/// What a task writes on this input, where nothing fails; nothing where its status isn't 0.
+fn written(alloc: Global, task: Task, input: &[u8]) -> Result<Vec<u8>, Fail> {
     let whole = Outside {
         piece: 65_536,
         read: NEVER,
         taken: 65_536,
         write: NEVER,
     };
-    let (status, written) = served(alloc, command, input, whole)?;
+    let (status, written) = served(alloc, task, input, whole)?;
     if status == 0 {
         Ok(written)
     } else {
@@ -59,11 +56,11 @@ fn written(alloc: Global, command: Command, input: &[u8]) -> Result<Vec<u8>, Fai
     }
 }
 
-/// What the command writes on an input in which `¶` stands for the end of a line; the end of the reply's
+/// What the task writes on an input in which `¶` stands for the end of a line; the end of the reply's
 /// line is left out.
-fn reply(alloc: Global, command: Command, text: &str) -> Result<String, Fail> {
+fn reply(alloc: Global, task: Task, text: &str) -> Result<String, Fail> {
     let input = text.replace(alloc, '¶', "\n")?;
-    let written = written(alloc, command, input.as_bytes())?;
+    let written = written(alloc, task, input.as_bytes())?;
     let told = str::from_utf8(written.as_slice())?;
     match told.strip_suffix('\n') {
         Some(reply) => Ok(String::from_str(alloc, reply)?),
@@ -92,7 +89,7 @@ const ONCE: &str = r#" => {"error":"bad_request","field":"graph"}
 fn once_replies_to_lines(rt: HostRuntime) -> Result<(), Fail> {
     for row in ONCE.split('\n') {
         let (input, wanted) = row.split_once(" => ").unwrap_or((row, "no arrow"));
-        let told = reply(rt.alloc(), Command::Once, input)?;
+        let told = reply(rt.alloc(), Task::Once, input)?;
         assert_eq!(rt; told.as_str(), wanted, "{input}");
     }
     Ok(())
@@ -133,7 +130,7 @@ fn graph_reply(alloc: Global, text: &str) -> Result<String, Fail> {
     let line = print_graph(alloc, &graph)?;
     let line = str::from_utf8(line.as_slice())?;
     let input = format!(in alloc; "{line}¶{{\"node\":0}}")?;
-    reply(alloc, Command::Once, input.as_str())
+    reply(alloc, Task::Once, input.as_str())
 }
 
 #[test]
@@ -148,59 +145,64 @@ fn once_answers_by_the_rules(rt: HostRuntime) -> Result<(), Fail> {
     Ok(())
 }
 
-/// A graph line of so many bytes, blanks before its end, and a line for node 0.
-fn padded(alloc: Global, bytes: usize) -> Result<Vec<u8>, Fail> {
+/// A graph line of so many bytes and a line for node 0 of so many, blanks before the end of each.
+fn padded(alloc: Global, graph: usize, node: usize) -> Result<Vec<u8>, Fail> {
     let mut text = b"{\"nodes\":[],\"edges\":[]".to_vec(alloc)?;
-    for _ in 23..bytes {
-        text.push(b' ')?;
-    }
-    text.extend_from_slice(b"}\n{\"node\":0}\n")?;
+    text.extend_from_slice(vec![in alloc; b' '; graph.saturating_sub(23)]?.as_slice())?;
+    text.extend_from_slice(b"}\n{\"node\":0")?;
+    text.extend_from_slice(vec![in alloc; b' '; node.saturating_sub(10)]?.as_slice())?;
+    text.extend_from_slice(b"}\n")?;
     Ok(text)
 }
 
 #[test]
 fn long_lines_are_told(rt: HostRuntime) -> Result<(), Fail> {
     let alloc = rt.alloc();
-    let rows: [(usize, &str); 4] = [
-        (1_048_576, "{\"error\":\"no_reference\"}\n"),
+    let rows: [(usize, usize, &str); 5] = [
+        (1_048_576, 10, "{\"error\":\"no_reference\"}\n"),
+        (23, 1_048_576, "{\"error\":\"no_reference\"}\n"),
         (
             1_048_577,
+            10,
             "{\"bytes\":1048577,\"error\":\"bad_file\",\"fault\":\"large\",\"path\":\"once.sg.json\"}\n",
         ),
         (
             8_388_608,
+            10,
             "{\"bytes\":8388608,\"error\":\"bad_file\",\"fault\":\"large\",\"path\":\"once.sg.json\"}\n",
         ),
-        (8_388_609, ""),
+        (8_388_609, 10, ""),
     ];
-    for (bytes, wanted) in rows {
-        let input = padded(alloc, bytes)?;
-        let written = written(alloc, Command::Once, input.as_slice())?;
-        assert_eq!(rt; written.as_slice(), wanted.as_bytes(), "at {bytes}");
+    for (graph, node, wanted) in rows {
+        let input = padded(alloc, graph, node)?;
+        let written = written(alloc, Task::Once, input.as_slice())?;
+        assert_eq!(rt; written.as_slice(), wanted.as_bytes(), "at {graph}, {node}");
     }
-    let input = padded(alloc, 8_388_609)?;
+    let input = padded(alloc, 8_388_609, 10)?;
     let whole = Outside {
         piece: 65_536,
         read: NEVER,
         taken: 9,
         write: NEVER,
     };
-    assert_eq!(rt; served(alloc, Command::Once, input.as_slice(), whole)?.0, 6);
+    assert_eq!(rt; served(alloc, Task::Once, input.as_slice(), whole)?.0, 6);
     Ok(())
 }
 
 #[test]
-fn faults_end_a_command_at_once(rt: HostRuntime) -> Result<(), Fail> {
+fn faults_end_a_task_at_once(rt: HostRuntime) -> Result<(), Fail> {
     let alloc = rt.alloc();
-    let input = "{\"nodes\":[],\"edges\":[]}\n{\"node\":0}\n";
+    let input = "{\"nodes\":[],\"edges\":[]}\n{\"node\":0}\nmore";
     let reply = "{\"error\":\"no_reference\"}\n";
     // The bytes of a read, the read that fails, the bytes of a write, the write that fails; the status of
     // `once`, and how many bytes of the reply are written.
-    let rows: [(u32, u32, u32, u32, u8, usize); 9] = [
+    let rows: [(u32, u32, u32, u32, u8, usize); 10] = [
         (65_536, 0, 99, NEVER, 3, 0),
         (10, 1, 99, NEVER, 3, 0),
         (24, 1, 99, NEVER, 3, 0),
         (30, 1, 99, NEVER, 3, 0),
+        // Once both lines are there the source isn't read again.
+        (35, 1, 99, NEVER, 0, 25),
         (99, 1, 99, NEVER, 0, 25),
         (1, NEVER, 1, NEVER, 0, 25),
         (99, NEVER, 8, 2, 4, 16),
@@ -214,7 +216,7 @@ fn faults_end_a_command_at_once(rt: HostRuntime) -> Result<(), Fail> {
             taken,
             write,
         };
-        let (got, written) = served(alloc, Command::Once, input.as_bytes(), outside)?;
+        let (got, written) = served(alloc, Task::Once, input.as_bytes(), outside)?;
         assert_eq!(rt;
             (got, written.len()),
             (status, bytes),
@@ -238,7 +240,7 @@ const UPGRADE: &str =
 fn upgrade_names_the_nodes(rt: HostRuntime) -> Result<(), Fail> {
     for row in UPGRADE.split('\n') {
         let (input, wanted) = row.split_once(" => ").unwrap_or((row, "no arrow"));
-        let told = reply(rt.alloc(), Command::Upgrade, input)?;
+        let told = reply(rt.alloc(), Task::Upgrade, input)?;
         assert_eq!(rt; told.as_str(), wanted, "{input}");
     }
     let failing = Outside {
@@ -247,7 +249,7 @@ fn upgrade_names_the_nodes(rt: HostRuntime) -> Result<(), Fail> {
         taken: 9,
         write: NEVER,
     };
-    assert_eq!(rt; served(rt.alloc(), Command::Upgrade, b"{}", failing)?.0, 3);
+    assert_eq!(rt; served(rt.alloc(), Task::Upgrade, b"{}", failing)?.0, 3);
     Ok(())
 }
 

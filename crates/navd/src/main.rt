@@ -2,7 +2,9 @@
 //! status.
 #![tactic(auto)]
 
-ghost use Rattle.std.specs.Prelude.{◌≡◌, ◌<◌};
+ghost use Rattle.std.specs.Prelude.{◌≡◌, ◌<◌, ◌⊎◌, None, IsTrue, IfOk, OnErr};
+ghost use Rattle.nav_serve.specs.Words.{command_of, texts};
+ghost use Rattle.nav_serve.specs.Commands.{may_end};
 
 use graph_nodes::Steps;
 use nav_io::{MemHouse, StdSink, StdSource};
@@ -14,6 +16,9 @@ use std::process::ExitCode;
 use std::sync::ledger::{Blank, Ledger};
 use std::{env, io};
 
+#[cfg(test)]
+mod tests;
+
 /// What standard error tells where the words are no command.
 const USAGE: &str = "usage: navd once | navd upgrade (the input is read from standard input)";
 
@@ -24,17 +29,13 @@ const BAD_WORDS: u8 = 2;
 const NO_MEMORY: u8 = 5;
 
 fn main(rt: HostRuntime) -> ExitCode {
-    let status = match words_of(&rt) {
-        Ok(words) => served::<_, _, Brand>(
-            rt.alloc(),
-            &words,
-            rt.stdin(),
-            rt.stdout(),
-            Blank::new(1),
-        ),
-        Err(e) if e.kind() == ErrorKind::OutOfMemory => NO_MEMORY,
-        Err(_) => BAD_WORDS,
-    };
+    let status = ended::<_, _, Brand>(
+        rt.alloc(),
+        words_of(&rt),
+        rt.stdin(),
+        rt.stdout(),
+        Blank::new(1),
+    );
     if status == BAD_WORDS {
         let _ = eprintln!(rt; "{USAGE}");
     }
@@ -50,7 +51,30 @@ fn words_of(rt: &HostRuntime) -> io::Result<Vec<String>> {
     Ok(words)
 }
 
-/// Runs the words over this reader and writer, with no doors and a counter that nobody reads.
+/// The status with which the program ends on these words, or where they can't be had: that of `run` over
+/// this reader and writer, with no doors and a counter that nobody reads.
+fn ended<R: Read + Drop, W: Write + Drop, L: Ledger>(
+    alloc: Global,
+    words: io::Result<Vec<String>>,
+    reader: R,
+    writer: W,
+    blank: Blank,
+) -> u8
+    requires name { blank.name ≡ L.name }
+    requires parts { blank.parts ≡ L.parts }
+    requires some { 0 < blank.parts }
+    ensures bad_words { IfOk words (λ some. result ≡ 2 → command_of (texts some.items) ≡ None) }
+    ensures statuses { IfOk words (λ some. IsTrue (may_end (command_of (texts some.items)) result)) }
+    ensures no_words { OnErr words ((result ≡ 2) ⊎ (result ≡ 5)) }
+{
+    match words {
+        Ok(words) => served::<_, _, L>(alloc, &words, reader, writer, blank),
+        Err(e) if e.kind() == ErrorKind::OutOfMemory => NO_MEMORY,
+        Err(_) => BAD_WORDS,
+    }
+}
+
+/// Runs the words over this reader and writer.
 fn served<R: Read + Drop, W: Write + Drop, L: Ledger>(
     alloc: Global,
     words: &[String],
@@ -61,6 +85,8 @@ fn served<R: Read + Drop, W: Write + Drop, L: Ledger>(
     requires name { blank.name ≡ L.name }
     requires parts { blank.parts ≡ L.parts }
     requires some { 0 < blank.parts }
+    ensures bad_words { result ≡ 2 → command_of (texts words.now) ≡ None }
+    ensures statuses { IsTrue (may_end (command_of (texts words.now)) result) }
 {
     let mut source = StdSource::new(reader);
     let mut sink = StdSink::new(writer);

@@ -1,13 +1,14 @@
 //! The bytes that a line reader holds: taking more of the source, and lending a line.
-ghost use Rattle.std.specs.Prelude.{◌≡◌, ◌≢◌, ◌+◌, ◌<◌, ◌≤◌, ℕ, List, ◌++◌, length, vec_len, drop, IfOk, IfErr, OnErr, ◌⊎◌, true, false};
+ghost use Rattle.std.specs.Prelude.{◌≡◌, ◌≢◌, ◌+◌, ◌<◌, ◌≤◌, ℕ, List, ◌++◌, length, vec_len, take, drop, IfOk, IfErr, OnOk, OnErr, MatchOption, ◌⊎◌, true, false};
 ghost use Rattle.std.specs.Io.KnownBytes.{prepend_known, IsAtEnd};
 ghost use Rattle.std.specs.List.{position};
 ghost use Rattle.std.specs.Option.{option_copied};
 ghost use Rattle.nav_io.specs.Faults.{HasRisen};
-ghost use Rattle.nav_io.specs.Lines.{line_len, line_at_front, after_line, is_newline};
+ghost use Rattle.nav_io.specs.Lines.{line_max, line_len, line_at_front, after_line, is_newline};
+ghost use Rattle.nav_io.specs.Reading.{is_whole, has_bytes, bytes_at_front};
 ghost use Rattle.nav_io.specs.Search.{FindsNewline};
 
-use super::{CHUNK, LINE_MAX, LineError};
+use super::{CHUNK, LINE_MAX, LineError, NoMemory, TooLong};
 use crate::Source;
 
 // Where the first newline is.
@@ -26,15 +27,62 @@ fn newline_after(held: &Vec<u8>, from: usize) -> Option<usize>
     newline_in(&held[from..])
 }
 
+// Where the first newline stands from `start` on, if there is one. The bytes that are known to be none
+// aren't searched again.
+fn find_newline(held: &Vec<u8>, start: usize, searched: &mut usize) -> Option<usize>
+    requires within { start ≤ vec_len held.now }
+    requires searched { searched.old ≤ line_len (drop start held.now.items) }
+    ensures found { FindsNewline result (drop start held.now.items) }
+    ensures searched { searched.new ≤ line_len (drop start held.now.items) }
+{
+    match newline_after(held, start + *searched) {
+        Some(n) => {
+            *searched += n;
+            Some(*searched)
+        }
+        None => {
+            *searched = held.len() - start;
+            None
+        }
+    }
+}
+
 // A line of this many bytes, if that is within the limit.
-fn within_limit(len: usize) -> Result<usize, LineError>
-    ensures ok { IfOk result (λ n. (n ≡ len) × (n ≤ LINE_MAX)) }
-    ensures err { IfErr result (λ e. (e ≡ LineError.TooLong) × (LINE_MAX < len)) }
+fn within_limit(len: usize) -> Result<usize, TooLong>
+    ensures ok { IfOk result (λ n. (n ≡ len) × (n ≤ line_max)) }
+    ensures err { OnErr result (line_max < len) }
 {
     if len > LINE_MAX {
-        return Err(LineError::TooLong);
+        return Err(TooLong);
     }
     Ok(len)
+}
+
+// The length of the first line from `start` on, if it is whole.
+pub(super) fn find_whole(
+    held: &Vec<u8>,
+    start: usize,
+    searched: &mut usize,
+    ended: bool,
+) -> Result<Option<usize>, TooLong>
+    requires within { start ≤ vec_len held.now }
+    requires searched { searched.old ≤ line_len (drop start held.now.items) }
+    ensures searched { searched.new ≤ line_len (drop start held.now.items) }
+    ensures found { IfOk result (λ found. MatchOption found
+        (is_whole (record { front = drop start held.now.items; ended = ended }) ≡ false)
+        (λ n. (is_whole (record { front = drop start held.now.items; ended = ended }) ≡ true)
+        × (line_len (drop start held.now.items) ≡ n))) }
+    ensures short { OnOk result (line_len (drop start held.now.items) ≤ line_max) }
+    ensures too_long { OnErr result (line_max < line_len (drop start held.now.items)) }
+{
+    if let Some(len) = find_newline(held, start, searched) {
+        return Ok(Some(within_limit(len)?));
+    }
+    let len = within_limit(held.len() - start)?;
+    if ended {
+        return Ok(Some(len));
+    }
+    Ok(None)
 }
 
 // Lets go of the bytes before `start`.
@@ -45,6 +93,35 @@ fn compact(held: &mut Vec<u8>, start: &mut usize)
 {
     held.drain(..*start);
     *start = 0;
+}
+
+// Lets go of the bytes before `start` where they are more than half.
+fn compact_large(held: &mut Vec<u8>, start: &mut usize)
+    requires { start.old ≤ vec_len held.old }
+    ensures within { start.new ≤ vec_len held.new }
+    ensures same { drop start.new held.new.items ≡ drop start.old held.old.items }
+{
+    if *start > held.len() / 2 {
+        compact(held, start);
+    }
+}
+
+// Puts bytes behind those that are held.
+pub(super) fn put_behind(
+    held: &mut Vec<u8>,
+    start: &mut usize,
+    bytes: &[u8],
+) -> Result<(), NoMemory>
+    requires { start.old ≤ vec_len held.old }
+    ensures within { start.new ≤ vec_len held.new }
+    ensures ok { OnOk result (drop start.new held.new.items ≡ drop start.old held.old.items ++ bytes.now) }
+    ensures err { OnErr result (drop start.new held.new.items ≡ drop start.old held.old.items) }
+{
+    compact_large(held, start);
+    match held.extend_from_slice(bytes) {
+        Ok(()) => Ok(()),
+        Err(_) => Err(NoMemory),
+    }
 }
 
 // Takes one chunk of the source behind what is held, and answers its length.
@@ -76,9 +153,9 @@ fn fill<S: Source>(held: &mut Vec<u8>, chunk: &mut [u8], source: &mut S) -> Resu
     requires no_newline { line_len held.old.items ≡ length held.old.items }
     ensures kept { prepend_known held.new.items (S.left source.new)
         ≡ prepend_known held.old.items (S.left source.old) }
-    ensures ok { IfOk result (λ n. (line_len held.new.items ≡ n) × (n ≤ LINE_MAX)) }
+    ensures ok { IfOk result (λ n. (line_len held.new.items ≡ n) × (n ≤ line_max)) }
     ensures end { IfOk result (λ n. n ≡ length held.new.items → IsAtEnd (S.left source.new)) }
-    ensures too_long { result ≡ Err LineError.TooLong → LINE_MAX < line_len held.new.items }
+    ensures too_long { result ≡ Err LineError.TooLong → line_max < line_len held.new.items }
     ensures fault { result ≡ Err LineError.ReadFault
         → line_len held.new.items ≡ length held.new.items }
 
@@ -92,7 +169,7 @@ fn fill<S: Source>(held: &mut Vec<u8>, chunk: &mut [u8], source: &mut S) -> Resu
             return Ok(before);
         }
         if let Some(n) = newline_after(held, before) {
-            return within_limit(before + n);
+            return Ok(within_limit(before + n)?);
         }
     }
     Err(LineError::TooLong)
@@ -102,37 +179,43 @@ fn fill<S: Source>(held: &mut Vec<u8>, chunk: &mut [u8], source: &mut S) -> Resu
 pub(super) fn find_line<S: Source>(
     held: &mut Vec<u8>,
     start: &mut usize,
+    searched: &mut usize,
     ended: &mut bool,
     chunk: &mut [u8],
     source: &mut S,
 ) -> Result<usize, LineError>
     requires room { CHUNK ≤ length chunk.old }
     requires within { start.old ≤ vec_len held.old }
+    requires searched { searched.old ≤ line_len (drop start.old held.old.items) }
     ensures within { start.new ≤ vec_len held.new }
+    ensures searched { searched.new ≤ line_len (drop start.new held.new.items) }
+    ensures unread { is_whole (record { front = drop start.old held.old.items; ended = ended.old }) ≡ true
+        → source.new ≡ source.old }
     ensures kept { prepend_known (drop start.new held.new.items) (S.left source.new)
         ≡ prepend_known (drop start.old held.old.items) (S.left source.old) }
     ensures past_end { ended.old ≡ true → (drop start.new held.new.items ≡ drop start.old held.old.items)
         × (S.left source.new ≡ S.left source.old) × (ended.new ≡ true) }
     ensures at_end { ended.new ≡ true → (ended.old ≡ true) ⊎ IsAtEnd (S.left source.new) }
 
-    ensures ok { IfOk result (λ n. (line_len (drop start.new held.new.items) ≡ n) × (n ≤ LINE_MAX)) }
+    ensures ok { IfOk result (λ n. (line_len (drop start.new held.new.items) ≡ n) × (n ≤ line_max)) }
     ensures end { IfOk result (λ n. n ≡ length (drop start.new held.new.items) → ended.new ≡ true) }
     ensures err { OnErr result (ended.new ≡ ended.old) }
     ensures too_long { IfErr result (λ e. e ≡ LineError.TooLong
-        → LINE_MAX < line_len (drop start.new held.new.items)) }
+        → line_max < line_len (drop start.new held.new.items)) }
     ensures fault { IfErr result (λ e. e ≡ LineError.ReadFault → (ended.old ≡ false)
         × (line_len (drop start.new held.new.items) ≡ length (drop start.new held.new.items))) }
 
     ensures count { S.faults source.old ≤ S.faults source.new }
     ensures cause { result ≡ Err LineError.ReadFault → HasRisen (S.faults source.old) (S.faults source.new) }
 {
-    if let Some(len) = newline_after(held, *start) {
-        return within_limit(len);
+    if let Some(len) = find_newline(held, *start, searched) {
+        return Ok(within_limit(len)?);
     }
     compact(held, start);
     if *ended {
-        return within_limit(held.len());
+        return Ok(within_limit(held.len())?);
     }
+    *searched = 0;
     let len = fill(held, chunk, source)?;
     *ended = len == held.len();
     Ok(len)
@@ -153,4 +236,82 @@ pub(super) fn take_line<'a>(held: &'a [u8], start: &mut usize, len: usize) -> Op
     let end = from + len;
     *start = held.len().min(end.saturating_add(1));
     Some(&held[from..end])
+}
+
+// Takes chunks until `n` bytes are held or the source is at its end, and answers whether it is.
+fn fill_to<S: Source>(
+    held: &mut Vec<u8>,
+    chunk: &mut [u8],
+    source: &mut S,
+    n: usize,
+) -> Result<bool, LineError>
+    requires room { CHUNK ≤ length chunk.old }
+    ensures kept { prepend_known held.new.items (S.left source.new)
+        ≡ prepend_known held.old.items (S.left source.old) }
+    ensures enough { result ≡ Ok false → n ≤ vec_len held.new }
+    ensures end { result ≡ Ok true → (vec_len held.new < n) × IsAtEnd (S.left source.new) }
+    ensures err { OnErr result (vec_len held.new < n) }
+    ensures not_long { result ≢ Err LineError.TooLong }
+
+    ensures count { S.faults source.old ≤ S.faults source.new }
+    ensures cause { result ≡ Err LineError.ReadFault → HasRisen (S.faults source.old) (S.faults source.new) }
+{
+    while held.len() < n {
+        if take_chunk(held, chunk, source)? == 0 {
+            return Ok(true);
+        }
+    }
+    Ok(false)
+}
+
+// Takes what is wanting of `n` bytes. Past the end of input the source isn't asked.
+pub(super) fn find_bytes<S: Source>(
+    held: &mut Vec<u8>,
+    start: &mut usize,
+    ended: &mut bool,
+    chunk: &mut [u8],
+    source: &mut S,
+    n: usize,
+) -> Result<(), LineError>
+    requires room { CHUNK ≤ length chunk.old }
+    requires within { start.old ≤ vec_len held.old }
+    ensures within { start.new ≤ vec_len held.new }
+    ensures kept { prepend_known (drop start.new held.new.items) (S.left source.new)
+        ≡ prepend_known (drop start.old held.old.items) (S.left source.old) }
+    ensures past_end { ended.old ≡ true → (drop start.new held.new.items ≡ drop start.old held.old.items)
+        × (S.left source.new ≡ S.left source.old) × (ended.new ≡ true) }
+    ensures at_end { ended.new ≡ true → (ended.old ≡ true) ⊎ IsAtEnd (S.left source.new) }
+    ensures unread { has_bytes n (record { front = drop start.old held.old.items; ended = ended.old }) ≡ true
+        → source.new ≡ source.old }
+
+    ensures ok { OnOk result (length (drop start.new held.new.items) < n → ended.new ≡ true) }
+    ensures err { OnErr result ((ended.new ≡ ended.old) × (ended.old ≡ false)
+        × (length (drop start.new held.new.items) < n)) }
+    ensures not_long { result ≢ Err LineError.TooLong }
+
+    ensures count { S.faults source.old ≤ S.faults source.new }
+    ensures cause { result ≡ Err LineError.ReadFault → HasRisen (S.faults source.old) (S.faults source.new) }
+{
+    if *ended || held.len() - *start >= n {
+        return Ok(());
+    }
+    compact(held, start);
+    *ended = fill_to(held, chunk, source, n)?;
+    Ok(())
+}
+
+// Lends the `n` bytes from `start` on and moves `start` past them, or lends nothing where there are fewer.
+pub(super) fn take_bytes<'a>(held: &'a [u8], start: &mut usize, n: usize) -> Option<&'a [u8]>
+    requires { start.old ≤ length held.now }
+    ensures within { start.new ≤ length held.now }
+    ensures bytes { option_copied result ≡ bytes_at_front n (drop start.old held.now) }
+    ensures rest { MatchOption (option_copied result) (drop start.new held.now ≡ drop start.old held.now)
+        (λ _. drop start.new held.now ≡ drop n (drop start.old held.now)) }
+{
+    let from = *start;
+    if held.len() - from < n {
+        return None;
+    }
+    *start = from + n;
+    Some(&held[from..from + n])
 }

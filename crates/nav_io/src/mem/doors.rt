@@ -1,7 +1,8 @@
 //! Doors and houses in memory.
-ghost use Rattle.std.specs.Prelude.{◌≡◌, ◌+◌, ◌<◌, ◌≤◌, [], ◌∷◌, ◌++◌, Some, length, vec_len, IfOk, OnOk, OnErr, IsTrue, false, ◌⊎◌};
+ghost use Rattle.std.specs.Prelude.{◌≡◌, ◌+◌, ◌<◌, ◌≤◌, ◌↔◌, [], ◌∷◌, ◌++◌, Some, length, take, vec_len, IfOk, OnOk, OnErr, IsTrue, false, ◌⊎◌};
 ghost use Rattle.nav_io.specs.Faults.{HasRisen, counted};
 ghost use Rattle.nav_io.specs.Told.{append_told, HasOut};
+ghost use Rattle.nav_io.specs.Lending.{lend, take_back};
 ghost use Rattle.nav_io.specs.Doors.{DoorState, HouseState};
 
 use super::lent::Lent;
@@ -63,10 +64,11 @@ impl Door for MemDoor {
         ensures count { self.old.faults ≤ self.new.faults }
         ensures cause { OnErr result (HasRisen self.old.faults self.new.faults) }
 
-        // It gives the first of those that wait, and fails only where there is none.
+        // It gives the first of those that wait, and fails exactly where there is none.
         ensures first { IfOk result (λ pair. self.old.pairs.waiting ≡ pair ∷ self.new.pairs.waiting) }
-        ensures none { OnErr result ((self.old.pairs.waiting ≡ []) × (self.new.pairs ≡ self.old.pairs)) }
-        ensures no_fault { OnOk result (self.new.faults ≡ self.old.faults) }
+        ensures none { OnErr result (self.old.pairs.waiting ≡ []) }
+        ensures after { OnOk result (self.new ≡ record self.old { pairs = lend 1 self.old.pairs }) }
+        ensures failed { OnErr result (self.new ≡ record self.old { faults = counted self.old.faults }) }
     {
         match self.pairs.next() {
             Some(pair) => Ok(pair),
@@ -77,7 +79,16 @@ impl Door for MemDoor {
         }
     }
 
-    fn done(&mut self, source: MemSource, sink: MemSink) {
+    fn done(&mut self, source: MemSource, sink: MemSink)
+        requires { HasOut (Some self.old.pairs.gave) (Some self.old.pairs.back) 1 }
+        ensures back { Some self.new.pairs.back ≡ append_told (Some self.old.pairs.back) ((source, sink) ∷ []) }
+        ensures given { Some self.new.pairs.gave ≡ Some self.old.pairs.gave }
+        ensures no_more_back { HasOut (Some self.new.pairs.gave) (Some self.new.pairs.back) 0 }
+        ensures count { self.old.faults ≤ self.new.faults }
+
+        // Nothing else changes.
+        ensures after { self.new ≡ record self.old { pairs = take_back self.old.pairs ((source, sink) ∷ []) } }
+    {
         self.pairs.put_back((source, sink));
     }
 }
@@ -131,7 +142,24 @@ impl House for MemHouse {
 
     ghost faults = { λ house. house.faults };
 
-    fn doors(&mut self, alloc: Global, _port: u16, count: u32) -> Result<Vec<MemDoor>, HouseFault> {
+    fn doors(&mut self, alloc: Global, _port: u16, count: u32) -> Result<Vec<MemDoor>, HouseFault>
+        ensures ok { IfOk result (λ doors. Some self.new.doors.gave ≡ append_told (Some self.old.doors.gave) doors.items) }
+        ensures all { IfOk result (λ doors. vec_len doors ≡ count) }
+        ensures out { OnOk result (HasOut (Some self.new.doors.gave) (Some self.new.doors.back) count) }
+        ensures err { OnErr result (Some self.new.doors.gave ≡ Some self.old.doors.gave) }
+        ensures back { Some self.new.doors.back ≡ Some self.old.doors.back }
+        ensures no_more_back { HasOut (Some self.new.doors.gave) (Some self.new.doors.back) 0 }
+        ensures count { self.old.faults ≤ self.new.faults }
+        ensures cause { result ≡ Err HouseFault.Failed → HasRisen self.old.faults self.new.faults }
+
+        // It gives the first of those that wait, and fails as it was told to, or where too few wait.
+        ensures first { IfOk result (λ doors. doors.items ≡ take count self.old.doors.waiting) }
+        ensures failing { (result ≡ Err HouseFault.Failed)
+            ↔ (IsTrue self.old.fails ⊎ (length self.old.doors.waiting < count)) }
+        ensures after { OnOk result (self.new ≡ record self.old { doors = lend count self.old.doors }) }
+        ensures failed { result ≡ Err HouseFault.Failed → self.new ≡ record self.old { faults = counted self.old.faults } }
+        ensures memory { result ≡ Err HouseFault.NoMemory → self.new ≡ self.old }
+    {
         let wanted = count as usize;
         let waiting = self.doors.waiting();
         if self.fails || waiting < wanted {
@@ -150,6 +178,9 @@ impl House for MemHouse {
         ensures given { Some self.new.doors.gave ≡ Some self.old.doors.gave }
         ensures no_more_back { HasOut (Some self.new.doors.gave) (Some self.new.doors.back) 0 }
         ensures count { self.old.faults ≤ self.new.faults }
+
+        // Nothing else changes.
+        ensures after { self.new ≡ record self.old { doors = take_back self.old.doors doors.items } }
     {
         self.doors.put_all_back(doors);
     }

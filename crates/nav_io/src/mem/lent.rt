@@ -1,6 +1,6 @@
 //! Things that are given out in order and come back.
 ghost use Rattle.std.specs.Prelude.{◌≡◌, ◌+◌, ◌-◌, ◌<◌, ◌≤◌, [], ◌++◌, length, vec_len, vec_capacity, take, drop, None, IfSome, OnSome, ◌∷◌, IfOk, OnOk, OnErr};
-ghost use Rattle.nav_io.specs.Lending.{Lending, IsLending};
+ghost use Rattle.nav_io.specs.Lending.{Lending, IsLending, lend};
 
 use std::alloc::{AllocError, Global};
 use std::marker::Model;
@@ -54,6 +54,7 @@ impl<T> Lent<T> {
         ensures waits { IfSome result (λ thing. self.old.waiting ≡ thing ∷ self.new.waiting) }
         ensures given { IfSome result (λ thing. self.new.gave ≡ self.old.gave ++ thing ∷ []) }
         ensures back { self.new.back ≡ self.old.back }
+        ensures after { OnSome result (self.new ≡ lend 1 self.old) }
         ensures out { OnSome result (length self.new.back < length self.new.gave) }
         ensures no_more { length self.new.back ≤ length self.new.gave }
     {
@@ -71,6 +72,8 @@ impl<T> Lent<T> {
         ensures waits { IfOk result (λ things. self.old.waiting ≡ things.items ++ self.new.waiting) }
         ensures given { IfOk result (λ things. self.new.gave ≡ self.old.gave ++ things.items) }
         ensures all { IfOk result (λ things. vec_len things ≡ n) }
+        ensures first { IfOk result (λ things. things.items ≡ take n self.old.waiting) }
+        ensures after { OnOk result (self.new ≡ lend n self.old) }
         ensures back { self.new.back ≡ self.old.back }
         ensures out { OnOk result (length self.new.back + n ≤ length self.new.gave) }
         ensures err { OnErr result (self.new ≡ self.old) }

@@ -76,6 +76,7 @@ impl Sink for MemSink {
         ensures size { IfOk result (λ n. n ≡ min self.old.piece (length bytes.now)) }
         ensures after { IfOk result (λ n. self.new ≡ record self.old { held = self.old.held ++ take n bytes.now; calls = counted self.old.calls }) }
         ensures failed { result ≡ Err SinkError.Failed → self.new ≡ record self.old { calls = counted self.old.calls; faults = counted self.old.faults } }
+        ensures memory { result ≡ Err SinkError.NoMemory → self.new ≡ record self.old { calls = counted self.old.calls } }
     {
         let fails = is_failing(&self.failing, self.calls);
         self.calls = self.calls.saturating_add(1);

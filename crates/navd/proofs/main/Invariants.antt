@@ -1,4 +1,4 @@
 use Rattle.navd.proofs.main.Given as goal
 
-abbrev pub ghosts-served : goal.ghosts-served
-ghosts-served a = record { name = a.blank.name; parts = a.blank.parts }
+abbrev pub ghosts-ended : goal.ghosts-ended
+ghosts-ended a = record { name = a.blank.name; parts = a.blank.parts }

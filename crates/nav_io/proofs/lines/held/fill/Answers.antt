@@ -1,5 +1,4 @@
 use Rattle.std.proofs.Common.{arith, ◌≡◌, ◌∙◌, length, sym}
-use Rattle.std.proofs.lemmas.Result.{IfOk-weaker, IfErr-at_err}
 use Rattle.nav_io.proofs.Cuts.{line_len-behind, line_len-behind_none, prepend_known-moved}
 use Rattle.nav_io.proofs.lines.held.fill.Goals as goal
 
@@ -9,15 +8,15 @@ returns-in-Some-clause-ok g c =
     let taken = c.in_ok-taken.ensures.ok in
     let all : c.len-before.result ≡ length c.loop-held.held.items = omega (arith, c.len-before.ensures, c.loop-held.held.ok.0) in
     let place = line_len-behind _ _ _ _ _ all taken.2 c.loop-held.invariant.no_newline c.in-Some.ensures.0 in
-    IfOk-weaker c.within_limit.result _ _ (λ n fits. (place ∙ sym fits.0, fits.1)) c.within_limit.ensures.ok
+    let fits = c.in_ok-within_limit.ensures.ok in
+    (place ∙ sym fits.0, fits.1)
 
-pub returns-in-Some-clause-too_long : goal.returns-in-Some-clause-too_long
-returns-in-Some-clause-too_long g c long =
+pub returns-in_err-within_limit-clause-too_long : goal.returns-in_err-within_limit-clause-too_long
+returns-in_err-within_limit-clause-too_long g c long =
     let taken = c.in_ok-taken.ensures.ok in
     let all : c.len-before.result ≡ length c.loop-held.held.items = omega (arith, c.len-before.ensures, c.loop-held.held.ok.0) in
     let place = line_len-behind _ _ _ _ _ all taken.2 c.loop-held.invariant.no_newline c.in-Some.ensures.0 in
-    let far = IfErr-at_err _ long c.within_limit.ensures.err in
-    rw place far.1
+    rw place c.in_err-within_limit.ensures.err
 
 pub loop-held-preserved : goal.loop-held-preserved
 loop-held-preserved g c =

@@ -1,7 +1,6 @@
 use Rattle.std.proofs.Common.{◌≡◌, ◌≤◌, ◌+◌, ◌-◌, length}
 use Rattle.std.specs.Io.KnownBytes.{prepend_known}
-use Rattle.nav_io.specs.Lines.{line_len}
-use Rattle.nav_io.specs.declared.lines.TheConstants.{LINE_MAX}
+use Rattle.nav_io.specs.Lines.{line_max, line_len}
 use Rattle.nav_io.proofs.lines.held.fill.Given as goal
 
 -- No byte is lost, and none that is held is a newline.
@@ -13,4 +12,4 @@ invariant-loop-held g l = record {
 }
 
 abbrev pub decreases-loop-held : goal.decreases-loop-held
-decreases-loop-held g l = LINE_MAX + 1 - length l.held.items
+decreases-loop-held g l = line_max + 1 - length l.held.items

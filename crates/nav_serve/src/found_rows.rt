@@ -1,0 +1,58 @@
+ghost use Rattle.std.specs.Prelude.{◌≡◌, [], ◌∷◌, IfOk, IfErr};
+ghost use Rattle.partial_path.specs.Spots.{node_at};
+ghost use Rattle.partial_path.specs.Step.{start};
+ghost use Rattle.nav_serve.specs.declared.halt.Halt.TheVariants as halt;
+ghost use Rattle.nav_serve.specs.Once.{AnswersFrom, answer_of, span_at};
+
+use crate::halt::Halt;
+use crate::once_input::ONCE_PATH;
+use graph_nodes::{FileGraph, Span};
+use nav_proto::{PlainError, Reply};
+use partial_path::Bounds;
+use std::alloc::{AllocError, Global};
+use version_tree::{Answer, PathText, Row, Rows};
+use whole_search::{Found, SearchFault, is_reference, search};
+
+/// The reply on the node of the graph, which is no reference, crowded, or has these definitions.
+pub fn node_reply(alloc: Global, graph: FileGraph, n: u32) -> Result<Reply, Halt>
+    ensures reply { IfOk result (AnswersFrom graph (start (graph ∷ []) (node_at 0 n))) }
+    ensures err { IfErr result (λ reason. reason ≡ halt.NoMemory) }
+{
+    let files = [graph];
+    if !is_reference(&files, 0, n) {
+        return Ok(Reply::Plain(PlainError::NoReference));
+    }
+    match search(alloc, &files, 0, n, Bounds::usual()) {
+        Ok(found) => Ok(Reply::Rows(answer_of(alloc, &files[0], found)?)),
+        Err(SearchFault::Crowded) => Ok(Reply::Plain(PlainError::Crowded)),
+        Err(SearchFault::NoMemory) => Err(Halt::NoMemory),
+    }
+}
+
+/// What was found, as rows of the graph's file.
+fn answer_of(alloc: Global, graph: &FileGraph, found: Found) -> Result<Answer, AllocError>
+    ensures { IfOk result (λ answer. answer ≡ answer_of graph.now found.limit found.rows) }
+{
+    let mut rows = Vec::new(alloc);
+    for hit in found.rows.items() {
+        rows.push(Row {
+            path: PathText::of(alloc, ONCE_PATH)?,
+            node: hit.node,
+            span: span_at(graph, hit.node),
+        })?;
+    }
+    Ok(Answer {
+        limit: found.limit,
+        rows: Rows::of(rows),
+    })
+}
+
+/// The span of the node, if it has one.
+fn span_at(graph: &FileGraph, n: u32) -> Option<Span>
+    ensures { result ≡ span_at graph.now n }
+{
+    match graph.nodes().get(n as usize) {
+        Some(node) => node.span,
+        None => None,
+    }
+}

@@ -1,0 +1,48 @@
+ghost use Rattle.std.specs.Prelude.{◌≡◌, ◌≤◌, ℕ, Err};
+ghost use Rattle.nav_io.specs.Faults.{HasRisen};
+ghost use Rattle.nav_serve.specs.declared.file.Refused.TheVariants as refused;
+ghost use Rattle.nav_serve.specs.declared.halt.Halt.TheVariants as halt;
+ghost use Rattle.nav_serve.specs.Files.{graph_line};
+ghost use Rattle.nav_serve.specs.Once.{node_line};
+ghost use Rattle.nav_serve.specs.Reads.{ReadsAs};
+ghost use Rattle.nav_serve.specs.Refused.{parts};
+
+use crate::file::{Refused, graph_line};
+use crate::halt::Halt;
+use crate::node_line::node_line;
+use graph_nodes::FileGraph;
+use nav_io::{LineReader, Source};
+use std::alloc::Global;
+
+/// Reads a line that has to be a graph file of that path.
+pub fn read_graph_line<S: Source>(
+    alloc: Global,
+    reader: &mut LineReader,
+    source: &mut S,
+    path: &str,
+) -> Result<FileGraph, Refused>
+    ensures reads { ReadsAs reader.old reader.new (S.left source.old) (S.left source.new) parts (graph_line path.now) result }
+    ensures count { S.faults source.old ≤ S.faults source.new }
+    ensures cause { result ≡ Err (refused.Halt halt.SourceFailed) → HasRisen (S.faults source.old) (S.faults source.new) }
+{
+    match reader.next_line(source) {
+        Ok(line) => graph_line(alloc, path, line),
+        Err(error) => Err(Refused::Halt(Halt::from(error))),
+    }
+}
+
+/// Reads a line that has to ask for a node.
+pub fn read_node_line<S: Source>(
+    alloc: Global,
+    reader: &mut LineReader,
+    source: &mut S,
+) -> Result<u32, Refused>
+    ensures reads { ReadsAs reader.old reader.new (S.left source.old) (S.left source.new) (λ n. n) node_line result }
+    ensures count { S.faults source.old ≤ S.faults source.new }
+    ensures cause { result ≡ Err (refused.Halt halt.SourceFailed) → HasRisen (S.faults source.old) (S.faults source.new) }
+{
+    match reader.next_line(source) {
+        Ok(line) => node_line(alloc, line),
+        Err(error) => Err(Refused::Halt(Halt::from(error))),
+    }
+}

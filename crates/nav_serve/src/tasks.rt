@@ -1,0 +1,76 @@
+//! The one body of the commands that read their input, answer it by one line, and end.
+ghost use Rattle.std.specs.Prelude.{◌≡◌, ◌≤◌, ℕ, IsTrue, Err};
+ghost use Rattle.nav_io.specs.Faults.{HasRisen};
+ghost use Rattle.nav_serve.specs.declared.halt.Halt.TheVariants as halt;
+ghost use Rattle.nav_serve.specs.Outside.{seen};
+ghost use Rattle.nav_serve.specs.Commands.{DoesTask, HasCause, HasNoFault, EndsTask, task_ends};
+ghost use Rattle.nav_serve.specs.Serving.{AnswersText, Serves};
+
+use crate::halt::{ANSWERED, Halt};
+use crate::once_input::once_text;
+use crate::output::write_line;
+use crate::upgrade_input::upgrade_text;
+use nav_io::{Sink, Source};
+use std::alloc::Global;
+
+/// What is to be answered.
+#[derive(Clone, Copy, Debug, PartialEq, Eq)]
+pub enum Task {
+    /// One reference of one graph.
+    Once,
+    /// A graph file, by its text in format 2.
+    Upgrade,
+}
+
+/// Reads the task's input, writes the one line that answers it, and gives the status.
+///
+/// Status 0: the line was written. 3: the source failed, and nothing was written. 4: the sink failed.
+/// 5: memory was refused. 6: a line that has to be read is longer than a line may be, and nothing was
+/// written.
+pub fn perform<S: Source, K: Sink>(task: Task, alloc: Global, source: &mut S, sink: &mut K) -> u8
+    ensures does { DoesTask task
+        (seen (S.left source.old) (S.faults source.old) (K.held sink.old) (K.faults sink.old))
+        (seen (S.left source.new) (S.faults source.new) (K.held sink.new) (K.faults sink.new)) result }
+    ensures causes { HasCause
+        (seen (S.left source.old) (S.faults source.old) (K.held sink.old) (K.faults sink.old))
+        (seen (S.left source.new) (S.faults source.new) (K.held sink.new) (K.faults sink.new)) result }
+    ensures complete { HasNoFault
+        (seen (S.left source.old) (S.faults source.old) (K.held sink.old) (K.faults sink.old))
+        (seen (S.left source.new) (S.faults source.new) (K.held sink.new) (K.faults sink.new))
+        → EndsTask task (S.left source.old) result }
+    ensures statuses { IsTrue (task_ends result) }
+{
+    match serve(task, alloc, source, sink) {
+        Ok(()) => ANSWERED,
+        Err(halt) => halt.status(),
+    }
+}
+
+// Reads the input and writes the line that answers it.
+fn serve<S: Source, K: Sink>(
+    task: Task,
+    alloc: Global,
+    source: &mut S,
+    sink: &mut K,
+) -> Result<(), Halt>
+    ensures served { Serves task (S.left source.old) (S.left source.new) (K.held sink.old) (K.held sink.new) result }
+    ensures source_failed { result ≡ Err halt.SourceFailed → HasRisen (S.faults source.old) (S.faults source.new) }
+    ensures sink_failed { result ≡ Err halt.SinkFailed → HasRisen (K.faults sink.old) (K.faults sink.new) }
+    ensures source_count { S.faults source.old ≤ S.faults source.new }
+    ensures sink_count { K.faults sink.old ≤ K.faults sink.new }
+{
+    let text = text(task, alloc, source)?;
+    write_line(sink, text)
+}
+
+// Reads the input; the text that answers it, without its newline.
+fn text<S: Source>(task: Task, alloc: Global, source: &mut S) -> Result<Vec<u8>, Halt>
+    ensures answers { AnswersText task (S.left source.old) (S.left source.new) result }
+    ensures count { S.faults source.old ≤ S.faults source.new }
+    ensures cause { result ≡ Err halt.SourceFailed → HasRisen (S.faults source.old) (S.faults source.new) }
+{
+    match task {
+        Task::Once => once_text(alloc, source),
+        Task::Upgrade => upgrade_text(alloc, source),
+    }
+}

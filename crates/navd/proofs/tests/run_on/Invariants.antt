@@ -1,0 +1,5 @@
+use Rattle.navd.proofs.tests.run_on.Given as goal
+
+-- the ledger is the one that was opened here
+abbrev pub ghosts-ended : goal.ghosts-ended
+ghosts-ended a = record { name = a.blank.name; parts = a.blank.parts }

@@ -1,0 +1,145 @@
+//! What no clause says of the program: its statuses over readers and writers as they come, and that long texts
+//! pass through them whole.
+use crate::ended;
+use std::alloc::Global;
+use std::io;
+use std::io::{ErrorKind, Read, Write};
+use std::marker::Brand;
+use std::sync::ledger::Blank;
+use std::test::Fail;
+
+/// A reader of bytes, which gives at most a thousand at a read and fails once it gave them all but the last
+/// `held_back`.
+#[derive(Drop)]
+struct Slow<'a> {
+    left: &'a [u8],
+    held_back: usize,
+}
+
+impl<'a> Read for Slow<'a> {
+    fn read(&mut self, buf: &mut [u8]) -> io::Result<usize> {
+        if self.held_back > 0 && self.left.len() <= self.held_back {
+            return Err(io::Error::from(ErrorKind::Other));
+        }
+        let n = buf
+            .len()
+            .min(self.left.len() - self.held_back.min(self.left.len()))
+            .min(1_000);
+        buf[..n].copy_from_slice(&self.left[..n]);
+        self.left = &self.left[n..];
+        Ok(n)
+    }
+}
+
+/// A writer that takes at most a thousand bytes at a write, and fails once its room is full.
+#[derive(Drop)]
+struct Filled {
+    took: Vec<u8>,
+    room: usize,
+}
+
+impl Write for Filled {
+    fn write(&mut self, buf: &[u8]) -> io::Result<usize> {
+        if self.room == 0 {
+            return Err(io::Error::from(ErrorKind::Other));
+        }
+        let n = buf.len().min(self.room).min(1_000);
+        self.took.extend_from_slice(&buf[..n])?;
+        self.room -= n;
+        Ok(n)
+    }
+
+    fn flush(&mut self) -> io::Result<()> {
+        Ok(())
+    }
+}
+
+/// The status on words that blanks part, and what was written.
+fn run_on(
+    alloc: Global,
+    line: &str,
+    input: &[u8],
+    held_back: usize,
+    room: usize,
+) -> Result<(u8, Vec<u8>), Fail> {
+    let mut words = Vec::new(alloc);
+    for word in line.split(' ') {
+        words.push(String::from_str(alloc, word)?)?;
+    }
+    let reader = Slow {
+        left: input,
+        held_back,
+    };
+    let mut writer = Filled {
+        took: Vec::new(alloc),
+        room,
+    };
+    let status = ended::<_, _, Brand>(alloc, Ok(words), reader, &mut writer, Blank::new(1));
+    Ok((status, writer.took))
+}
+
+#[test]
+fn each_status_is_told(rt: HostRuntime) -> Result<(), Fail> {
+    let input = b"{\"nodes\":[],\"edges\":[]}\n{\"node\":0}\n";
+    // The words, how many bytes the reader holds back, the writer's room, the status, and how many bytes are
+    // written.
+    let rows: [(&str, usize, usize, u8, usize); 8] = [
+        ("once", 0, 99, 0, 25),
+        ("upgrade", 0, 99, 0, 35),
+        ("once once", 0, 99, 2, 0),
+        ("once ", 0, 99, 2, 0),
+        ("run", 0, 99, 2, 0),
+        ("once", 5, 99, 3, 0),
+        ("once", 0, 7, 4, 7),
+        ("upgrade", 0, 0, 4, 0),
+    ];
+    for (line, held_back, room, status, bytes) in rows {
+        let (got, written) = run_on(rt.alloc(), line, input, held_back, room)?;
+        assert_eq!(rt;
+            (got, written.len()),
+            (status, bytes),
+            "{line} {held_back} {room}"
+        );
+    }
+    Ok(())
+}
+
+/// A graph of so many scopes, and its text in format 2 with the end of its line.
+fn scopes(alloc: Global, count: u32) -> Result<(Vec<u8>, Vec<u8>), Fail> {
+    let mut plain = b"{\"nodes\":[".to_vec(alloc)?;
+    let mut named = b"{\"edges\":[],\"format\":2,\"nodes\":[".to_vec(alloc)?;
+    for n in 0..count {
+        if n > 0 {
+            plain.push(b',')?;
+            named.push(b',')?;
+        }
+        plain.extend_from_slice(b"{\"kind\":\"scope\"}")?;
+        let node = format!(in alloc; "{{\"kind\":\"scope\",\"name\":\"n{n}\"}}")?;
+        named.extend_from_slice(node.as_bytes())?;
+    }
+    plain.extend_from_slice(b"],\"edges\":[]}\n")?;
+    named.extend_from_slice(b"]}\n")?;
+    Ok((plain, named))
+}
+
+/// The status of `upgrade` on a graph of 5,000 scopes, how many bytes of the whole output are written, and how
+/// many it has.
+fn upgraded(alloc: Global, held_back: usize, room: usize) -> Result<(u8, usize, usize), Fail> {
+    let (plain, named) = scopes(alloc, 5_000)?;
+    let (status, written) = run_on(alloc, "upgrade", plain.as_slice(), held_back, room)?;
+    if named.starts_with(written.as_slice()) {
+        Ok((status, written.len(), named.len()))
+    } else {
+        Err(Fail::new("other bytes were written"))
+    }
+}
+
+#[test]
+fn long_texts_pass_whole_or_as_far_as_the_status_tells(rt: HostRuntime) -> Result<(), Fail> {
+    let alloc = rt.alloc();
+    let (status, written, whole) = upgraded(alloc, 0, 1_000_000)?;
+    assert_eq!(rt; (status, written), (0, whole));
+    assert_eq!(rt; upgraded(alloc, 0, 70_001)?, (4, 70_001, whole));
+    assert_eq!(rt; upgraded(alloc, 100, 1_000_000)?, (3, 0, whole));
+    Ok(())
+}
