@@ -1,6 +1,7 @@
 //! The program as a function: the words after its name, its input and output, and its status.
 #![tactic(auto)]
 
+mod bad_file;
 mod file;
 mod found_rows;
 mod halt;
