@@ -25,3 +25,4 @@ pub mod BeginningLaws
 pub mod CountingLaws
 pub mod LastLaws
 pub mod WalkingLaws
+pub mod StoredLaws

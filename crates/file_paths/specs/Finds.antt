@@ -6,7 +6,10 @@ use Rattle.partial_path.specs.declared.rule.Start.{Start}
 use Rattle.partial_path.specs.Walks.{IsWalk, AreWalks, Walk, walk_of, IsHeavier}
 use Rattle.file_paths.specs.declared.fault.PathsFault.{PathsFault}
 use Rattle.file_paths.specs.declared.fault.PathsFault.TheVariants.{Heavy, NoMemory}
-use Rattle.file_paths.specs.declared.fault.TheConstants.{MAX_WEIGHT}
+
+-- the greatest weight that a file may have
+abbrev pub max_weight : ℕ
+max_weight = 1000000
 
 -- so many walks the file has
 abbrev pub HasWalks : Graph → ℕ → Type 0
@@ -22,5 +25,5 @@ AddsWalks g old new = (count : ℕ) × HasWalks g count × (new ≡ old + count)
 -- why there is no answer: the file is heavier than the limit, and the number is the limit and one; want of
 -- memory is free
 abbrev pub HasCause : Graph → PathsFault → Type 0
-HasCause g (Heavy n) = (n ≡ MAX_WEIGHT + 1) × IsHeavier MAX_WEIGHT g
+HasCause g (Heavy n) = (n ≡ max_weight + 1) × IsHeavier max_weight g
 HasCause g NoMemory = ⊤

@@ -6,7 +6,7 @@ ghost use Rattle.partial_path.specs.Walks.{alone, is_definition_place, ends_land
 ghost use Rattle.partial_path.specs.PathSets.{IsRuleOf, IsPathSet, AreFileRules, walk_of_rule};
 ghost use Rattle.file_paths.specs.declared.fault.TheConstants.{MAX_WEIGHT};
 ghost use Rattle.file_paths.specs.Finding.{IsShort, AreLongerRules, AddsLonger, LeadsTo, if_landing};
-ghost use Rattle.file_paths.specs.Finds.{AddsWalks, HasCause};
+ghost use Rattle.file_paths.specs.Finds.{max_weight, AddsWalks, HasCause};
 
 use crate::fault::{MAX_WEIGHT, PathsFault};
 use crate::growing::longer_of;
@@ -29,11 +29,11 @@ pub fn enumerate<L: Ledger>(
     ensures graph { IfOk result (λ file. file.graph ≡ graph) }
     ensures file { IfOk result AreFileRules }
     ensures steps { OnOk result (AddsWalks graph steps.old steps.new) }
-    ensures light { OnOk result (¬ IsHeavier MAX_WEIGHT graph) }
+    ensures light { OnOk result (¬ IsHeavier max_weight graph) }
     ensures fault { IfErr result (HasCause graph) }
 
     // Whatever is answered, the steps are few.
-    ensures few { steps.new ≤ steps.old + (MAX_WEIGHT + 1) }
+    ensures few { steps.new ≤ steps.old + (max_weight + 1) }
     ensures fewer { (weight : ℕ) → IsWeight graph weight → steps.new ≤ steps.old + weight }
 {
     let found = find(alloc, &graph, steps)?;

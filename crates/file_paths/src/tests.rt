@@ -1,13 +1,16 @@
 //! What no clause says: that paths are found with memory at hand, and what they do on worked graphs.
+mod joined;
+
 ghost use Rattle.std.specs.Prelude.{◌≡◌, ◌<◌};
+ghost use Rattle.partial_path.specs.FileNumbers.{IsOfFileZero};
 
 mod offers;
 
 use crate::{PathsFault, enumerate};
 use graph_nodes::{FileGraph, Steps};
 use graph_text::{apply_inside, files_of, stacks_of};
-use partial_path::{Config, FilePaths, PartialPath, Spot, Start, start, step};
-use stacks_vars::Stacks;
+use partial_path::{Config, FilePaths, PartialPath, Spot, Start, file_zero_moves, start, step};
+use stacks_vars::{NodeAt, Stacks};
 use std::alloc::Global;
 use std::marker::Brand;
 use std::sync::ledger::{Blank, Ledger};
@@ -107,7 +110,9 @@ fn agrees(
     files: &[FileGraph],
     path: &PartialPath,
     text: &str,
-) -> Result<(bool, bool), Fail> {
+) -> Result<(bool, bool), Fail>
+    requires { IsOfFileZero path.now }
+{
     let (at, mut now) = ends_of_start(alloc, files, path, text)?;
     for edge in path.edges() {
         now = match now {
@@ -172,5 +177,34 @@ fn stored_paths_do_what_their_edges_do(rt: HostRuntime) -> Result<(), Fail> {
     for (graph, agreed, made) in APPLIED {
         assert_eq!(rt; agreeing(rt.alloc(), graph)?, (agreed, made), "{graph}");
     }
+    Ok(())
+}
+
+/// Where the one path of a file, moved to file 2, leads from node 0 of the file with this number with empty
+/// stacks.
+fn moved_from(alloc: Global, file: u32) -> Result<Option<Config>, Fail> {
+    let mut files = files_of(alloc, "push m R; scope; pop m D | 0>1, 1>2")?;
+    let Some(Ok(stored)) = files.pop().map(|graph| found(alloc, graph)) else {
+        return Err(Fail::new("there are no paths"));
+    };
+    let Some(path) = stored.paths().first() else {
+        return Err(Fail::new("there is no path"));
+    };
+    file_zero_moves();
+    let spot = Spot::At(NodeAt { file, node: 0 });
+    let stacks = Stacks::new(alloc);
+    let moved = path.moved(alloc, 2)?;
+    Ok(moved.apply(alloc, 0, &Config { spot, stacks })?)
+}
+
+#[test]
+fn a_moved_path_leads_within_its_file(rt: HostRuntime) -> Result<(), Fail> {
+    let alloc = rt.alloc();
+    assert!(rt; moved_from(alloc, 0)?.is_none());
+    let Some(there) = moved_from(alloc, 2)? else {
+        return Err(Fail::new("the path leads nowhere"));
+    };
+    let end = NodeAt { file: 2, node: 2 };
+    assert!(rt; there.spot == Spot::At(end) && there.stacks.same(&Stacks::new(alloc)));
     Ok(())
 }

@@ -5,7 +5,7 @@ use Rattle.std.proofs.lemmas.List.{append_assoc, append-nil}
 use Rattle.std.proofs.Math.Seq.{drop-append_seam}
 use Rattle.graph_nodes.specs.Graph.{Graph}
 use Rattle.partial_path.specs.Walks.{IsHeavier}
-use Rattle.file_paths.specs.declared.fault.TheConstants.{MAX_WEIGHT}
+use Rattle.file_paths.specs.Finds.{max_weight}
 use Rattle.path_store.specs.Documents.{Doc}
 use Rattle.path_store.specs.Store.{Kept}
 use Rattle.index_gate.specs.declared.fault.FileFault.{FileFault}
@@ -51,7 +51,7 @@ one_fault doc a b (inr h) (inr k) = h.0 ∙ sym k.0
 
 pub none_fault : (doc : Doc) (a : FileFault) → HasFault doc a → HasNoFault doc → ⊥
 none_fault doc a (inl e) n = no_fault a n.0 (graph_of_doc doc) e n.1
-none_fault doc a (inr h) n = n.2 (subst (IsHeavier MAX_WEIGHT) (same_graph h.1.0 n.0 (graph_of_doc doc) h.1.1 n.1) h.1.2)
+none_fault doc a (inr h) n = n.2 (subst (IsHeavier max_weight) (same_graph h.1.0 n.0 (graph_of_doc doc) h.1.1 n.1) h.1.2)
 
 -- documents that are indexed twice count the steps of once
 no_pairs : (ks : List Kept) → docs_of ks ≡ [] → ks ≡ []

@@ -12,8 +12,7 @@ use Rattle.py_graph.specs.declared.fault.TransFault.{TransFault}
 use Rattle.py_graph.specs.declared.fault.TransFault.TheVariants as table
 use Rattle.partial_path.specs.PathSets.{FileRules, AreFileRules}
 use Rattle.partial_path.specs.Walks.{IsWeight, IsHeavier}
-use Rattle.file_paths.specs.Finds.{AddsWalks}
-use Rattle.file_paths.specs.declared.fault.TheConstants.{MAX_WEIGHT}
+use Rattle.file_paths.specs.Finds.{max_weight, AddsWalks}
 use Rattle.path_store.specs.Documents.{Doc, same_doc}
 use Rattle.path_store.specs.Store.{Kept, kept_of}
 use Rattle.index_gate.specs.declared.fault.FileFault.{FileFault}
@@ -24,11 +23,11 @@ use Rattle.index_gate.specs.Graphs.{graph_of_doc}
 
 -- a document's graph is heavier than a file may be
 abbrev pub IsTooHeavy : Doc → Type 0
-IsTooHeavy doc = (g : Graph) × (graph_of_doc doc ≡ Ok g) × IsHeavier MAX_WEIGHT g
+IsTooHeavy doc = (g : Graph) × (graph_of_doc doc ≡ Ok g) × IsHeavier max_weight g
 
 -- a document has this fault: it has no graph for this reason, or its graph is too heavy
 abbrev pub HasFault : Doc → FileFault → Type 0
-HasFault doc fault = (graph_of_doc doc ≡ Err fault) ⊎ ((fault ≡ Heavy (MAX_WEIGHT + 1)) × IsTooHeavy doc)
+HasFault doc fault = (graph_of_doc doc ≡ Err fault) ⊎ ((fault ≡ Heavy (max_weight + 1)) × IsTooHeavy doc)
 
 -- whether a fault tells of want of memory; no fault of a document does
 abbrev pub is_graph_memory : GraphFault → Bool
@@ -73,7 +72,7 @@ is_memory (Heavy n) = false
 -- a document without a fault, with all paths of its graph
 pub record IsIndexed (k : Kept) : Type 0 where
   pub graph : graph_of_doc k.doc ≡ Ok k.paths.graph
-  pub light : ¬ IsHeavier MAX_WEIGHT k.paths.graph
+  pub light : ¬ IsHeavier max_weight k.paths.graph
   pub paths : AreFileRules k.paths
 
 -- what a store of indexed documents holds
@@ -89,7 +88,7 @@ AreFilesOf (doc ∷ docs) (file ∷ files) = IsIndexed (kept_of doc file) × Are
 
 -- a document without a fault
 abbrev pub HasNoFault : Doc → Type 0
-HasNoFault doc = (g : Graph) × (graph_of_doc doc ≡ Ok g) × (¬ IsHeavier MAX_WEIGHT g)
+HasNoFault doc = (g : Graph) × (graph_of_doc doc ≡ Ok g) × (¬ IsHeavier max_weight g)
 
 -- the first document with a fault has this path, and this is its fault
 pub record IsFirstFault (docs : List Doc) (name : List ℕ) (why : FileFault) : Type 0 where

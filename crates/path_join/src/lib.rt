@@ -12,6 +12,3 @@ mod writing;
 
 pub use joining::join;
 pub use units::{opening, unit};
-
-#[cfg(test)]
-mod tests;

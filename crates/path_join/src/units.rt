@@ -3,6 +3,7 @@ ghost use Rattle.graph_nodes.specs.Graph.{is_reference, has_place};
 ghost use Rattle.graph_nodes.specs.Checked.{is_jump};
 ghost use Rattle.partial_path.specs.declared.rule.Start.TheVariants.{Before};
 ghost use Rattle.partial_path.specs.Spots.{node_at};
+ghost use Rattle.partial_path.specs.FileNumbers.{IsOfFileZero};
 ghost use Rattle.partial_path.specs.PathSets.{IsRuleOf};
 ghost use Rattle.path_join.specs.Units.{place_spot, place_rule, edge_alone, after_source};
 
@@ -20,6 +21,7 @@ pub fn unit(alloc: Global, graph: &FileGraph, edge: u32) -> Result<PartialPath, 
     ensures edges { IfOk result (λ path. path.edges ≡ edge_alone edge ∷ []) }
     ensures peak { IfOk result (λ path. path.peak ≤ 1) }
     ensures rule { IfOk result (IsRuleOf graph.now) }
+    ensures files { IfOk result IsOfFileZero }
 {
     let found = edge_of(graph, edge);
     let start = Start::After(spot_of(found.source));
@@ -35,6 +37,7 @@ pub fn opening(alloc: Global, graph: &FileGraph, node: u32) -> Result<PartialPat
     ensures edges { IfOk result (λ path. path.edges ≡ []) }
     ensures peak { IfOk result (λ path. path.peak ≤ 1) }
     ensures rule { IfOk result (IsRuleOf graph.now) }
+    ensures files { IfOk result IsOfFileZero }
 {
     let start = Start::Before(NodeAt { file: 0, node });
     place_entered(alloc, graph, start, Place::At(node), Vec::new(alloc))

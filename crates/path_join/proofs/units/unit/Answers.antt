@@ -5,6 +5,7 @@ use Rattle.graph_nodes.specs.Graph.{Graph}
 use Rattle.partial_path.specs.declared.config.EdgeAt.{EdgeAt}
 use Rattle.partial_path.specs.declared.rule.Start.TheVariants.{After}
 use Rattle.partial_path.specs.Rules.{Rule}
+use Rattle.partial_path.specs.FileNumbers.{IsOfFileZero}
 use Rattle.partial_path.specs.PathSets.{IsRuleOf}
 use Rattle.path_join.specs.Units.{place_rule, place_action}
 use Rattle.path_join.proofs.CodeUnits.{peak-low}
@@ -31,3 +32,7 @@ returns-clause-peak c =
     (λ (path : Rule). path ≡ rule c.in_ok-edges.edges.items) (λ (path : Rule). path.peak ≤ 1)
     (λ path e. subst (λ (r : Rule). r.peak ≤ 1) (sym e) (peak-low (place_action g c.edge_of-found.result.sink)))
     c.place_entered.ensures
+
+pub returns-clause-files : goal.returns-clause-files
+returns-clause-files c =
+    IfOk-weaker c.place_entered.result (IsRuleOf c.args.graph.now) IsOfFileZero (λ path h. h.files) (returns-clause-rule c)

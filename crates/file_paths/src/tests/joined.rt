@@ -1,7 +1,13 @@
-use crate::{join, opening, unit};
+//! What no clause says of joined paths: that they are made with memory at hand, and what they do on worked
+//! graphs.
+ghost use Rattle.std.specs.Prelude.{◌+◌, ◌<◌, ◌^◌, length, IfOk, IfSome};
+ghost use Rattle.path_join.specs.Joins.{joined_peak};
+ghost use Rattle.partial_path.specs.FileNumbers.{IsOfFileZero};
+
 use graph_nodes::{FileGraph, NodeKind};
 use graph_text::{apply_inside, files_of, stacks_of};
 use partial_path::{Config, EdgeAt, End, PartialPath, Spot, step};
+use path_join::{join, opening, unit};
 use stacks_vars::NodeAt;
 use std::alloc::{AllocError, Global};
 use std::test::Fail;
@@ -38,7 +44,9 @@ fn is(alloc: Global, found: &Option<Config>, wanted: &str) -> Result<bool, Fail>
 }
 
 /// The unit of the edge, where there is one.
-fn unit_at(alloc: Global, graph: &FileGraph, edge: u32) -> Result<Option<PartialPath>, AllocError> {
+fn unit_at(alloc: Global, graph: &FileGraph, edge: u32) -> Result<Option<PartialPath>, AllocError>
+    ensures { IfOk result (λ found. IfSome found IsOfFileZero) }
+{
     if edge >= graph.edge_count() {
         return Ok(None);
     }
@@ -50,7 +58,9 @@ fn opening_at(
     alloc: Global,
     graph: &FileGraph,
     node: u32,
-) -> Result<Option<PartialPath>, AllocError> {
+) -> Result<Option<PartialPath>, AllocError>
+    ensures { IfOk result (λ found. IfSome found IsOfFileZero) }
+{
     if node >= graph.node_count() {
         return Ok(None);
     }
@@ -68,7 +78,11 @@ fn joined(
     alloc: Global,
     p: &PartialPath,
     q: &PartialPath,
-) -> Result<Option<PartialPath>, AllocError> {
+) -> Result<Option<PartialPath>, AllocError>
+    requires p { IsOfFileZero p.now }
+    requires q { IsOfFileZero q.now }
+    ensures { IfOk result (λ found. IfSome found IsOfFileZero) }
+{
     if p.edges().len() > 100 || q.edges().len() > 100 {
         return Ok(None);
     }
@@ -78,6 +92,21 @@ fn joined(
     if p.post().symbols.len() > 100 || q.pre().symbols.len() > 100 {
         return Ok(None);
     }
+    join_inside(alloc, p, q)
+}
+
+/// The join of two paths of file 0 alone, which is such a path.
+fn join_inside(
+    alloc: Global,
+    p: &PartialPath,
+    q: &PartialPath,
+) -> Result<Option<PartialPath>, AllocError>
+    requires edges { length p.now.edges + length q.now.edges < 2 ^ 32 }
+    requires peak { joined_peak p.now q.now < 2 ^ 32 }
+    requires p { IsOfFileZero p.now }
+    requires q { IsOfFileZero q.now }
+    ensures { IfOk result (λ found. IfSome found IsOfFileZero) }
+{
     join(alloc, p, q)
 }
 
@@ -87,7 +116,10 @@ fn extended(
     graph: &FileGraph,
     path: PartialPath,
     edges: &[u32],
-) -> Result<Option<PartialPath>, AllocError> {
+) -> Result<Option<PartialPath>, AllocError>
+    requires { IsOfFileZero path }
+    ensures { IfOk result (λ found. IfSome found IsOfFileZero) }
+{
     let mut path = path;
     for edge in edges {
         let Some(next) = unit_at(alloc, graph, *edge)? else {
@@ -107,7 +139,9 @@ fn path_of(
     graph: &FileGraph,
     first: u32,
     edges: &[u32],
-) -> Result<Option<PartialPath>, AllocError> {
+) -> Result<Option<PartialPath>, AllocError>
+    ensures { IfOk result (λ found. IfSome found IsOfFileZero) }
+{
     match unit_at(alloc, graph, first)? {
         Some(path) => extended(alloc, graph, path, edges),
         None => Ok(None),
