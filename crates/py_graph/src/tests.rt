@@ -143,35 +143,37 @@ fn graphs_are_those_of_the_table(rt: HostRuntime) -> Result<(), Fail> {
 }
 
 /// Paths, and whether they give a name of a module.
-const PATHS: [(&str, bool); 16] = [
-    ("my-tool.py", false),
-    ("a.py", true),
-    ("a/b/c.py", true),
-    ("_a1/B2.py", true),
-    ("a/__init__.py", true),
-    ("a/__init__/b.py", true),
-    ("__init__.py", false),
-    ("__init__/__init__.py", true),
-    (".py", false),
-    ("a/.py", false),
-    ("a//b.py", false),
-    ("/a.py", false),
-    ("1a.py", false),
-    ("class.py", false),
-    ("a.b.py", false),
-    ("a.txt", false),
-];
+const PATHS: &str = "my-tool.py => no name
+a.py => a name
+a/b/c.py => a name
+_a1/B2.py => a name
+a/__init__.py => a name
+a/__init__/b.py => a name
+__init__.py => no name
+__init__/__init__.py => a name
+.py => no name
+a/.py => no name
+a//b.py => no name
+/a.py => no name
+1a.py => no name
+class.py => no name
+a.b.py => no name
+a.txt => no name";
+
+/// Whether a path gives a name of a module, which here is an empty one.
+fn named(alloc: Global, path: &str) -> &'static str {
+    match graph_at(alloc, path, "").err() {
+        None => "a name",
+        Some(TransFault::BadName) => "no name",
+        Some(_) => "another fault",
+    }
+}
 
 #[test]
 fn paths_give_names(rt: HostRuntime) {
-    for (path, gives) in PATHS {
-        let fault = graph_at(rt.alloc(), path, "").err();
-        let wanted = if gives {
-            None
-        } else {
-            Some(TransFault::BadName)
-        };
-        assert_eq!(rt; fault, wanted, "{path}");
+    for row in PATHS.split('\n') {
+        let (path, wanted) = row.split_once(" => ").unwrap_or((row, "no arrow"));
+        assert_eq!(rt; named(rt.alloc(), path), wanted, "{path}");
     }
 }
 

@@ -1,8 +1,10 @@
 //! Texts with what they are read as.
 
+use crate::items::Items;
 use crate::token::PyFault;
+use crate::tree::{Module, PyText, Stmt, Word};
 use crate::whole::parse;
-use std::alloc::Global;
+use std::alloc::{AllocError, Global};
 use std::test::Fail;
 
 /// The fault of a text, if it has one.
@@ -203,6 +205,40 @@ fn a_module_of_65_536_tokens_is_read(rt: HostRuntime) -> Result<(), Fail> {
     let alloc = rt.alloc();
     let text = lines(alloc, 32_768)?;
     assert_eq!(rt; told(alloc, text.as_str())?.as_str(), "a module");
+    Ok(())
+}
+
+/// The module of `from a import *`, made by hand.
+fn made(alloc: Global) -> Result<Module, AllocError> {
+    let mut names = Vec::new(alloc);
+    names.push(Word {
+        text: PyText::of(String::from_str(alloc, "a")?),
+        line: 0,
+        from_column: 5,
+        to_column: 6,
+    })?;
+    let mut body = Vec::new(alloc);
+    body.push(Stmt::FromAll(Items::of(names)))?;
+    Ok(Module {
+        body: Items::of(body),
+    })
+}
+
+/// The text of the first name of a module that begins with `from .. import *`.
+fn first_name(alloc: Global, module: Module) -> Result<String, AllocError> {
+    match module.body.into_items().as_slice() {
+        [Stmt::FromAll(names), ..] => match names.items() {
+            [name, ..] => String::from_str(alloc, name.text.as_str()),
+            [] => String::from_str(alloc, "no name"),
+        },
+        _ => String::from_str(alloc, "another module"),
+    }
+}
+
+#[test]
+fn a_module_can_be_made_by_hand(rt: HostRuntime) -> Result<(), Fail> {
+    let alloc = rt.alloc();
+    assert_eq!(rt; first_name(alloc, made(alloc)?)?.as_str(), "a");
     Ok(())
 }
 

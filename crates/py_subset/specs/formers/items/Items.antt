@@ -19,21 +19,26 @@ use Rattle.py_subset.specs.declared.items.Items.TheView.{view, invariant}
 use Rattle.py_subset.specs.contracts.items.Items as C
 use Rattle.py_subset.specs.contracts.items.Items.TheInside as I
 
+-- a type of lists of what the type holds
 abbrev pub the_former : Former {0} → Former {0}
 the_former g = list g
 
+-- lists weigh what their elements do
 abbrev pub the_weighed : {g : Former {0}} → Weighed g → Weighed (the_former g)
 the_weighed w = w_list w
 
+-- no elements
 pub the_empty : List ⊥
 the_empty = []
 
+-- the elements of a list
 abbrev pub the_items : (X : Type 0) → List X → List X
 the_items X d = d
 
 pub the_items_listed : (X : Type 0) (d : List X) → listed _ (children (the_former this) X d) ≡ the_items X d
 the_items_listed X d = list-listed X d
 
+-- the one field, a vector
 abbrev fields : Former {0}
 fields = via (vec.the_former this Global) Inside (λ X a. a.items) (λ X v. record { items = v }) (λ X a. refl) (λ X v. refl)
 
