@@ -1,5 +1,6 @@
 #!/usr/bin/env python3
 """Times `navd once` on graphs made here, and prints one table; every figure is of this one run.
+The last rows are its peak memory on 4,000 runs that push one symbol, long and short.
 
 usage: bench/once.py [PROGRAM]     (crates/navd/out/navd, as `make example` leaves it)
 
@@ -8,6 +9,7 @@ are seconds, beside those of the smallest graph, which is what starting the prog
 """
 
 import json
+import os
 import subprocess
 import sys
 import time
@@ -32,6 +34,25 @@ def seconds(command, data):
         took = time.perf_counter() - start
         best = took if best is None else min(best, took)
     return best
+
+
+def peak_memory(command, data):
+    """The most memory that the command held, in megabytes."""
+    child = subprocess.Popen(command, stdin=subprocess.PIPE, stdout=subprocess.DEVNULL)
+    child.stdin.write(data)
+    child.stdin.close()
+    _, status, used = os.wait4(child.pid, 0)
+    child.returncode = os.waitstatus_to_exitcode(status)
+    if child.returncode != 0:
+        raise subprocess.CalledProcessError(child.returncode, command)
+    return used.ru_maxrss / 1024
+
+
+def fan(symbol, edges):
+    """So many edges from a reference of the symbol to an exported scope, and one on to another symbol's definition."""
+    reference = {"kind": "push", "symbol": symbol, "reference": True}
+    exported = {"kind": "scope", "exported": True}
+    return text([reference, exported, OTHER], [[0, 1, 0]] * edges + [[1, 2, 0]])
 
 
 def chain(length, last):
@@ -83,6 +104,9 @@ def main():
     for name, data in rows:
         took = smallest if data is None else seconds([PROGRAM, "once"], data + asked)
         print(f"{name:46} {took:8.3f} s   {took / smallest:8.1f} times the smallest")
+    for length in (8, 800_000):
+        held = peak_memory([PROGRAM, "once"], fan("x" * length, 4_000) + asked)
+        print(f"{f'4,000 runs, a symbol of {length:,} bytes':46} {held:8.1f} MB at most")
 
 
 if __name__ == "__main__":

@@ -65,6 +65,7 @@ module _ (g : Graph) (i : ℕ) (s : Spot) (p u j : Rule) (rule : IsRuleOf g p) (
   -- the joined rule is the rule of its own edges
   pub joined_is_rule : IsRuleOf g j
   joined_is_rule = record {
+    files = join.files rule.files unit.exact.files;
     applies = λ (c : Config). join.applies c ∙ (both_run g i s p u rule unit c ∙ joined_runs g i s p u j unit join c);
     peak = joined_peak;
   }

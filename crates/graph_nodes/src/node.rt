@@ -1,5 +1,6 @@
 use std::alloc::{AllocError, Global};
 use std::marker::Model;
+use std::sync::Arc;
 
 /// A place of a graph that an edge leaves or enters.
 #[derive(Clone, Copy, Debug, PartialEq, Eq)]
@@ -29,40 +30,61 @@ pub struct Edge {
     pub precedence: u16,
 }
 
-/// A symbol's text. A contract sees its bytes, which are UTF-8.
+/// A symbol's text, shared by all that hold it. A contract sees its bytes, which are UTF-8.
 #[derive(Debug, Drop)]
 pub struct Name {
-    text: String,
+    bytes: Arc<Vec<u8>, Global>,
 }
 
 impl Model for Name {
     ghost use Rattle.std.specs.Prelude.{ℕ, List};
-    ghost use Rattle.std.specs.String.{string_bytes};
+    ghost use Rattle.std.specs.Arc.{arc_value};
+    ghost use Rattle.std.specs.Str.{IsUtf8};
 
     ghost Value = { List ℕ };
 
-    ghost view = { λ n. string_bytes n.text };
+    ghost view = { λ n. (arc_value n.bytes).items };
+
+    ghost invariant = { λ n. IsUtf8 (arc_value n.bytes).items };
 }
 
 impl Name {
     ghost use Rattle.std.specs.Prelude.{◌≡◌, IfOk};
+    ghost use Rattle.std.specs.Arc.{arc_value};
     ghost use Rattle.std.specs.Str.{IsUtf8};
 
-    /// A name of this text; the one error is want of memory.
+    /// A name of this text, which is copied; the one error is want of memory.
     pub fn of(alloc: Global, text: &str) -> Result<Name, AllocError>
         ensures { IfOk result (λ name. name ≡ text.now) }
     {
         Ok(Name {
-            text: String::from_str(alloc, text)?,
+            bytes: Arc::new(alloc, Vec::from_slice(alloc, text.as_bytes())?)?,
         })
     }
 
-    /// The name as text.
+    /// The name as text, at the cost of its length, since its bytes are read. `as_bytes` takes constant
+    /// time.
     pub fn as_str(&self) -> &str
         ensures value { result.now ≡ self.now }
         ensures utf8 { IsUtf8 self.now }
     {
-        self.text.as_str()
+        str::from_utf8(self.as_bytes()).unwrap()
+    }
+
+    /// The name's bytes.
+    pub fn as_bytes(&self) -> &[u8]
+        ensures value { result.now ≡ self.now }
+        ensures utf8 { IsUtf8 self.now }
+    {
+        self.bytes.as_slice()
+    }
+
+    /// The bytes themselves, held once more and not copied. The one error is want of room to count one
+    /// holder more.
+    pub fn shared(&self) -> Result<Arc<Vec<u8>, Global>, AllocError>
+        ensures { IfOk result (λ bytes. (arc_value bytes).items ≡ self.now) }
+    {
+        Arc::try_clone(&self.bytes)
     }
 }
 

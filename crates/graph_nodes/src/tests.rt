@@ -1,5 +1,6 @@
 use super::*;
 use std::alloc::Global;
+use std::sync::Arc;
 use std::test::Fail;
 
 const R: Place = Place::Root;
@@ -181,5 +182,14 @@ fn limits_are_reached_and_not_passed(rt: HostRuntime) -> Result<(), Fail> {
         loops(alloc, 16_384, 65_537)?,
         Some(GraphFault::TooManyEdges(65_537))
     );
+    Ok(())
+}
+
+#[test]
+fn a_name_shares_its_bytes(rt: HostRuntime) -> Result<(), Fail> {
+    let name = Name::of(rt.alloc(), "xy")?;
+    let bytes = name.shared()?;
+    assert_eq!(rt; Arc::strong_count(&bytes), 2);
+    assert_eq!(rt; bytes.as_slice(), name.as_bytes());
     Ok(())
 }

@@ -17,3 +17,5 @@ pub mod Swaps
 pub mod SwappedRules
 pub mod SwappedRuns
 pub mod Applied
+pub mod FileNumberLaws
+pub mod MovedRules

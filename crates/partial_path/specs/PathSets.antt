@@ -8,11 +8,13 @@ use Rattle.partial_path.specs.declared.rule.Start.{Start}
 use Rattle.partial_path.specs.Runs.{IsApart}
 use Rattle.partial_path.specs.Rules.{Rule}
 use Rattle.partial_path.specs.Apply.{apply, height}
+use Rattle.partial_path.specs.FileNumbers.{IsOfFileZero}
 use Rattle.partial_path.specs.Walks.{alone, run_from, highest_from, IsLandingWalk, Walk, walk_of, IsWeight}
 
 -- the rule stands for the run of its own edges from its own start, in the file alone: applying it is that
--- run on every configuration, and its peak is exact wherever it applies
+-- run on every configuration, its peak is exact wherever it applies, and it names no other file
 pub record IsRuleOf (g : Graph) (rule : Rule) : Type 0 where
+  pub files : IsOfFileZero rule
   pub applies : (c : Config) → apply rule c ≡ run_from (alone g) rule.start rule.edges c
   pub peak : (c : Config) → IsSome (apply rule c) → height rule c ≡ highest_from (alone g) rule.start rule.edges c
 

@@ -119,7 +119,7 @@ fn end_at(base: u32, end: End, stacks: Stacks) -> Option<Config>
 }
 
 /// The spot with `base` added to its file's number.
-fn moved_spot(base: u32, spot: Spot) -> Spot
+pub fn moved_spot(base: u32, spot: Spot) -> Spot
     requires { FitsSpot base spot }
     ensures { result ≡ moved_spot base spot }
 {

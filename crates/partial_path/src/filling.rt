@@ -48,7 +48,7 @@ fn filled_item(
         None => None,
     };
     Ok(SymbolItem {
-        symbol: out.symbol.copy(alloc)?,
+        symbol: out.symbol.copy()?,
         scopes,
     })
 }

@@ -11,6 +11,7 @@ mod file_paths;
 mod filling;
 mod laws;
 mod matching;
+mod moving;
 mod offers;
 mod path;
 mod places;
@@ -29,6 +30,7 @@ pub use laws::{
     applied_paths_are_offered, cut_prefixes_are_closed, cycles_are_cut, files_offer_their_own,
     limits_are_as_stated, moved_paths_are_runs, moved_starts_are_starts, no_edges_no_walks,
 };
+pub use moving::file_zero_moves;
 pub use offers::FileOffers;
 pub use path::PartialPath;
 pub use places::{edge_at, is_at_definition, is_definition_spot, node_at};
@@ -36,7 +38,7 @@ pub use rule::{End, Start};
 pub use shared::SharedPaths;
 pub use slots::KEY_SIZE;
 pub use source::PathSource;
-pub use stepping::{is_cut_edge, start, step};
+pub use stepping::{is_cut_edge, start, step, symbol_of};
 
 #[cfg(test)]
 mod tests;

@@ -38,7 +38,7 @@ pub fn is_moved(base: u32, node: NodeAt, at: NodeAt) -> bool
 pub fn rest_of(base: u32, pat: &ScopePat, mut scopes: ScopeStack) -> Option<ScopeStack>
     ensures { result ≡ after_fixed (map (moved_node base) pat.now.fixed) scopes }
 {
-    let left = left_after(base, pat.fixed.items(), scopes.items())?;
+    let left = left_after(base, pat.fixed.items(), scopes.reversed())?;
     scopes.keep(left);
     Some(scopes)
 }
@@ -100,7 +100,7 @@ pub fn meets_item(base: u32, pat: &SymPat, item: &SymbolItem) -> bool
 pub fn meets_scopes(base: u32, pat: &ScopePat, scopes: &ScopeStack) -> bool
     ensures { result ≡ is_some (after_fixed (map (moved_node base) pat.now.fixed) scopes.now) }
 {
-    left_after(base, pat.fixed.items(), scopes.items()).is_some()
+    left_after(base, pat.fixed.items(), scopes.reversed()).is_some()
 }
 
 /// Whether the first symbols are as they are asked for. It takes no memory, and time that follows the
@@ -108,7 +108,7 @@ pub fn meets_scopes(base: u32, pat: &ScopePat, scopes: &ScopeStack) -> bool
 pub fn meets_items(base: u32, asked: &[SymPat], symbols: &SymbolStack) -> bool
     ensures { result ≡ is_some (match_items (map (moved_symbol base) asked.now) symbols.now) }
 {
-    let items = symbols.items();
+    let items = symbols.reversed();
     let mut left = items.len();
     for pat in asked {
         if left == 0 {

@@ -6,13 +6,13 @@ ghost use Rattle.partial_path.specs.Step.{action_of, enter_jump, enter_place, st
 
 use crate::config::{Config, EdgeAt, Spot};
 use crate::places::{edge_at, node_at};
-use graph_nodes::{Edge, FileGraph, NodeKind, Place};
-use stacks_vars::{NodeAt, Stacks, drop_scopes, jump, pop, pop_scoped, push, push_scoped};
+use graph_nodes::{Edge, FileGraph, Name, NodeKind, Place};
+use stacks_vars::{NodeAt, Stacks, Symbol, drop_scopes, jump, pop, pop_scoped, push, push_scoped};
 use std::alloc::{AllocError, Global};
 
 /// The configuration after the edge; None where there is no such edge, or it doesn't leave where the
 /// path stands, or its sink refuses entry. The one error is want of memory. The stacks are taken over,
-/// not copied.
+/// not copied, and a symbol that is pushed is shared with the graph.
 pub fn step(
     alloc: Global,
     files: &[FileGraph],
@@ -155,13 +155,21 @@ fn enter_node(
 {
     match kind {
         NodeKind::Scope { .. } => Ok(Some(stacks)),
-        NodeKind::Push { symbol, .. } => Ok(Some(push(alloc, stacks, symbol.as_str().as_bytes())?)),
+        NodeKind::Push { symbol, .. } => Ok(Some(push(stacks, symbol_of(symbol)?)?)),
         NodeKind::PushScoped { symbol, scope, .. } => {
             let scope = NodeAt { file, node: *scope };
-            Ok(Some(push_scoped(alloc, stacks, symbol.as_str().as_bytes(), scope)?))
+            Ok(Some(push_scoped(alloc, stacks, symbol_of(symbol)?, scope)?))
         }
-        NodeKind::Pop { symbol, .. } => Ok(pop(stacks, symbol.as_str().as_bytes())),
-        NodeKind::PopScoped { symbol, .. } => Ok(pop_scoped(stacks, symbol.as_str().as_bytes())),
+        NodeKind::Pop { symbol, .. } => Ok(pop(stacks, symbol.as_bytes())),
+        NodeKind::PopScoped { symbol, .. } => Ok(pop_scoped(stacks, symbol.as_bytes())),
         NodeKind::Drops => Ok(Some(drop_scopes(stacks))),
     }
+}
+
+/// The symbol of that name, whose bytes both share. The one error is want of room to count one holder
+/// more.
+pub fn symbol_of(name: &Name) -> Result<Symbol, AllocError>
+    ensures { IfOk result (λ symbol. symbol ≡ name.now) }
+{
+    Ok(Symbol::sharing(name.shared()?))
 }

@@ -29,6 +29,9 @@ use Rattle.partial_path.specs.Runs.{run}
 use Rattle.partial_path.specs.Walks.{alone, highest}
 use Rattle.partial_path.specs.PathSets.{IsRuleOf}
 use Rattle.path_join.specs.Units.{asked_by, made_by, peak_by, place_end, place_action, place_rule, place_spot, edge_alone}
+use Rattle.std.proofs.lemmas.List.Elements.{All-nil, All-cons}
+use Rattle.partial_path.specs.FileNumbers.{EdgeIn}
+use Rattle.path_join.proofs.FilesLaws.{place_in, source_in}
 use Rattle.path_join.proofs.CodeUnits.{rewrites, entry-high, max-same}
 
 -- a node that is there
@@ -160,6 +163,9 @@ unit-applied g edge here es c there =
 pub unit-exact : (g : Graph) (e : ℕ) (edge : Edge) (here : Spot) → slice_get g.edges e ≡ Some edge → place_spot edge.source ≡ Some here
     → IsTrue (has_place (length g.nodes) edge.sink) → IsRuleOf g (place_rule g (After here) edge.sink (edge_alone e ∷ []))
 unit-exact g e edge here s h there = record {
+  files = place_in (λ (file : ℕ). file ≡ 0) refl g (After here) edge.sink (edge_alone e ∷ [])
+      (source_in (λ (file : ℕ). file ≡ 0) refl edge.source here h)
+      (All-cons (EdgeIn (λ (file : ℕ). file ≡ 0)) (edge_alone e) [] refl (All-nil (EdgeIn (λ (file : ℕ). file ≡ 0))));
   applies = λ (c : Config).
       unit-applied g edge here (edge_alone e ∷ []) c there
       ∙ begun (λ (first : Config). run (alone g) first (edge_alone e ∷ [])) c (spot_eq here c.spot) (enter_place (alone g) 0 edge.sink c.stacks)
@@ -179,6 +185,7 @@ opening-applied g n c there =
 
 pub opening-exact : (g : Graph) (n : ℕ) → IsTrue (has_place (length g.nodes) (place.At n)) → IsRuleOf g (place_rule g (Before (node_at 0 n)) (place.At n) [])
 opening-exact g n there = record {
+  files = place_in (λ (file : ℕ). file ≡ 0) refl g (Before (node_at 0 n)) (place.At n) [] refl (All-nil (EdgeIn (λ (file : ℕ). file ≡ 0)));
   applies = λ (c : Config). opening-applied g n c there ∙ sym (as_it_is (cond (spot_eq (spot.At (node_at 0 n)) c.spot) (enter_place (alone g) 0 (place.At n) c.stacks) None));
   peak = λ (c : Config) is.
       high-begun (alone g) c (spot_eq (spot.At (node_at 0 n)) c.spot) (enter_place (alone g) 0 (place.At n) c.stacks)

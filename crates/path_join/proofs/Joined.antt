@@ -1,6 +1,6 @@
 -- The join of two paths does what the one and then the other does, and is a rule; where there is none, no
 -- configuration passes both.
-use Rattle.std.proofs.Common.{◌≡◌, true, Some, None, refl, subst}
+use Rattle.std.proofs.Common.{◌≡◌, ℕ, true, Some, None, refl, subst}
 use Rattle.partial_path.specs.declared.config.Config.{Config}
 use Rattle.partial_path.specs.Rules.{Rule, IsRule}
 use Rattle.path_join.specs.Joins.{IsJoin, NonePasses}
@@ -10,6 +10,7 @@ use Rattle.path_join.proofs.AppliesLaws.{the_join, joined-applies, no-join, IsMa
 use Rattle.path_join.proofs.HeightsLaws.{joined-high}
 use Rattle.path_join.proofs.RuledLaws.{good-joined, joined-ruled}
 use Rattle.path_join.proofs.PassedLaws.{some-passes}
+use Rattle.path_join.proofs.FilesLaws.{made_in}
 
 -- the variables of a rule are good
 good-rule : (p : Rule) → IsRule p → good_post p.pre.symbols p.post ≡ true
@@ -19,6 +20,7 @@ is_join : (p q j : Rule) → IsRule p → (m : IsMade p q j) → IsJoin p q (the
 is_join p q j h m = record {
   start = refl;
   edges = refl;
+  files = λ first second. made_in (λ (file : ℕ). file ≡ 0) p q m.asked m.known first second m.asks m.knows;
   peak = refl;
   applies = λ (c : Config). joined-applies p q m.asked m.known c (good-rule p h) m.asks m.knows;
   high = joined-high p q m.asked m.known (good-rule p h) m.knows;

@@ -27,3 +27,4 @@ pub mod Joined
 pub mod CodeWritten
 pub mod CodeUnits
 pub mod CodeExact
+pub mod FilesLaws

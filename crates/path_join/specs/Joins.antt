@@ -4,6 +4,7 @@ use Rattle.std.specs.Option.{option_and_then}
 use Rattle.partial_path.specs.declared.config.Config.{Config}
 use Rattle.partial_path.specs.Rules.{Rule}
 use Rattle.partial_path.specs.Apply.{apply, height}
+use Rattle.partial_path.specs.FileNumbers.{IsOfFileZero}
 
 -- the first path applied, and then the second; None where either has no result
 abbrev pub apply_both : Rule → Rule → Config → Option Config
@@ -16,10 +17,11 @@ joined_peak p q =
 
 -- the join of two paths: it begins as the first does, has the edges of both, does on every configuration
 -- what the one and then the other does, is as high on its way as the higher of the two, and isn't idle:
--- some configuration passes both
+-- some configuration passes both. It is of file 0 alone where both are
 pub record IsJoin (p : Rule) (q : Rule) (j : Rule) : Type 0 where
   pub start : j.start ≡ p.start
   pub edges : j.edges ≡ p.edges ++ q.edges
+  pub files : IsOfFileZero p → IsOfFileZero q → IsOfFileZero j
   pub peak : j.peak ≡ joined_peak p q
   pub applies : (c : Config) → apply j c ≡ apply_both p q c
   pub high : (c d : Config) → apply p c ≡ Some d → IsSome (apply q d) → height j c ≡ max (height p c) (height q d)

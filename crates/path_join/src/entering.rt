@@ -5,8 +5,8 @@ ghost use Rattle.partial_path.specs.Spots.{node_at};
 ghost use Rattle.path_join.specs.Units.{asked_by, made_by, peak_by, asks, makes, any_scopes, out_of, entry_rule};
 
 use graph_nodes::{Name, NodeKind};
-use partial_path::{EdgeAt, End, PartialPath, Start};
-use stacks_vars::{Listed, NodeAt, Post, Pre, ScopeOut, ScopePat, SymOut, SymPat, Symbol, Tail};
+use partial_path::{EdgeAt, End, PartialPath, Start, symbol_of};
+use stacks_vars::{Listed, NodeAt, Post, Pre, ScopeOut, ScopePat, SymOut, SymPat, Tail};
 use std::alloc::{AllocError, Global};
 
 /// The path that leaves the stacks as they are. It takes no memory.
@@ -42,11 +42,11 @@ fn asked_by(alloc: Global, kind: &NodeKind) -> Result<Pre, AllocError>
     let mut symbols = Vec::new(alloc);
     match kind {
         NodeKind::Pop { symbol, .. } => symbols.push(SymPat {
-            symbol: symbol_of(alloc, symbol)?,
+            symbol: symbol_of(symbol)?,
             scopes: None,
         })?,
         NodeKind::PopScoped { symbol, .. } => symbols.push(SymPat {
-            symbol: symbol_of(alloc, symbol)?,
+            symbol: symbol_of(symbol)?,
             scopes: Some(any_scopes(alloc)),
         })?,
         _ => {}
@@ -83,7 +83,7 @@ fn pushed(alloc: Global, symbol: &Name, scopes: Option<ScopeOut>) -> Result<Post
 {
     let mut symbols = Vec::new(alloc);
     symbols.push(SymOut {
-        symbol: symbol_of(alloc, symbol)?,
+        symbol: symbol_of(symbol)?,
         scopes,
     })?;
     Ok(makes(alloc, symbols, Tail::Front))
@@ -97,13 +97,6 @@ fn peak_by(kind: &NodeKind) -> u32
         NodeKind::Scope { .. } | NodeKind::Drops => 0,
         _ => 1,
     }
-}
-
-/// The symbol of that name.
-fn symbol_of(alloc: Global, name: &Name) -> Result<Symbol, AllocError>
-    ensures { IfOk result (λ symbol. symbol ≡ name.now) }
-{
-    Symbol::of(alloc, name.as_str().as_bytes())
 }
 
 /// Any scopes.

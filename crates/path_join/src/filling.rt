@@ -36,7 +36,7 @@ pub(crate) fn grown_symbol(alloc: Global, known: &Known, out: &SymOut) -> Result
         None => None,
     };
     Ok(SymOut {
-        symbol: out.symbol.copy(alloc)?,
+        symbol: out.symbol.copy()?,
         scopes,
     })
 }
@@ -67,7 +67,7 @@ pub(crate) fn put_symbol(alloc: Global, joint: &Joint, out: &SymOut) -> Result<S
         None => None,
     };
     Ok(SymOut {
-        symbol: out.symbol.copy(alloc)?,
+        symbol: out.symbol.copy()?,
         scopes,
     })
 }
@@ -98,7 +98,7 @@ pub(crate) fn longer_symbol(
         None => None,
     };
     Ok(SymPat {
-        symbol: pat.symbol.copy(alloc)?,
+        symbol: pat.symbol.copy()?,
         scopes,
     })
 }

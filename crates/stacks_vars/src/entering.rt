@@ -10,16 +10,15 @@ use crate::symbol::Symbol;
 use std::alloc::{AllocError, Global};
 
 /// What the stacks are once a node with this action is entered; None where entry is refused, and the
-/// one error is want of memory. Nothing is copied but a symbol that is pushed and a scope stack that is
-/// attached to it.
+/// one error is want of memory. Nothing is copied but a scope stack that is attached to a symbol.
 pub fn enter(alloc: Global, action: &Action, stacks: Stacks) -> Result<Option<Stacks>, AllocError>
     ensures { IfOk result (λ entered. entered ≡ enter action.now stacks) }
 {
     match action {
         Action::Pass => Ok(Some(stacks)),
-        Action::Push(symbol) => Ok(Some(push(alloc, stacks, symbol.as_bytes())?)),
+        Action::Push(symbol) => Ok(Some(push(stacks, symbol.copy()?)?)),
         Action::PushScoped(symbol, scope) => {
-            Ok(Some(push_scoped(alloc, stacks, symbol.as_bytes(), *scope)?))
+            Ok(Some(push_scoped(alloc, stacks, symbol.copy()?, *scope)?))
         }
         Action::Pop(symbol) => Ok(pop(stacks, symbol.as_bytes())),
         Action::PopScoped(symbol) => Ok(pop_scoped(stacks, symbol.as_bytes())),
@@ -28,12 +27,12 @@ pub fn enter(alloc: Global, action: &Action, stacks: Stacks) -> Result<Option<St
 }
 
 /// A push node is entered: the plain symbol goes to the front. The one error is want of memory.
-pub fn push(alloc: Global, stacks: Stacks, symbol: &[u8]) -> Result<Stacks, AllocError>
-    ensures { IfOk result (λ pushed. enter (Action.Push symbol.now) stacks ≡ Some pushed) }
+pub fn push(stacks: Stacks, symbol: Symbol) -> Result<Stacks, AllocError>
+    ensures { IfOk result (λ pushed. enter (Action.Push symbol) stacks ≡ Some pushed) }
 {
     let mut stacks = stacks;
     stacks.symbols.push(SymbolItem {
-        symbol: Symbol::of(alloc, symbol)?,
+        symbol,
         scopes: None,
     })?;
     Ok(stacks)
@@ -44,16 +43,16 @@ pub fn push(alloc: Global, stacks: Stacks, symbol: &[u8]) -> Result<Stacks, Allo
 pub fn push_scoped(
     alloc: Global,
     stacks: Stacks,
-    symbol: &[u8],
+    symbol: Symbol,
     scope: NodeAt,
 ) -> Result<Stacks, AllocError>
-    ensures { IfOk result (λ pushed. enter (Action.PushScoped symbol.now scope) stacks ≡ Some pushed) }
+    ensures { IfOk result (λ pushed. enter (Action.PushScoped symbol scope) stacks ≡ Some pushed) }
 {
     let mut stacks = stacks;
     let mut attached = stacks.scopes.copy(alloc)?;
     attached.push(scope)?;
     stacks.symbols.push(SymbolItem {
-        symbol: Symbol::of(alloc, symbol)?,
+        symbol,
         scopes: Some(attached),
     })?;
     Ok(stacks)

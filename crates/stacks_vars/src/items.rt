@@ -23,7 +23,7 @@ impl SymbolItem {
             None => None,
         };
         Ok(SymbolItem {
-            symbol: self.symbol.copy(alloc)?,
+            symbol: self.symbol.copy()?,
             scopes,
         })
     }
@@ -81,25 +81,29 @@ impl SymbolStack {
         }
     }
 
-    /// The stack whose front is the last of these. It takes no memory.
+    /// The stack of these, the front first. It takes no memory, and time that follows their number.
     pub fn of(items: Vec<SymbolItem>) -> SymbolStack
-        ensures { result ≡ reverse items.items }
+        ensures { result ≡ items.items }
     {
+        let mut items = items;
+        items.reverse();
         SymbolStack { items }
     }
 
-    /// Its symbols, the front last.
-    pub fn items(&self) -> &[SymbolItem]
+    /// Its symbols from the last to the front, which they are kept in.
+    pub fn reversed(&self) -> &[SymbolItem]
         ensures { result.now ≡ reverse self.now }
     {
         self.items.as_slice()
     }
 
-    /// The vector of its symbols, the front last.
+    /// The vector of its symbols, the front first. It takes no memory, and time that follows their number.
     pub fn into_items(self) -> Vec<SymbolItem>
-        ensures { result.items ≡ reverse self }
+        ensures { result.items ≡ self }
     {
-        self.items
+        let mut items = self.items;
+        items.reverse();
+        items
     }
 
     /// How many symbols it has.
@@ -150,7 +154,7 @@ impl SymbolStack {
         ensures eq { result ≡ pointwise item_eq self.now other.now }
         ensures exact { IsTrue result ↔ (self.now ≡ other.now) }
     {
-        same_items(self.items(), other.items())
+        same_items(self.reversed(), other.reversed())
     }
 }
 

@@ -37,25 +37,29 @@ impl ScopeStack {
         }
     }
 
-    /// The stack whose front is the last of these. It takes no memory.
+    /// The stack of these, the front first. It takes no memory, and time that follows their number.
     pub fn of(items: Vec<NodeAt>) -> ScopeStack
-        ensures { result ≡ reverse items.items }
+        ensures { result ≡ items.items }
     {
+        let mut items = items;
+        items.reverse();
         ScopeStack { items }
     }
 
-    /// Its scopes, the front last.
-    pub fn items(&self) -> &[NodeAt]
+    /// Its scopes from the last to the front, which they are kept in.
+    pub fn reversed(&self) -> &[NodeAt]
         ensures { result.now ≡ reverse self.now }
     {
         self.items.as_slice()
     }
 
-    /// The vector of its scopes, the front last.
+    /// The vector of its scopes, the front first. It takes no memory, and time that follows their number.
     pub fn into_items(self) -> Vec<NodeAt>
-        ensures { result.items ≡ reverse self }
+        ensures { result.items ≡ self }
     {
-        self.items
+        let mut items = self.items;
+        items.reverse();
+        items
     }
 
     /// Whether it has no scopes.
@@ -110,6 +114,6 @@ impl ScopeStack {
         ensures eq { result ≡ scopes_eq self.now other.now }
         ensures exact { IsTrue result ↔ (self.now ≡ other.now) }
     {
-        self.items() == other.items()
+        self.reversed() == other.reversed()
     }
 }

@@ -1,31 +1,41 @@
 use std::alloc::{AllocError, Global};
 use std::marker::Model;
+use std::sync::Arc;
 
-/// A symbol. A contract sees its bytes.
+/// A symbol, whose bytes are shared by all that hold it. A contract sees its bytes.
 #[derive(Debug, Drop)]
 pub struct Symbol {
-    bytes: Vec<u8>,
+    bytes: Arc<Vec<u8>, Global>,
 }
 
 impl Model for Symbol {
     ghost use Rattle.std.specs.Prelude.{ℕ, List};
+    ghost use Rattle.std.specs.Arc.{arc_value};
 
     ghost Value = { List ℕ };
 
-    ghost view = { λ s. s.bytes.items };
+    ghost view = { λ s. (arc_value s.bytes).items };
 }
 
 impl Symbol {
     ghost use Rattle.std.specs.Prelude.{◌≡◌, ◌↔◌, IfOk, IsTrue};
+    ghost use Rattle.std.specs.Arc.{arc_value};
     ghost use Rattle.std.specs.Str.{bytes_eq};
 
-    /// A symbol of these bytes; the one error is want of memory.
+    /// A symbol of these bytes, which are copied; the one error is want of memory.
     pub fn of(alloc: Global, bytes: &[u8]) -> Result<Symbol, AllocError>
         ensures { IfOk result (λ symbol. symbol ≡ bytes.now) }
     {
         Ok(Symbol {
-            bytes: Vec::from_slice(alloc, bytes)?,
+            bytes: Arc::new(alloc, Vec::from_slice(alloc, bytes)?)?,
         })
+    }
+
+    /// The symbol of these bytes, which are shared and not copied. It takes no memory.
+    pub fn sharing(bytes: Arc<Vec<u8>, Global>) -> Symbol
+        ensures { result ≡ (arc_value bytes).items }
+    {
+        Symbol { bytes }
     }
 
     /// Its bytes.
@@ -35,11 +45,14 @@ impl Symbol {
         self.bytes.as_slice()
     }
 
-    /// The same symbol once more, at the cost of its length; the one error is want of memory.
-    pub fn copy(&self, alloc: Global) -> Result<Symbol, AllocError>
+    /// The same symbol once more, whose bytes are shared and not copied. It takes no memory; the one
+    /// error is want of room to count one holder more.
+    pub fn copy(&self) -> Result<Symbol, AllocError>
         ensures { IfOk result (λ copy. copy ≡ self.now) }
     {
-        Symbol::of(alloc, self.as_bytes())
+        Ok(Symbol {
+            bytes: Arc::try_clone(&self.bytes)?,
+        })
     }
 
     /// Whether it is this symbol.

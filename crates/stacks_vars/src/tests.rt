@@ -1,5 +1,6 @@
 use crate::{Action, NodeAt, ScopeStack, Stacks, Symbol, SymbolItem, enter, jump};
-use std::alloc::Global;
+use std::alloc::{AllocError, Global};
+use std::sync::Arc;
 use std::test::Fail;
 
 /// What a row's node does, with the symbol `x` and the scope 9.
@@ -99,5 +100,20 @@ fn enters_by_the_rules(rt: HostRuntime) -> Result<(), Fail> {
         None => assert!(rt; false, "the jump was refused"),
     }
     assert!(rt; jump(stacks_of(alloc, "x|")?).is_none());
+    Ok(())
+}
+
+/// How many hold the bytes of a symbol once it was copied: the symbol, its copy and the one who counts.
+fn holders(alloc: Global) -> Result<usize, AllocError> {
+    let bytes = Arc::new(alloc, Vec::from_slice(alloc, b"xy")?)?;
+    let symbol = Symbol::sharing(Arc::try_clone(&bytes)?);
+    let copy = symbol.copy()?;
+    let count = Arc::strong_count(&bytes);
+    Ok(if copy.same(&symbol) { count } else { 0 })
+}
+
+#[test]
+fn copies_share_the_bytes(rt: HostRuntime) -> Result<(), Fail> {
+    assert_eq!(rt; holders(rt.alloc())?, 3);
     Ok(())
 }

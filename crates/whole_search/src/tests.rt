@@ -110,3 +110,14 @@ fn references_are_answered(rt: HostRuntime) -> Result<(), Fail> {
     }
     Ok(())
 }
+
+/// All runs that push a symbol share its text: a copy for each run would be 800 MB. No run is at an end,
+/// since the definition is of another symbol.
+#[test]
+fn runs_share_a_long_symbol(rt: HostRuntime) -> Result<(), Fail> {
+    let alloc = rt.alloc();
+    let name = "x".repeat(alloc, 100_000)?;
+    let graph = format!(in alloc; "push {name} R; scope E; pop y D | 0>1 *8000, 1>2")?;
+    assert_eq!(rt; row_answer(alloc, graph.as_str())?.as_str(), "whole");
+    Ok(())
+}

@@ -9,7 +9,7 @@ use Rattle.partial_path.proofs.matching.meets_items.Goals as goal
 pub returns-then-not-meets_item : goal.returns-then-not-meets_item
 returns-then-not-meets_item c =
     sym (c.loop-pat.invariant.met
-    ∙ untold c.args.base c.args.asked.now c.items-items.result.now c.loop-pat.pat-index c.loop-pat.left c.pat-item.result c.index-items-left.result
+    ∙ untold c.args.base c.args.asked.now c.reversed-items.result.now c.loop-pat.pat-index c.loop-pat.left c.pat-item.result c.index-items-left.result
     c.loop-pat-test.true c.if-left-eq0.false c.loop-pat.invariant.left
     (c.if-not-meets_item.ensures
     ∙ ap (λ pat. is_some (match_item (moved_symbol c.args.base pat) c.index-items-left.result)) c.pat-item.is
@@ -20,7 +20,7 @@ pub loop-pat-preserved : goal.loop-pat-preserved
 loop-pat-preserved c = record {
   left = omega arith;
   met = c.loop-pat.invariant.met
-      ∙ told_more c.args.base c.args.asked.now c.items-items.result.now c.loop-pat.pat-index c.loop-pat.left c.pat-item.result c.index-items-left.result
+      ∙ told_more c.args.base c.args.asked.now c.reversed-items.result.now c.loop-pat.pat-index c.loop-pat.left c.pat-item.result c.index-items-left.result
       c.loop-pat-test.true c.if-left-eq0.false c.loop-pat.invariant.left
       (c.if-not-meets_item.ensures
       ∙ ap (λ pat. is_some (match_item (moved_symbol c.args.base pat) c.index-items-left.result)) c.pat-item.is
