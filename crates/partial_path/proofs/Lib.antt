@@ -19,3 +19,5 @@ pub mod SwappedRuns
 pub mod Applied
 pub mod FileNumberLaws
 pub mod MovedRules
+pub mod Followed
+pub mod Joints

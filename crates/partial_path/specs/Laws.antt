@@ -11,9 +11,10 @@ use Rattle.partial_path.specs.declared.config.EdgeAt.{EdgeAt}
 use Rattle.partial_path.specs.declared.config.Spot.TheVariants as spot
 use Rattle.partial_path.specs.declared.rule.Start.{Start}
 use Rattle.partial_path.specs.declared.rule.Start.TheVariants.{Before, After}
+use Rattle.stacks_vars.specs.declared.scopes.NodeAt.{NodeAt}
 use Rattle.stacks_vars.specs.declared.items.SymbolItem.{SymbolItem}
 use Rattle.partial_path.specs.Spots.{node_at}
-use Rattle.partial_path.specs.Step.{is_cut_edge}
+use Rattle.partial_path.specs.Step.{start, is_cut_edge}
 use Rattle.partial_path.specs.Runs.{run, IsStraight, IsClosed}
 use Rattle.partial_path.specs.Counted.{IsCounted}
 use Rattle.partial_path.specs.Walks.{run_from, highest_from, starts_walks, starts_walks_of, IsWeight}
@@ -22,7 +23,8 @@ use Rattle.partial_path.specs.Apply.{apply, height}
 use Rattle.partial_path.specs.Moved.{moved_edge, moved_start, moved}
 use Rattle.partial_path.specs.FileNumbers.{IsOfFileZero, StartIn}
 use Rattle.partial_path.specs.PathSets.{FileRules, IsRuleOf, IsPathSet}
-use Rattle.partial_path.specs.Sources.{IsSourceFile, is_offered, numbered, rules_offered, rules_offered_in}
+use Rattle.partial_path.specs.Cutting.{path_edges, LeadFrom}
+use Rattle.partial_path.specs.Sources.{IsSourceFile, graphs_of, is_offered, numbered, rules_offered, rules_offered_in}
 
 -- a closed and straight run
 pub record IsClosedStraight (files : List Graph) (c : Config) (es : List EdgeAt) : Type 0 where
@@ -91,3 +93,14 @@ pub record AreOwnOffers : Type 0 where
       → rules_offered files (Before (node_at file node)) symbols ≡ map (numbered file) (filter (is_offered (Before (node_at 0 node)) symbols) f.rules)
   pub after : (files : List FileRules) (file : ℕ) (f : FileRules) (node : ℕ) (symbols : List SymbolItem) → All IsSourceFile files → slice_get files file ≡ Some f
       → rules_offered files (After (spot.At (node_at file node))) symbols ≡ map (numbered file) (filter (is_offered (After (spot.At (node_at 0 node))) symbols) f.rules)
+
+-- the edges of the paths, not none, are a run to there
+pub record IsRunTo (files : List FileRules) (c : Config) (paths : List (ℕ × Rule)) (end : Config) : Type 0 where
+  pub runs : run (graphs_of files) c (path_edges paths) ≡ Some end
+  pub nonempty : path_edges paths ≢ []
+
+-- stored paths that lead from a reference, one after the other, are a run from its start
+abbrev pub PathsAreRuns : Type 0
+PathsAreRuns =
+    (files : List FileRules) (r : NodeAt) (c end : Config) (paths : List (ℕ × Rule)) → All IsSourceFile files → start (graphs_of files) r ≡ Some c
+    → paths ≢ [] → LeadFrom files r paths end → IsRunTo files c paths end

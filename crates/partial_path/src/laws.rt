@@ -3,7 +3,7 @@ ghost use Rattle.partial_path.specs.declared.bounds.TheConstants.{MAX_RUNS};
 ghost use Rattle.partial_path.specs.declared.slots.TheConstants.{KEY_SIZE};
 ghost use Rattle.partial_path.specs.Limits.{max_runs};
 ghost use Rattle.partial_path.specs.Keys.{key_size};
-ghost use Rattle.partial_path.specs.Laws.{AppliedRulesAreOffered, AreOwnOffers, CutPrefixesAreClosed, CyclesAreCut, MovedRulesAreRuns, MovedStartsAreStarts, NoEdgesNoWalks};
+ghost use Rattle.partial_path.specs.Laws.{AppliedRulesAreOffered, AreOwnOffers, CutPrefixesAreClosed, CyclesAreCut, MovedRulesAreRuns, MovedStartsAreStarts, NoEdgesNoWalks, PathsAreRuns};
 
 /// A law: where a counted run has been followed up to one of its cut edges, that prefix is a closed and
 /// straight run itself.
@@ -42,6 +42,12 @@ pub fn moved_starts_are_starts()
 /// what it offers alone.
 pub fn files_offer_their_own()
     ensures { AreOwnOffers }
+{}
+
+/// A law: stored paths that apply one after the other, from a reference on, do what following their edges in the
+/// whole graph does.
+pub fn joined_paths_are_runs()
+    ensures { PathsAreRuns }
 {}
 
 /// A law: the limits of the program are those of the definitions.

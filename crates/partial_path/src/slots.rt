@@ -93,7 +93,7 @@ fn key_side(path: &PartialPath, symbols: &SymbolStack, count: usize) -> Ordering
 fn symbol_at(symbols: &SymbolStack, count: usize, i: usize) -> Option<&Symbol>
     ensures { option_copied result ≡ slice_get (take count (texts symbols.now)) i }
 {
-    let items = symbols.items();
+    let items = symbols.reversed();
     if i < count && i < items.len() {
         Some(&items[items.len() - 1 - i].symbol)
     } else {

@@ -4,9 +4,9 @@ use Rattle.partial_path.proofs.slots.symbol_at.Goals as goal
 
 pub returns-then-i-items : goal.returns-then-i-items
 returns-then-i-items c =
-    sym (front_text c.items-items.result.now c.args.symbols.now c.args.count c.args.i c.index-items-items.result (turned_back _ _ c.items-items.ensures) c.if-i-count.true c.if-i-items.true)
+    sym (front_text c.reversed-items.result.now c.args.symbols.now c.args.count c.args.i c.index-items-items.result (turned_back _ _ c.reversed-items.ensures) c.if-i-count.true c.if-i-items.true)
 
 pub returns-else-i-count : goal.returns-else-i-count
 returns-else-i-count c =
-    let len = turned_length c.items-items.result.now c.args.symbols.now c.items-items.ensures in
+    let len = turned_length c.reversed-items.result.now c.args.symbols.now c.reversed-items.ensures in
     sym (no_text c.args.symbols.now c.args.count c.args.i (elim c.else-i-count.either [ inl few ↦ inr (λ h. omega (arith, few.1, len, h)) | inr none ↦ inl (λ h. omega (arith, none, h)) ]))
