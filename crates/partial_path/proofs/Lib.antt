@@ -21,3 +21,5 @@ pub mod FileNumberLaws
 pub mod MovedRules
 pub mod Followed
 pub mod Joints
+pub mod MovedWalks
+pub mod OnlyCuts

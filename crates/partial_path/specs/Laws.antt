@@ -104,3 +104,20 @@ abbrev pub PathsAreRuns : Type 0
 PathsAreRuns =
     (files : List FileRules) (r : NodeAt) (c end : Config) (paths : List (ℕ × Rule)) → All IsSourceFile files → start (graphs_of files) r ≡ Some c
     → paths ≢ [] → LeadFrom files r paths end → IsRunTo files c paths end
+
+-- where two such lists of paths from a reference have the same edges, they are the same
+abbrev pub CutsAreUnique : Type 0
+CutsAreUnique =
+    (files : List FileRules) (r : NodeAt) (end other : Config) (paths more : List (ℕ × Rule)) → All IsSourceFile files
+    → LeadFrom files r paths end → LeadFrom files r more other → path_edges paths ≡ path_edges more → paths ≡ more
+
+-- the paths lead somewhere, and their edges end with a cut edge
+pub record LeadToCut (files : List FileRules) (r : NodeAt) (paths : List (ℕ × Rule)) : Type 0 where
+  pub leads : (end : Config) × LeadFrom files r paths end
+  pub closed : IsClosed (graphs_of files) (path_edges paths)
+
+-- the first paths of such a list, not none and not all, lead somewhere themselves, and end with a cut edge
+abbrev pub BeginningsAreCut : Type 0
+BeginningsAreCut =
+    (files : List FileRules) (r : NodeAt) (end : Config) (before : List (ℕ × Rule)) (next : ℕ × Rule) (after : List (ℕ × Rule)) → All IsSourceFile files
+    → before ≢ [] → LeadFrom files r (before ++ next ∷ after) end → LeadToCut files r before

@@ -3,7 +3,7 @@ ghost use Rattle.partial_path.specs.declared.bounds.TheConstants.{MAX_RUNS};
 ghost use Rattle.partial_path.specs.declared.slots.TheConstants.{KEY_SIZE};
 ghost use Rattle.partial_path.specs.Limits.{max_runs};
 ghost use Rattle.partial_path.specs.Keys.{key_size};
-ghost use Rattle.partial_path.specs.Laws.{AppliedRulesAreOffered, AreOwnOffers, CutPrefixesAreClosed, CyclesAreCut, MovedRulesAreRuns, MovedStartsAreStarts, NoEdgesNoWalks, PathsAreRuns};
+ghost use Rattle.partial_path.specs.Laws.{AppliedRulesAreOffered, AreOwnOffers, BeginningsAreCut, CutPrefixesAreClosed, CutsAreUnique, CyclesAreCut, MovedRulesAreRuns, MovedStartsAreStarts, NoEdgesNoWalks, PathsAreRuns};
 
 /// A law: where a counted run has been followed up to one of its cut edges, that prefix is a closed and
 /// straight run itself.
@@ -48,6 +48,17 @@ pub fn files_offer_their_own()
 /// whole graph does.
 pub fn joined_paths_are_runs()
     ensures { PathsAreRuns }
+{}
+
+/// A law: a run from a reference is cut into stored paths in one way at most.
+pub fn cuts_are_unique()
+    ensures { CutsAreUnique }
+{}
+
+/// A law: stored paths that apply one after the other do so up to each of them, and all but the last end with a
+/// cut edge.
+pub fn beginnings_are_cut()
+    ensures { BeginningsAreCut }
 {}
 
 /// A law: the limits of the program are those of the definitions.
