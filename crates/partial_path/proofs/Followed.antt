@@ -45,7 +45,13 @@ followed_by files d next e h =
     (λ edge there follows. option_and_then_some (λ (g : Graph). slice_get g.edges e.edge) (slice_get files e.file) edge there
     (λ g in_files in_graph.
     let both = if_some (stands_at e.file edge.source d.spot) (enter_place files e.file edge.sink d.stacks) next follows in record {
-      graph = g; edge = edge; in_files = in_files; there = there; in_graph = in_graph; stands = both.0; enters = both.1;
+      graph = g;
+      edge = edge;
+      in_files = in_files;
+      there = there;
+      in_graph = in_graph;
+      stands = both.0;
+      enters = both.1;
     }))
 
 mapped_spot : (at : NodeAt) (o : Option Stacks) (next : Config) → option_map (at_node at) o ≡ Some next → next.spot ≡ spot.At at

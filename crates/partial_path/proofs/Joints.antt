@@ -66,7 +66,7 @@ stored_starts files p s sources stored is =
     ∙ moved_starts_are_starts (graphs_of files) p.0 (stored.0).graph p.1.start (graph_there files p.0 stored.0 stored.1) lands.exact.files.start
     ∙ lands.lands.walk.begins
 
--- a list is empty or has a last element
+-- a list with a last element
 abbrev pub IsEnded : {X : Type 0} → List X → Type 0
 IsEnded {X} xs = (front : List X) × (last : X) × (xs ≡ front ++ last ∷ [])
 
@@ -92,7 +92,7 @@ joints_are_cut files s c end p q paths sources (stored, is, next, applied, other
     let g = graphs_of files in
     let last = edges_ended files p sources stored in
     let ran : run_from g (moved_start p.0 p.1.start) (last.0 ++ last.1 ∷ []) c ≡ Some next =
-      ap (λ es. run_from g (moved_start p.0 p.1.start) es c) (sym last.2) ∙ sym (stored_runs files p c sources stored) ∙ applied in
+    ap (λ es. run_from g (moved_start p.0 p.1.start) es c) (sym last.2) ∙ sym (stored_runs files p c sources stored) ∙ applied in
     let before = last_step g (moved_start p.0 p.1.start) last.0 last.1 c next ran in
     let starts : is_cut_spot_of g next.spot ≡ true = stored_starts files q (After next.spot) sources others.0 others.1 in
     (last.0, last.1, last.2, cut_then (is_cut_edge g last.1) (λ uncut. both_ways (is_cut_spot_of g next.spot) (uncut_spot g before.0 next last.1 before.1 uncut) starts))
@@ -153,10 +153,11 @@ started r (Some node) c h = entered (is_reference_kind node.kind) (enter_node r 
     entered true o h = h
     entered false o h = absurd (none-some c h)
 
+pub start_entered : (g : List Graph) (r : NodeAt) (c : Config) → start g r ≡ Some c → enter_place g r.file (place.At r.node) no_stacks ≡ Some c
+start_entered g r c h = started r (node_of g r.file r.node) c h
+
 pub begin_before : (g : List Graph) (r : NodeAt) (c : Config) → start g r ≡ Some c → begin g (Before r) (at_node r no_stacks) ≡ Some c
-begin_before g r c h =
-    ap (λ b. if b then enter_place g r.file (place.At r.node) no_stacks else None) (same_node r)
-    ∙ started r (node_of g r.file r.node) c h
+begin_before g r c h = ap (λ b. if b then enter_place g r.file (place.At r.node) no_stacks else None) (same_node r) ∙ start_entered g r c h
 
 nil_left : (xs ys : List EdgeAt) → xs ++ ys ≡ [] → xs ≡ []
 nil_left [] ys h = refl

@@ -23,3 +23,5 @@ pub mod Followed
 pub mod Joints
 pub mod MovedWalks
 pub mod OnlyCuts
+pub mod Exported
+pub mod CutRuns

@@ -91,7 +91,7 @@ lands_at : (files : List Graph) (file k : ℕ) (g : Graph) → slice_get files f
     → lands_after files (record { file = file; edge = k }) ≡ lands_after (alone g) (record { file = 0; edge = k })
 lands_at files file k g there =
     let sinks = ap (λ o. option_map_or (λ (edge : Edge). is_definition_place files file edge.sink) (option_and_then (λ (g : Graph). slice_get g.edges k) o) false) there
-      ∙ found_definition files file g (slice_get g.edges k) there in
+    ∙ found_definition files file g (slice_get g.edges k) there in
     λ i. cut_at files file k g there i || sinks i
 
 -- the file is at its edge's number, moved

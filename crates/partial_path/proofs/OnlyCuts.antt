@@ -102,13 +102,13 @@ same_path files s p q sources ps qs is_p is_q file edges =
     let same : qs.0 ≡ f = same_Some qs.0 f (sym qs.1 ∙ ap (slice_get files) (sym file) ∙ ps.1) in
     let there : Contains f.rules q.1 = subst (λ (h : FileRules). Contains h.rules q.1) same qs.2 in
     let starts : p.1.start ≡ q.1.start =
-      sym (start_back p.0 p.1.start (stored_lands files p sources ps).exact.files.start) ∙ ap start_inside (is_p ∙ sym is_q)
-      ∙ start_back q.0 q.1.start (stored_lands files q sources qs).exact.files.start in
+    sym (start_back p.0 p.1.start (stored_lands files p sources ps).exact.files.start) ∙ ap start_inside (is_p ∙ sym is_q)
+    ∙ start_back q.0 q.1.start (stored_lands files q sources qs).exact.files.start in
     let walked : p.1.edges ≡ q.1.edges =
-      sym (edges_back p.0 p.1.edges (zeros_of files p sources ps)) ∙ ap (map edge_inside) edges ∙ edges_back q.0 q.1.edges (zeros_of files q sources qs) in
+    sym (edges_back p.0 p.1.edges (zeros_of files p sources ps)) ∙ ap (map edge_inside) edges ∙ edges_back q.0 q.1.edges (zeros_of files q sources qs) in
     let rules : p.1 ≡ q.1 =
-      apart_same walk_of_rule f.rules p.1 q.1 (source_there files p.0 f sources ps.1).sets.rules.once
-      (is_in f.rules p.1 ps.2.0 ps.2.1 ps.2.2) (is_in f.rules q.1 there.0 there.1 there.2) (λ i. record { start = starts i; edges = walked i }) in
+    apart_same walk_of_rule f.rules p.1 q.1 (source_there files p.0 f sources ps.1).sets.rules.once
+    (is_in f.rules p.1 ps.2.0 ps.2.1 ps.2.2) (is_in f.rules q.1 there.0 there.1 there.2) (λ i. record { start = starts i; edges = walked i }) in
     λ i. (file i, rules i)
 
 -- the edges of a path that applies, with a path behind it, are not the first edges of a longer one
@@ -134,7 +134,7 @@ one_cut files s c end other (p ∷ paths) (q ∷ more) sources (ps, is_p, next, 
         → (path_edges paths ≡ path_edges more → PathsLead files (After next.spot) next more other → paths ≡ more) → p ∷ paths ≡ q ∷ more
     by (inl both) on =
         let file = same_file p.0 q.0 p.1.edges q.1.edges (path_edges paths) (path_edges more) (zeros_of files p sources ps) (zeros_of files q sources qs)
-          (stored_lands files p sources ps).lands.walk.nonempty (stored_lands files q sources qs).lands.walk.nonempty e in
+        (stored_lands files p sources ps).lands.walk.nonempty (stored_lands files q sources qs).lands.walk.nonempty e in
         let path = same_path files s p q sources ps qs is_p is_q file both.0 in
         let landed : after ≡ next = same_Some after next (sym applied_q ∙ ap (λ (x : ℕ × Rule). apply (moved x.0 x.1) c) (sym path) ∙ applied) in
         let others = on both.1 (subst (λ (d : Config). PathsLead files (After d.spot) d more other) landed k) in
@@ -168,4 +168,4 @@ first_closed files s c end (p ∷ x ∷ before) q after sources some (stored, is
 pub beginnings_are_cut : BeginningsAreCut
 beginnings_are_cut files r end before q after sources some h =
     let first = first_paths files (Before r) (at_node r no_stacks) end before (q ∷ after) h in
-    record { leads = (first.0, first.1); closed = first_closed files (Before r) (at_node r no_stacks) end before q after sources some h; }
+    record { leads = (first.0, first.1); closed = first_closed files (Before r) (at_node r no_stacks) end before q after sources some h }

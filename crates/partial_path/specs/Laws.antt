@@ -94,6 +94,18 @@ pub record AreOwnOffers : Type 0 where
   pub after : (files : List FileRules) (file : ℕ) (f : FileRules) (node : ℕ) (symbols : List SymbolItem) → All IsSourceFile files → slice_get files file ≡ Some f
       → rules_offered files (After (spot.At (node_at file node))) symbols ≡ map (numbered file) (filter (is_offered (After (spot.At (node_at 0 node))) symbols) f.rules)
 
+-- stored paths, not none, that lead from the reference to there, with those edges
+pub record AreCutsOf (files : List FileRules) (r : NodeAt) (es : List EdgeAt) (end : Config) (paths : List (ℕ × Rule)) : Type 0 where
+  pub nonempty : paths ≢ []
+  pub leads : LeadFrom files r paths end
+  pub edges : path_edges paths ≡ es
+
+-- a counted run from the start of a reference is cut into such paths
+abbrev pub CountedRunsAreCut : Type 0
+CountedRunsAreCut =
+    (files : List FileRules) (r : NodeAt) (c end : Config) (es : List EdgeAt) → All IsSourceFile files → start (graphs_of files) r ≡ Some c
+    → IsCounted (graphs_of files) c es → run (graphs_of files) c es ≡ Some end → (paths : List (ℕ × Rule)) × AreCutsOf files r es end paths
+
 -- the edges of the paths, not none, are a run to there
 pub record IsRunTo (files : List FileRules) (c : Config) (paths : List (ℕ × Rule)) (end : Config) : Type 0 where
   pub runs : run (graphs_of files) c (path_edges paths) ≡ Some end

@@ -3,7 +3,7 @@ ghost use Rattle.partial_path.specs.declared.bounds.TheConstants.{MAX_RUNS};
 ghost use Rattle.partial_path.specs.declared.slots.TheConstants.{KEY_SIZE};
 ghost use Rattle.partial_path.specs.Limits.{max_runs};
 ghost use Rattle.partial_path.specs.Keys.{key_size};
-ghost use Rattle.partial_path.specs.Laws.{AppliedRulesAreOffered, AreOwnOffers, BeginningsAreCut, CutPrefixesAreClosed, CutsAreUnique, CyclesAreCut, MovedRulesAreRuns, MovedStartsAreStarts, NoEdgesNoWalks, PathsAreRuns};
+ghost use Rattle.partial_path.specs.Laws.{AppliedRulesAreOffered, AreOwnOffers, BeginningsAreCut, CountedRunsAreCut, CutPrefixesAreClosed, CutsAreUnique, CyclesAreCut, MovedRulesAreRuns, MovedStartsAreStarts, NoEdgesNoWalks, PathsAreRuns};
 
 /// A law: where a counted run has been followed up to one of its cut edges, that prefix is a closed and
 /// straight run itself.
@@ -42,6 +42,12 @@ pub fn moved_starts_are_starts()
 /// what it offers alone.
 pub fn files_offer_their_own()
     ensures { AreOwnOffers }
+{}
+
+/// A law: a counted run from a reference, in the whole graph, is cut into stored paths that apply one after the
+/// other.
+pub fn counted_runs_are_cut()
+    ensures { CountedRunsAreCut }
 {}
 
 /// A law: stored paths that apply one after the other, from a reference on, do what following their edges in the
