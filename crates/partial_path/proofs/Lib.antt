@@ -25,3 +25,4 @@ pub mod MovedWalks
 pub mod OnlyCuts
 pub mod Exported
 pub mod CutRuns
+pub mod HighJoints

@@ -1,5 +1,6 @@
 -- Runs of the whole graph cut at their cut edges: stored paths that apply one after the other.
-use Rattle.std.specs.Prelude.{◌≡◌, ◌≢◌, ℕ, List, [], ◌∷◌, ◌++◌, map, Some, slice_get, Contains}
+use Rattle.std.specs.Prelude.{◌≡◌, ℕ, ◌+◌, List, [], ◌∷◌, map, length, max, Some, slice_get, Contains}
+use Rattle.std.specs.Option.{option_map_or}
 use Rattle.std.specs.List.{flat_map}
 use Rattle.partial_path.specs.declared.config.Config.{Config}
 use Rattle.partial_path.specs.declared.config.EdgeAt.{EdgeAt}
@@ -9,7 +10,7 @@ use Rattle.stacks_vars.specs.declared.scopes.NodeAt.{NodeAt}
 use Rattle.stacks_vars.specs.Enter.{no_stacks}
 use Rattle.partial_path.specs.Spots.{at_node}
 use Rattle.partial_path.specs.Rules.{Rule}
-use Rattle.partial_path.specs.Apply.{apply}
+use Rattle.partial_path.specs.Apply.{apply, height}
 use Rattle.partial_path.specs.Moved.{moved_edge, moved_start, moved}
 use Rattle.partial_path.specs.PathSets.{FileRules}
 
@@ -35,3 +36,14 @@ PathsLead files start c (p ∷ paths) end =
 -- the same from a reference, which isn't entered yet
 abbrev pub LeadFrom : List FileRules → NodeAt → List (ℕ × Rule) → Config → Type 0
 LeadFrom files r paths end = PathsLead files (Before r) (at_node r no_stacks) paths end
+
+-- how many edges the paths have together
+abbrev pub edge_count : List (ℕ × Rule) → ℕ
+edge_count [] = 0
+edge_count (p ∷ paths) = length p.1.edges + edge_count paths
+
+-- the greatest height of the paths, each at the configuration where it applies
+abbrev pub heights : Config → List (ℕ × Rule) → ℕ
+heights c [] = length c.stacks.symbols
+heights c (p ∷ paths) =
+    max (height (moved p.0 p.1) c) (option_map_or (λ (next : Config). heights next paths) (apply (moved p.0 p.1) c) 0)

@@ -1,6 +1,6 @@
 -- Laws of the definitions: what cut edges and counted runs are for, which path set is known at once, what a
 -- file's rules are in a list of files, and which of them a look-up offers.
-use Rattle.std.specs.Prelude.{◌≡◌, ◌≢◌, ℕ, List, [], ◌∷◌, ◌++◌, map, filter, Some, slice_get, All, IsTrue, IsSome, Contains}
+use Rattle.std.specs.Prelude.{◌≡◌, ◌≢◌, ◌≤◌, ◌↔◌, ℕ, List, [], ◌∷◌, ◌++◌, map, filter, Some, slice_get, All, IsTrue, IsSome, Contains}
 use Rattle.std.specs.List.{AllByRecursion, list_any}
 use Rattle.graph_nodes.specs.declared.node.Edge.{Edge}
 use Rattle.graph_nodes.specs.declared.node.Place.{Place}
@@ -13,9 +13,11 @@ use Rattle.partial_path.specs.declared.rule.Start.{Start}
 use Rattle.partial_path.specs.declared.rule.Start.TheVariants.{Before, After}
 use Rattle.stacks_vars.specs.declared.scopes.NodeAt.{NodeAt}
 use Rattle.stacks_vars.specs.declared.items.SymbolItem.{SymbolItem}
-use Rattle.partial_path.specs.Spots.{node_at}
+use Rattle.stacks_vars.specs.Enter.{no_stacks}
+use Rattle.partial_path.specs.declared.bounds.Bounds.{Bounds}
+use Rattle.partial_path.specs.Spots.{node_at, at_node}
 use Rattle.partial_path.specs.Step.{start, is_cut_edge}
-use Rattle.partial_path.specs.Runs.{run, IsStraight, IsClosed}
+use Rattle.partial_path.specs.Runs.{run, IsStraight, IsClosed, IsBounded}
 use Rattle.partial_path.specs.Counted.{IsCounted}
 use Rattle.partial_path.specs.Walks.{run_from, highest_from, starts_walks, starts_walks_of, IsWeight}
 use Rattle.partial_path.specs.Rules.{Rule}
@@ -23,7 +25,7 @@ use Rattle.partial_path.specs.Apply.{apply, height}
 use Rattle.partial_path.specs.Moved.{moved_edge, moved_start, moved}
 use Rattle.partial_path.specs.FileNumbers.{IsOfFileZero, StartIn}
 use Rattle.partial_path.specs.PathSets.{FileRules, IsRuleOf, IsPathSet}
-use Rattle.partial_path.specs.Cutting.{path_edges, LeadFrom}
+use Rattle.partial_path.specs.Cutting.{path_edges, LeadFrom, edge_count, heights}
 use Rattle.partial_path.specs.Sources.{IsSourceFile, graphs_of, is_offered, numbered, rules_offered, rules_offered_in}
 
 -- a closed and straight run
@@ -133,3 +135,10 @@ abbrev pub BeginningsAreCut : Type 0
 BeginningsAreCut =
     (files : List FileRules) (r : NodeAt) (end : Config) (before : List (ℕ × Rule)) (next : ℕ × Rule) (after : List (ℕ × Rule)) → All IsSourceFile files
     → before ≢ [] → LeadFrom files r (before ++ next ∷ after) end → LeadToCut files r before
+
+-- the run of such a list is bounded exactly where its paths have few enough edges together and none is too high
+abbrev pub JoinedBounds : Type 0
+JoinedBounds =
+    (bounds : Bounds) (files : List FileRules) (r : NodeAt) (c end : Config) (paths : List (ℕ × Rule)) → All IsSourceFile files
+    → start (graphs_of files) r ≡ Some c → paths ≢ [] → LeadFrom files r paths end
+    → IsBounded bounds (graphs_of files) c (path_edges paths) ↔ ((edge_count paths ≤ bounds.edges) × (heights (at_node r no_stacks) paths ≤ bounds.depth))
