@@ -52,7 +52,7 @@ mapped_file (Some f) g h = (f, refl, same_Some f.graph g h)
 file_there : (files : List FileRules) (k : ℕ) (g : Graph) → slice_get (graphs_of files) k ≡ Some g → HasFile files k g
 file_there files k g h = mapped_file (slice_get files k) g (sym (slice_get-map (λ (f : FileRules). f.graph) files k) ∙ h)
 
-all_checked : (files : List FileRules) → All IsSourceFile files → AreChecked (graphs_of files)
+pub all_checked : (files : List FileRules) → All IsSourceFile files → AreChecked (graphs_of files)
 all_checked files sources k g h =
     let file = file_there files k g h in subst IsChecked file.2 (source_there files k file.0 sources file.1).checked
 

@@ -26,3 +26,4 @@ pub mod OnlyCuts
 pub mod Exported
 pub mod CutRuns
 pub mod HighJoints
+pub mod CutJoints

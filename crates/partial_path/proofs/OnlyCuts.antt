@@ -91,7 +91,7 @@ same_file k m (x ∷ xs) (y ∷ ys) more others zx zy sx sy h =
     let first : k + x.file ≡ m + y.file = ap (λ es. (first_or x es).file) h in
     omega (arith, first, zx.0, zy.0)
 
-zeros_of : (files : List FileRules) (p : ℕ × Rule) → All IsSourceFile files → IsStoredIn files p → AllByRecursion (EdgeIn IsZero) p.1.edges
+pub zeros_of : (files : List FileRules) (p : ℕ × Rule) → All IsSourceFile files → IsStoredIn files p → AllByRecursion (EdgeIn IsZero) p.1.edges
 zeros_of files p sources stored = recursion_from_All (EdgeIn IsZero) p.1.edges (stored_lands files p sources stored).exact.files.edges
 
 -- with the same edges are one path

@@ -1,7 +1,8 @@
 -- Runs of the whole graph cut at their cut edges: stored paths that apply one after the other.
-use Rattle.std.specs.Prelude.{◌≡◌, ℕ, ◌+◌, List, [], ◌∷◌, map, length, max, Some, slice_get, Contains}
+use Rattle.std.specs.Prelude.{◌≡◌, ℕ, ◌+◌, List, [], ◌∷◌, map, length, max, filter, Some, slice_get, Contains}
 use Rattle.std.specs.Option.{option_map_or}
 use Rattle.std.specs.List.{flat_map}
+use Rattle.graph_nodes.specs.Graph.{Graph}
 use Rattle.partial_path.specs.declared.config.Config.{Config}
 use Rattle.partial_path.specs.declared.config.EdgeAt.{EdgeAt}
 use Rattle.partial_path.specs.declared.rule.Start.{Start}
@@ -11,6 +12,7 @@ use Rattle.stacks_vars.specs.Enter.{no_stacks}
 use Rattle.partial_path.specs.Spots.{at_node}
 use Rattle.partial_path.specs.Rules.{Rule}
 use Rattle.partial_path.specs.Apply.{apply, height}
+use Rattle.partial_path.specs.Walks.{is_cut_spot_of}
 use Rattle.partial_path.specs.Moved.{moved_edge, moved_start, moved}
 use Rattle.partial_path.specs.PathSets.{FileRules}
 
@@ -47,3 +49,12 @@ abbrev pub heights : Config → List (ℕ × Rule) → ℕ
 heights c [] = length c.stacks.symbols
 heights c (p ∷ paths) =
     max (height (moved p.0 p.1) c) (option_map_or (λ (next : Config). heights next paths) (apply (moved p.0 p.1) c) 0)
+
+-- where the paths land, in their order
+abbrev pub landings : Config → List (ℕ × Rule) → List Config
+landings c [] = []
+landings c (p ∷ paths) = option_map_or (λ (next : Config). next ∷ landings next paths) (apply (moved p.0 p.1) c) []
+
+-- the configurations that stand where paths are cut: at the root, at exported scopes and turning nodes
+abbrev pub at_cuts : List Graph → List Config → List Config
+at_cuts files cs = filter (λ (c : Config). is_cut_spot_of files c.spot) cs

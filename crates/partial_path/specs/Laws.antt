@@ -17,15 +17,15 @@ use Rattle.stacks_vars.specs.Enter.{no_stacks}
 use Rattle.partial_path.specs.declared.bounds.Bounds.{Bounds}
 use Rattle.partial_path.specs.Spots.{node_at, at_node}
 use Rattle.partial_path.specs.Step.{start, is_cut_edge}
-use Rattle.partial_path.specs.Runs.{run, IsStraight, IsClosed, IsBounded}
+use Rattle.partial_path.specs.Runs.{run, after_cuts, IsStraight, IsClosed, IsBounded}
 use Rattle.partial_path.specs.Counted.{IsCounted}
-use Rattle.partial_path.specs.Walks.{run_from, highest_from, starts_walks, starts_walks_of, IsWeight}
+use Rattle.partial_path.specs.Walks.{run_from, highest_from, is_cut_spot_of, starts_walks, starts_walks_of, IsWeight}
 use Rattle.partial_path.specs.Rules.{Rule}
 use Rattle.partial_path.specs.Apply.{apply, height}
 use Rattle.partial_path.specs.Moved.{moved_edge, moved_start, moved}
 use Rattle.partial_path.specs.FileNumbers.{IsOfFileZero, StartIn}
 use Rattle.partial_path.specs.PathSets.{FileRules, IsRuleOf, IsPathSet}
-use Rattle.partial_path.specs.Cutting.{path_edges, LeadFrom, edge_count, heights}
+use Rattle.partial_path.specs.Cutting.{path_edges, LeadFrom, edge_count, heights, landings, at_cuts}
 use Rattle.partial_path.specs.Sources.{IsSourceFile, graphs_of, is_offered, numbered, rules_offered, rules_offered_in}
 
 -- a closed and straight run
@@ -142,3 +142,15 @@ JoinedBounds =
     (bounds : Bounds) (files : List FileRules) (r : NodeAt) (c end : Config) (paths : List (ℕ × Rule)) → All IsSourceFile files
     → start (graphs_of files) r ≡ Some c → paths ≢ [] → LeadFrom files r paths end
     → IsBounded bounds (graphs_of files) c (path_edges paths) ↔ ((edge_count paths ≤ bounds.edges) × (heights (at_node r no_stacks) paths ≤ bounds.depth))
+
+-- the run of such a list, told by where its paths land: the configurations after its cut edges are those that stand
+-- at cuts, and it is closed exactly where its end does
+pub record IsCutAtLandings (files : List FileRules) (r : NodeAt) (c end : Config) (paths : List (ℕ × Rule)) : Type 0 where
+  pub cuts : after_cuts (graphs_of files) c (path_edges paths) ≡ at_cuts (graphs_of files) (landings (at_node r no_stacks) paths)
+  pub closed : IsClosed (graphs_of files) (path_edges paths) ↔ IsTrue (is_cut_spot_of (graphs_of files) end.spot)
+
+-- so whether it is straight and closed is told by where its paths land
+abbrev pub JoinedCuts : Type 0
+JoinedCuts =
+    (files : List FileRules) (r : NodeAt) (c end : Config) (paths : List (ℕ × Rule)) → All IsSourceFile files → start (graphs_of files) r ≡ Some c
+    → paths ≢ [] → LeadFrom files r paths end → IsCutAtLandings files r c end paths
