@@ -19,3 +19,11 @@ pub mod SwappedRuns
 pub mod Applied
 pub mod FileNumberLaws
 pub mod MovedRules
+pub mod Followed
+pub mod Joints
+pub mod MovedWalks
+pub mod OnlyCuts
+pub mod Exported
+pub mod CutRuns
+pub mod HighJoints
+pub mod CutJoints

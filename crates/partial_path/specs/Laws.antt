@@ -1,6 +1,6 @@
 -- Laws of the definitions: what cut edges and counted runs are for, which path set is known at once, what a
 -- file's rules are in a list of files, and which of them a look-up offers.
-use Rattle.std.specs.Prelude.{◌≡◌, ◌≢◌, ℕ, List, [], ◌∷◌, ◌++◌, map, filter, Some, slice_get, All, IsTrue, IsSome, Contains}
+use Rattle.std.specs.Prelude.{◌≡◌, ◌≢◌, ◌≤◌, ◌↔◌, ℕ, List, [], ◌∷◌, ◌++◌, map, filter, Some, slice_get, All, IsTrue, IsSome, Contains}
 use Rattle.std.specs.List.{AllByRecursion, list_any}
 use Rattle.graph_nodes.specs.declared.node.Edge.{Edge}
 use Rattle.graph_nodes.specs.declared.node.Place.{Place}
@@ -11,18 +11,22 @@ use Rattle.partial_path.specs.declared.config.EdgeAt.{EdgeAt}
 use Rattle.partial_path.specs.declared.config.Spot.TheVariants as spot
 use Rattle.partial_path.specs.declared.rule.Start.{Start}
 use Rattle.partial_path.specs.declared.rule.Start.TheVariants.{Before, After}
+use Rattle.stacks_vars.specs.declared.scopes.NodeAt.{NodeAt}
 use Rattle.stacks_vars.specs.declared.items.SymbolItem.{SymbolItem}
-use Rattle.partial_path.specs.Spots.{node_at}
-use Rattle.partial_path.specs.Step.{is_cut_edge}
-use Rattle.partial_path.specs.Runs.{run, IsStraight, IsClosed}
+use Rattle.stacks_vars.specs.Enter.{no_stacks}
+use Rattle.partial_path.specs.declared.bounds.Bounds.{Bounds}
+use Rattle.partial_path.specs.Spots.{node_at, at_node}
+use Rattle.partial_path.specs.Step.{start, is_cut_edge}
+use Rattle.partial_path.specs.Runs.{run, after_cuts, IsStraight, IsClosed, IsBounded}
 use Rattle.partial_path.specs.Counted.{IsCounted}
-use Rattle.partial_path.specs.Walks.{run_from, highest_from, starts_walks, starts_walks_of, IsWeight}
+use Rattle.partial_path.specs.Walks.{run_from, highest_from, is_cut_spot_of, starts_walks, starts_walks_of, IsWeight}
 use Rattle.partial_path.specs.Rules.{Rule}
 use Rattle.partial_path.specs.Apply.{apply, height}
 use Rattle.partial_path.specs.Moved.{moved_edge, moved_start, moved}
 use Rattle.partial_path.specs.FileNumbers.{StartIn}
 use Rattle.partial_path.specs.PathSets.{FileRules, IsRuleOf, IsPathSet}
-use Rattle.partial_path.specs.Sources.{IsSourceFile, is_offered, numbered, rules_offered, rules_offered_in}
+use Rattle.partial_path.specs.Cutting.{path_edges, LeadFrom, edge_count, heights, landings, at_cuts}
+use Rattle.partial_path.specs.Sources.{IsSourceFile, graphs_of, is_offered, numbered, rules_offered, rules_offered_in}
 
 -- a closed and straight run
 pub record IsClosedStraight (files : List Graph) (c : Config) (es : List EdgeAt) : Type 0 where
@@ -90,3 +94,62 @@ pub record AreOwnOffers : Type 0 where
       → rules_offered files (Before (node_at file node)) symbols ≡ map (numbered file) (filter (is_offered (Before (node_at 0 node)) symbols) f.rules)
   pub after : (files : List FileRules) (file : ℕ) (f : FileRules) (node : ℕ) (symbols : List SymbolItem) → All IsSourceFile files → slice_get files file ≡ Some f
       → rules_offered files (After (spot.At (node_at file node))) symbols ≡ map (numbered file) (filter (is_offered (After (spot.At (node_at 0 node))) symbols) f.rules)
+
+-- stored paths, not none, that lead from the reference to there, with those edges
+pub record AreCutsOf (files : List FileRules) (r : NodeAt) (es : List EdgeAt) (end : Config) (paths : List (ℕ × Rule)) : Type 0 where
+  pub nonempty : paths ≢ []
+  pub leads : LeadFrom files r paths end
+  pub edges : path_edges paths ≡ es
+
+-- a counted run from the start of a reference is cut into such paths
+abbrev pub CountedRunsAreCut : Type 0
+CountedRunsAreCut =
+    (files : List FileRules) (r : NodeAt) (c end : Config) (es : List EdgeAt) → All IsSourceFile files → start (graphs_of files) r ≡ Some c
+    → IsCounted (graphs_of files) c es → run (graphs_of files) c es ≡ Some end → (paths : List (ℕ × Rule)) × AreCutsOf files r es end paths
+
+-- the edges of the paths, not none, are a run to there
+pub record IsRunTo (files : List FileRules) (c : Config) (paths : List (ℕ × Rule)) (end : Config) : Type 0 where
+  pub runs : run (graphs_of files) c (path_edges paths) ≡ Some end
+  pub nonempty : path_edges paths ≢ []
+
+-- stored paths that lead from a reference, one after the other, are a run from its start
+abbrev pub PathsAreRuns : Type 0
+PathsAreRuns =
+    (files : List FileRules) (r : NodeAt) (c end : Config) (paths : List (ℕ × Rule)) → All IsSourceFile files → start (graphs_of files) r ≡ Some c
+    → paths ≢ [] → LeadFrom files r paths end → IsRunTo files c paths end
+
+-- where two such lists of paths from a reference have the same edges, they are the same
+abbrev pub CutsAreUnique : Type 0
+CutsAreUnique =
+    (files : List FileRules) (r : NodeAt) (end other : Config) (paths more : List (ℕ × Rule)) → All IsSourceFile files
+    → LeadFrom files r paths end → LeadFrom files r more other → path_edges paths ≡ path_edges more → paths ≡ more
+
+-- the paths lead somewhere, and their edges end with a cut edge
+pub record LeadToCut (files : List FileRules) (r : NodeAt) (paths : List (ℕ × Rule)) : Type 0 where
+  pub leads : (end : Config) × LeadFrom files r paths end
+  pub closed : IsClosed (graphs_of files) (path_edges paths)
+
+-- the first paths of such a list, not none and not all, lead somewhere themselves, and end with a cut edge
+abbrev pub BeginningsAreCut : Type 0
+BeginningsAreCut =
+    (files : List FileRules) (r : NodeAt) (end : Config) (before : List (ℕ × Rule)) (next : ℕ × Rule) (after : List (ℕ × Rule)) → All IsSourceFile files
+    → before ≢ [] → LeadFrom files r (before ++ next ∷ after) end → LeadToCut files r before
+
+-- the run of such a list is bounded exactly where its paths have few enough edges together and none is too high
+abbrev pub JoinedBounds : Type 0
+JoinedBounds =
+    (bounds : Bounds) (files : List FileRules) (r : NodeAt) (c end : Config) (paths : List (ℕ × Rule)) → All IsSourceFile files
+    → start (graphs_of files) r ≡ Some c → paths ≢ [] → LeadFrom files r paths end
+    → IsBounded bounds (graphs_of files) c (path_edges paths) ↔ ((edge_count paths ≤ bounds.edges) × (heights (at_node r no_stacks) paths ≤ bounds.depth))
+
+-- the run of such a list, told by where its paths land: the configurations after its cut edges are those that stand
+-- at cuts, and it is closed exactly where its end does
+pub record IsCutAtLandings (files : List FileRules) (r : NodeAt) (c end : Config) (paths : List (ℕ × Rule)) : Type 0 where
+  pub cuts : after_cuts (graphs_of files) c (path_edges paths) ≡ at_cuts (graphs_of files) (landings (at_node r no_stacks) paths)
+  pub closed : IsClosed (graphs_of files) (path_edges paths) ↔ IsTrue (is_cut_spot_of (graphs_of files) end.spot)
+
+-- so whether it is straight and closed is told by where its paths land
+abbrev pub JoinedCuts : Type 0
+JoinedCuts =
+    (files : List FileRules) (r : NodeAt) (c end : Config) (paths : List (ℕ × Rule)) → All IsSourceFile files → start (graphs_of files) r ≡ Some c
+    → paths ≢ [] → LeadFrom files r paths end → IsCutAtLandings files r c end paths

@@ -16,3 +16,4 @@ pub mod Keys
 pub mod Inside
 pub mod Sources
 pub mod Offers
+pub mod Cutting

@@ -3,7 +3,7 @@ ghost use Rattle.partial_path.specs.declared.bounds.TheConstants.{MAX_RUNS};
 ghost use Rattle.partial_path.specs.declared.slots.TheConstants.{KEY_SIZE};
 ghost use Rattle.partial_path.specs.Limits.{max_runs};
 ghost use Rattle.partial_path.specs.Keys.{key_size};
-ghost use Rattle.partial_path.specs.Laws.{AppliedRulesAreOffered, AreOwnOffers, CutPrefixesAreClosed, CyclesAreCut, MovedRulesAreRuns, MovedStartsAreStarts, NoEdgesNoWalks};
+ghost use Rattle.partial_path.specs.Laws.{AppliedRulesAreOffered, AreOwnOffers, BeginningsAreCut, CountedRunsAreCut, CutPrefixesAreClosed, CutsAreUnique, CyclesAreCut, JoinedBounds, JoinedCuts, MovedRulesAreRuns, MovedStartsAreStarts, NoEdgesNoWalks, PathsAreRuns};
 
 /// A law: where a counted run has been followed up to one of its cut edges, that prefix is a closed and
 /// straight run itself.
@@ -42,6 +42,40 @@ pub fn moved_starts_are_starts()
 /// what it offers alone.
 pub fn files_offer_their_own()
     ensures { AreOwnOffers }
+{}
+
+/// A law: a counted run from a reference, in the whole graph, is cut into stored paths that apply one after the
+/// other.
+pub fn counted_runs_are_cut()
+    ensures { CountedRunsAreCut }
+{}
+
+/// A law: stored paths that apply one after the other, from a reference on, do what following their edges in the
+/// whole graph does.
+pub fn joined_paths_are_runs()
+    ensures { PathsAreRuns }
+{}
+
+/// A law: a run from a reference is cut into stored paths in one way at most.
+pub fn cuts_are_unique()
+    ensures { CutsAreUnique }
+{}
+
+/// A law: stored paths that apply one after the other do so up to each of them, and all but the last end with a
+/// cut edge.
+pub fn beginnings_are_cut()
+    ensures { BeginningsAreCut }
+{}
+
+/// A law: a run that stored paths make is bounded exactly where their edges are few enough together and no path is
+/// too high where it applies.
+pub fn joined_paths_tell_bounds()
+    ensures { JoinedBounds }
+{}
+
+/// A law: where a run that stored paths make is cut, and whether it is closed, is told by where the paths land.
+pub fn joined_paths_tell_cuts()
+    ensures { JoinedCuts }
 {}
 
 /// A law: the limits of the program are those of the definitions.

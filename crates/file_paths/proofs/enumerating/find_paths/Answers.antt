@@ -1,0 +1,7 @@
+-- A file whose weight is within the limit isn't heavier.
+use Rattle.file_paths.specs.declared.fault.TheConstants.{MAX_WEIGHT}
+use Rattle.file_paths.proofs.WalkingLaws.{within_limit}
+use Rattle.file_paths.proofs.enumerating.find_paths.Goals as goal
+
+pub returns-clause-light : goal.returns-clause-light
+returns-clause-light c = within_limit c.args.graph c.in_ok-found.found.weight MAX_WEIGHT c.in_ok-found.ensures.weight c.in_ok-found.ensures.light
