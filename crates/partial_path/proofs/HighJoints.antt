@@ -69,7 +69,7 @@ stored_height : (files : List FileRules) (s : Start) (p : ℕ × Rule) (c next :
     → apply (moved p.0 p.1) c ≡ Some next → height (moved p.0 p.1) c ≡ highest_from (graphs_of files) s (edges_in p) c
 stored_height files s p c next sources stored is applied =
     let lands = stored_lands files p sources stored in
-    (moved_rules_are_runs (graphs_of files) p.0 (stored.0).graph p.1 (graph_there files p.0 stored.0 stored.1) lands.exact lands.exact.files).peak c (ap is_some applied)
+    (moved_rules_are_runs (graphs_of files) p.0 (stored.0).graph p.1 (graph_there files p.0 stored.0 stored.1) lands.exact).peak c (ap is_some applied)
     ∙ ap (λ (x : Start). highest_from (graphs_of files) x (edges_in p) c) is
 
 -- a path that applies, and a run from where it landed

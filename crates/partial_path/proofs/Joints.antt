@@ -55,7 +55,7 @@ pub stored_runs : (files : List FileRules) (p : ℕ × Rule) (c : Config) → Al
     → apply (moved p.0 p.1) c ≡ run_from (graphs_of files) (moved_start p.0 p.1.start) (edges_in p) c
 stored_runs files p c sources stored =
     let lands = stored_lands files p sources stored in
-    (moved_rules_are_runs (graphs_of files) p.0 (stored.0).graph p.1 (graph_there files p.0 stored.0 stored.1) lands.exact lands.exact.files).applies c
+    (moved_rules_are_runs (graphs_of files) p.0 (stored.0).graph p.1 (graph_there files p.0 stored.0 stored.1) lands.exact).applies c
 
 -- it begins where walks start
 pub stored_starts : (files : List FileRules) (p : ℕ × Rule) (s : Start) → All IsSourceFile files → IsStoredIn files p → moved_start p.0 p.1.start ≡ s
