@@ -1,7 +1,7 @@
 #!/usr/bin/env python3
 """Times the finding of a file's paths and the indexing of documents, and prints one table; every figure is of this one run.
 
-usage: bench/graphs.py [PROGRAM]     (crates/nav_bench/out/nav_bench, as bench/graphs.sh leaves it)
+usage: bench/graphs.py [PROGRAM]     (crates/aux_bench/out/aux_bench, as bench/graphs.sh leaves it)
 
 Walks are timed without the reading of the graph: the time of `read` is taken off that of `walk`. Documents
 are timed through the call that indexes them, over a store that keeps none of them and over one that keeps all.
@@ -12,7 +12,7 @@ import subprocess
 import sys
 import time
 
-PROGRAM = sys.argv[1] if len(sys.argv) > 1 else "crates/nav_bench/out/nav_bench"
+PROGRAM = sys.argv[1] if len(sys.argv) > 1 else "crates/aux_bench/out/aux_bench"
 DOCUMENTS = 1_000
 
 

@@ -1,6 +1,6 @@
 #!/usr/bin/env bash
-# Builds nav_bench and times the finding of paths and the indexing of documents; no part of the gate.
+# Builds aux_bench and times the finding of paths and the indexing of documents; no part of the gate.
 set -eu
 cd "$(dirname "$0")/.."
-(cd crates/nav_bench && rt run < stdin >/dev/null)
+(cd crates/aux_bench && rt run < stdin >/dev/null)
 exec python3 bench/graphs.py

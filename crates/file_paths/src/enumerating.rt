@@ -36,7 +36,27 @@ pub fn enumerate<L: Ledger>(
     ensures few { steps.new ≤ steps.old + (max_weight + 1) }
     ensures fewer { (weight : ℕ) → IsWeight graph weight → steps.new ≤ steps.old + weight }
 {
-    let found = find(alloc, &graph, steps)?;
+    let mut walks = 0;
+    let found = find_paths(alloc, graph, &mut walks);
+    steps.add(walks);
+    found
+}
+
+/// As `enumerate`, for a worker that has no counter at hand: the walks made are counted in a number, which
+/// is 0 before.
+pub fn find_paths(alloc: Global, graph: FileGraph, walks: &mut u64) -> Result<FilePaths, PathsFault>
+    requires { walks.old ≡ 0 }
+    ensures graph { IfOk result (λ file. file.graph ≡ graph) }
+    ensures file { IfOk result AreFileRules }
+    ensures walks { OnOk result (AddsWalks graph walks.old walks.new) }
+    ensures light { OnOk result (¬ IsHeavier max_weight graph) }
+    ensures fault { IfErr result (HasCause graph) }
+
+    // Whatever is answered, the walks are few.
+    ensures few { walks.new ≤ max_weight + 1 }
+    ensures fewer { (weight : ℕ) → IsWeight graph weight → walks.new ≤ weight }
+{
+    let found = find(alloc, &graph, walks)?;
     let file = FilePaths::new(graph, found.paths, found.weight);
     // Tells that what is stored is the path set.
     file.weight();
@@ -52,11 +72,8 @@ struct Found {
 
 /// The paths of the graph and its weight. The paths that are begun and not yet looked at are kept in a
 /// list, so that no depth of a graph takes more of the call stack.
-fn find<L: Ledger>(
-    alloc: Global,
-    graph: &FileGraph,
-    steps: &mut Steps<L>,
-) -> Result<Found, PathsFault>
+fn find(alloc: Global, graph: &FileGraph, steps: &mut u64) -> Result<Found, PathsFault>
+    requires { steps.old ≡ 0 }
     ensures paths { IfOk result (λ found. IsPathSet graph.now found.paths.items) }
     ensures weight { IfOk result (λ found. IsWeight graph.now found.weight) }
     ensures light { IfOk result (λ found. found.weight ≤ MAX_WEIGHT) }
@@ -71,7 +88,7 @@ fn find<L: Ledger>(
     let mut paths = Vec::new(alloc);
     let mut weight = 0;
     while let Some(path) = begun.pop() {
-        steps.tick();
+        *steps += 1;
         weight += path.edges().len() as u32;
         if weight > MAX_WEIGHT {
             return Err(PathsFault::Heavy(MAX_WEIGHT + 1));

@@ -6,7 +6,7 @@ mod fault;
 mod growing;
 mod starting;
 
-pub use enumerating::enumerate;
+pub use enumerating::{enumerate, find_paths};
 pub use fault::{MAX_WEIGHT, PathsFault};
 
 #[cfg(test)]

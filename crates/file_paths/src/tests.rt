@@ -7,8 +7,8 @@ ghost use Rattle.partial_path.specs.FileNumbers.{IsOfFileZero};
 mod offers;
 
 use crate::{PathsFault, enumerate};
+use aux_graph_text::{apply_inside, files_of, stacks_of};
 use graph_nodes::{FileGraph, Steps};
-use graph_text::{apply_inside, files_of, stacks_of};
 use partial_path::{Config, FilePaths, PartialPath, Spot, Start, file_zero_moves, start, step};
 use stacks_vars::{NodeAt, Stacks};
 use std::alloc::Global;

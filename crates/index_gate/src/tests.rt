@@ -252,10 +252,15 @@ fn kept<G: Gate>(
 }
 
 #[test]
-fn jobs_are_numbered_among_new_documents_and_left_after_a_fault(rt: HostRuntime) -> Result<(), Fail> {
+fn jobs_are_numbered_among_new_documents_and_left_after_a_fault(
+    rt: HostRuntime,
+) -> Result<(), Fail> {
     let alloc = rt.alloc();
     let first = documents_of(alloc, "a.py|x = 1;b.py|y = 2")?;
-    let others = documents_of(alloc, "a.py|x = 1;c.py|;b.py|y = 2;d.py|z = 3;notes.txt|;e.py|")?;
+    let others = documents_of(
+        alloc,
+        "a.py|x = 1;c.py|;b.py|y = 2;d.py|z = 3;notes.txt|;e.py|",
+    )?;
     let gate = Noted {
         entered: Cell::new(0),
         left: Cell::new(0),
@@ -286,10 +291,16 @@ fn a_document_has_at_most_a_mebibyte(rt: HostRuntime) -> Result<(), Fail> {
     let alloc = rt.alloc();
     let most = padded(alloc, 1_048_576)?;
     let more = padded(alloc, 1_048_577)?;
-    assert_eq!(rt; fault_at(alloc, "a.sg.json", most.as_str())?.as_str(), "none");
+    assert_eq!(rt;
+        fault_at(alloc, "a.sg.json", most.as_str())?.as_str(),
+        "none"
+    );
     for path in ["a.sg.json", "my-tool.py"] {
         let wanted = format!(in alloc; "{path}: 1048577 bytes are too many")?;
-        assert_eq!(rt; fault_at(alloc, path, more.as_str())?.as_str(), wanted.as_str());
+        assert_eq!(rt;
+            fault_at(alloc, path, more.as_str())?.as_str(),
+            wanted.as_str()
+        );
     }
     Ok(())
 }

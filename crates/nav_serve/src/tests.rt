@@ -1,11 +1,8 @@
 //! What no clause says: that the commands answer with memory at hand, on inputs worked by hand.
-mod python;
-mod versions;
-
 use crate::words::{Command, command_of};
 use crate::{Task, perform};
+use aux_graph_text::files_of;
 use graph_json::print_graph;
-use graph_text::files_of;
 use nav_io::{MemSink, MemSource};
 use std::alloc::Global;
 use std::test::Fail;

@@ -105,8 +105,8 @@ path_cuts : (files : List FileRules) (s : Start) (c first next : Config) (p : �
 path_cuts files s c first next p paths sources scopes begun stored is applied rest =
     let g = graphs_of files in
     let ran : run g first (edges_in p) ≡ Some next =
-      ap (option_and_then (λ (x : Config). run g x (edges_in p))) (sym begun) ∙ ap (λ (x : Start). run_from g x (edges_in p) c) (sym is)
-      ∙ sym (stored_runs files p c sources stored) ∙ applied in
+    ap (option_and_then (λ (x : Config). run g x (edges_in p))) (sym begun) ∙ ap (λ (x : Start). run_from g x (edges_in p) c) (sym is)
+    ∙ sym (stored_runs files p c sources stored) ∙ applied in
     let last = edges_ended files p sources stored in
     let uncut = uncut_moved g p.0 (stored.0).graph p.1.edges (graph_there files p.0 stored.0 stored.1) (zeros_of files p sources stored) (stored_lands files p sources stored).lands.walk.uncut in
     let once = cut_once_some g first next (edges_in p) (all_checked files sources) scopes (some_edges (edges_in p) last) uncut ran in

@@ -79,7 +79,7 @@ longer_height : (files : List FileRules) (s : Start) (p : ℕ × Rule) (c next :
 longer_height files s p c next paths sources stored is applied rest =
     let g = graphs_of files in
     let ran : run_from g s (edges_in p) c ≡ Some next =
-      ap (λ (x : Start). run_from g x (edges_in p) c) (sym is) ∙ sym (stored_runs files p c sources stored) ∙ applied in
+    ap (λ (x : Start). run_from g x (edges_in p) c) (sym is) ∙ sym (stored_runs files p c sources stored) ∙ applied in
     ap (λ (o : Option Config). max (height (moved p.0 p.1) c) (option_map_or (λ (next : Config). heights next paths) o 0)) applied
     ∙ (λ i. max (stored_height files s p c next sources stored is applied i) (rest i))
     ∙ sym (highest_from-append g s (edges_in p) (path_edges paths) c next ran)

@@ -3,8 +3,8 @@ mod compared;
 mod plain;
 
 use crate::{Hit, SearchFault, is_reference, search};
+use aux_graph_text::files_of;
 use graph_nodes::FileGraph;
-use graph_text::files_of;
 use partial_path::Bounds;
 use std::alloc::Global;
 use std::test::Fail;

@@ -4,8 +4,8 @@ ghost use Rattle.std.specs.Prelude.{◌+◌, ◌<◌, ◌^◌, length, IfOk, IfS
 ghost use Rattle.path_join.specs.Joins.{joined_peak};
 ghost use Rattle.partial_path.specs.FileNumbers.{IsOfFileZero};
 
+use aux_graph_text::{apply_inside, files_of, stacks_of};
 use graph_nodes::{FileGraph, NodeKind};
-use graph_text::{apply_inside, files_of, stacks_of};
 use partial_path::{Config, EdgeAt, End, PartialPath, Spot, step};
 use path_join::{join, opening, unit};
 use stacks_vars::NodeAt;

@@ -1,6 +1,6 @@
 //! Which paths a list of files offers to a symbol stack, asked as any source of paths is.
 use super::found;
-use graph_text::{files_of, stacks_of};
+use aux_graph_text::{files_of, stacks_of};
 use partial_path::{FileList, PartialPath, PathSource, Spot, Start};
 use stacks_vars::{NodeAt, SymbolStack};
 use std::alloc::Global;

@@ -1,5 +1,5 @@
 use super::*;
-use graph_text::files_of;
+use aux_graph_text::files_of;
 use stacks_vars::NodeAt;
 use std::test::Fail;
 

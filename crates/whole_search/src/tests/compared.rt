@@ -1,8 +1,8 @@
 //! The search beside the plain enumeration of all lists of edges.
 use super::{answer, bounds_of, number, told};
 use crate::tests::plain::{Told, told_by};
+use aux_graph_text::files_of;
 use graph_nodes::FileGraph;
-use graph_text::files_of;
 use partial_path::Bounds;
 use std::alloc::Global;
 use std::test::Fail;

@@ -6,14 +6,14 @@ use Rattle.file_paths.proofs.CountingLaws.{counting_begins, counting_few, counti
 use Rattle.file_paths.proofs.enumerating.find.Goals as goal
 
 pub loop-path-init : goal.loop-path-init
-loop-path-init g c = record {
+loop-path-init c = record {
   counting = counting_begins c.args.graph.now c.new-paths.result.items c.in_ok-begun.begun.items c.args.steps.now c.node_count.ensures.checked c.in_ok-begun.ensures.first c.new-paths.ensures.items;
   short = c.in_ok-begun.ensures.short;
   light = least MAX_WEIGHT;
 }
 
 pub overflow_cast-weight : goal.overflow_cast-weight
-overflow_cast-weight g c =
+overflow_cast-weight c =
     omega (
       arith,
       short_fits (MAX_WEIGHT + 1) c.in-Some.path.edges c.edges.result.now
@@ -21,7 +21,7 @@ overflow_cast-weight g c =
     )
 
 pub overflow_add-weight : goal.overflow_add-weight
-overflow_add-weight g c =
+overflow_add-weight c =
     omega (
       arith,
       c.loop-path.invariant.light,
@@ -30,94 +30,99 @@ overflow_add-weight g c =
     )
 
 pub returns-then-weight-gt-MAX_WEIGHT-clause-fault : goal.returns-then-weight-gt-MAX_WEIGHT-clause-fault
-returns-then-weight-gt-MAX_WEIGHT-clause-fault g c = (
+returns-then-weight-gt-MAX_WEIGHT-clause-fault c = (
   refl,
-  taken_heavy c.args.graph.now c.loop-path.paths.items c.pop.new.self.items c.in-Some.path c.loop-path.weight c.edges.result.now c.args.steps.now c.tick.new.self
-      (takes c.args.graph.now c.loop-path.paths.items c.loop-path.begun.items c.pop.new.self.items c.in-Some.path c.loop-path.weight c.edges.result.now c.args.steps.now c.loop-path.steps c.tick.new.self
-      c.loop-path.invariant.counting c.in-Some.ensures.items c.edges.ensures.value c.tick.ensures) MAX_WEIGHT c.if-weight-gt-MAX_WEIGHT.true,
+  taken_heavy c.args.graph.now c.loop-path.paths.items c.pop.new.self.items c.in-Some.path c.loop-path.weight c.edges.result.now c.args.steps.now (c.loop-path.steps + 1)
+      (takes c.args.graph.now c.loop-path.paths.items c.loop-path.begun.items c.pop.new.self.items c.in-Some.path c.loop-path.weight c.edges.result.now c.args.steps.now c.loop-path.steps (c.loop-path.steps + 1)
+      c.loop-path.invariant.counting c.in-Some.ensures.items c.edges.ensures.value refl) MAX_WEIGHT c.if-weight-gt-MAX_WEIGHT.true,
 )
 
 pub returns-then-weight-gt-MAX_WEIGHT-clause-few : goal.returns-then-weight-gt-MAX_WEIGHT-clause-few
-returns-then-weight-gt-MAX_WEIGHT-clause-few g c =
-    taken_few c.args.graph.now c.loop-path.paths.items c.pop.new.self.items c.in-Some.path c.loop-path.weight c.edges.result.now c.args.steps.now c.tick.new.self
-    (takes c.args.graph.now c.loop-path.paths.items c.loop-path.begun.items c.pop.new.self.items c.in-Some.path c.loop-path.weight c.edges.result.now c.args.steps.now c.loop-path.steps c.tick.new.self
-    c.loop-path.invariant.counting c.in-Some.ensures.items c.edges.ensures.value c.tick.ensures) MAX_WEIGHT c.loop-path.invariant.light
+returns-then-weight-gt-MAX_WEIGHT-clause-few c =
+    taken_few c.args.graph.now c.loop-path.paths.items c.pop.new.self.items c.in-Some.path c.loop-path.weight c.edges.result.now c.args.steps.now (c.loop-path.steps + 1)
+    (takes c.args.graph.now c.loop-path.paths.items c.loop-path.begun.items c.pop.new.self.items c.in-Some.path c.loop-path.weight c.edges.result.now c.args.steps.now c.loop-path.steps (c.loop-path.steps + 1)
+    c.loop-path.invariant.counting c.in-Some.ensures.items c.edges.ensures.value refl) MAX_WEIGHT c.loop-path.invariant.light
 
 pub returns-then-weight-gt-MAX_WEIGHT-clause-fewer : goal.returns-then-weight-gt-MAX_WEIGHT-clause-fewer
-returns-then-weight-gt-MAX_WEIGHT-clause-fewer g c =
-    λ whole weighs. taken_within c.args.graph.now c.loop-path.paths.items c.pop.new.self.items c.in-Some.path c.loop-path.weight c.edges.result.now c.args.steps.now c.tick.new.self
-    (takes c.args.graph.now c.loop-path.paths.items c.loop-path.begun.items c.pop.new.self.items c.in-Some.path c.loop-path.weight c.edges.result.now c.args.steps.now c.loop-path.steps c.tick.new.self
-    c.loop-path.invariant.counting c.in-Some.ensures.items c.edges.ensures.value c.tick.ensures) whole weighs
+returns-then-weight-gt-MAX_WEIGHT-clause-fewer c =
+    λ whole weighs. taken_within c.args.graph.now c.loop-path.paths.items c.pop.new.self.items c.in-Some.path c.loop-path.weight c.edges.result.now c.args.steps.now (c.loop-path.steps + 1)
+    (takes c.args.graph.now c.loop-path.paths.items c.loop-path.begun.items c.pop.new.self.items c.in-Some.path c.loop-path.weight c.edges.result.now c.args.steps.now c.loop-path.steps (c.loop-path.steps + 1)
+    c.loop-path.invariant.counting c.in-Some.ensures.items c.edges.ensures.value refl) whole weighs
 
 pub returns-in_err-keep-clause-few : goal.returns-in_err-keep-clause-few
-returns-in_err-keep-clause-few g c =
-    taken_few c.args.graph.now c.loop-path.paths.items c.pop.new.self.items c.in-Some.path c.loop-path.weight c.edges.result.now c.args.steps.now c.tick.new.self
-    (takes c.args.graph.now c.loop-path.paths.items c.loop-path.begun.items c.pop.new.self.items c.in-Some.path c.loop-path.weight c.edges.result.now c.args.steps.now c.loop-path.steps c.tick.new.self
-    c.loop-path.invariant.counting c.in-Some.ensures.items c.edges.ensures.value c.tick.ensures) MAX_WEIGHT c.loop-path.invariant.light
+returns-in_err-keep-clause-few c =
+    taken_few c.args.graph.now c.loop-path.paths.items c.pop.new.self.items c.in-Some.path c.loop-path.weight c.edges.result.now c.args.steps.now (c.loop-path.steps + 1)
+    (takes c.args.graph.now c.loop-path.paths.items c.loop-path.begun.items c.pop.new.self.items c.in-Some.path c.loop-path.weight c.edges.result.now c.args.steps.now c.loop-path.steps (c.loop-path.steps + 1)
+    c.loop-path.invariant.counting c.in-Some.ensures.items c.edges.ensures.value refl) MAX_WEIGHT c.loop-path.invariant.light
 
 pub returns-in_err-keep-clause-fewer : goal.returns-in_err-keep-clause-fewer
-returns-in_err-keep-clause-fewer g c =
-    λ whole weighs. taken_within c.args.graph.now c.loop-path.paths.items c.pop.new.self.items c.in-Some.path c.loop-path.weight c.edges.result.now c.args.steps.now c.tick.new.self
-    (takes c.args.graph.now c.loop-path.paths.items c.loop-path.begun.items c.pop.new.self.items c.in-Some.path c.loop-path.weight c.edges.result.now c.args.steps.now c.loop-path.steps c.tick.new.self
-    c.loop-path.invariant.counting c.in-Some.ensures.items c.edges.ensures.value c.tick.ensures) whole weighs
+returns-in_err-keep-clause-fewer c =
+    λ whole weighs. taken_within c.args.graph.now c.loop-path.paths.items c.pop.new.self.items c.in-Some.path c.loop-path.weight c.edges.result.now c.args.steps.now (c.loop-path.steps + 1)
+    (takes c.args.graph.now c.loop-path.paths.items c.loop-path.begun.items c.pop.new.self.items c.in-Some.path c.loop-path.weight c.edges.result.now c.args.steps.now c.loop-path.steps (c.loop-path.steps + 1)
+    c.loop-path.invariant.counting c.in-Some.ensures.items c.edges.ensures.value refl) whole weighs
 
 pub keep-requires-clause-walk : goal.keep-requires-clause-walk
-keep-requires-clause-walk g c =
-    taken_walk c.args.graph.now c.loop-path.paths.items c.pop.new.self.items c.in-Some.path c.loop-path.weight c.edges.result.now c.args.steps.now c.tick.new.self
-    (takes c.args.graph.now c.loop-path.paths.items c.loop-path.begun.items c.pop.new.self.items c.in-Some.path c.loop-path.weight c.edges.result.now c.args.steps.now c.loop-path.steps c.tick.new.self
-    c.loop-path.invariant.counting c.in-Some.ensures.items c.edges.ensures.value c.tick.ensures)
+keep-requires-clause-walk c =
+    taken_walk c.args.graph.now c.loop-path.paths.items c.pop.new.self.items c.in-Some.path c.loop-path.weight c.edges.result.now c.args.steps.now (c.loop-path.steps + 1)
+    (takes c.args.graph.now c.loop-path.paths.items c.loop-path.begun.items c.pop.new.self.items c.in-Some.path c.loop-path.weight c.edges.result.now c.args.steps.now c.loop-path.steps (c.loop-path.steps + 1)
+    c.loop-path.invariant.counting c.in-Some.ensures.items c.edges.ensures.value refl)
 
 pub keep-requires-clause-exact : goal.keep-requires-clause-exact
-keep-requires-clause-exact g c =
-    taken_rule c.args.graph.now c.loop-path.paths.items c.pop.new.self.items c.in-Some.path c.loop-path.weight c.edges.result.now c.args.steps.now c.tick.new.self
-    (takes c.args.graph.now c.loop-path.paths.items c.loop-path.begun.items c.pop.new.self.items c.in-Some.path c.loop-path.weight c.edges.result.now c.args.steps.now c.loop-path.steps c.tick.new.self
-    c.loop-path.invariant.counting c.in-Some.ensures.items c.edges.ensures.value c.tick.ensures)
+keep-requires-clause-exact c =
+    taken_rule c.args.graph.now c.loop-path.paths.items c.pop.new.self.items c.in-Some.path c.loop-path.weight c.edges.result.now c.args.steps.now (c.loop-path.steps + 1)
+    (takes c.args.graph.now c.loop-path.paths.items c.loop-path.begun.items c.pop.new.self.items c.in-Some.path c.loop-path.weight c.edges.result.now c.args.steps.now c.loop-path.steps (c.loop-path.steps + 1)
+    c.loop-path.invariant.counting c.in-Some.ensures.items c.edges.ensures.value refl)
 
 pub keep-requires-clause-short : goal.keep-requires-clause-short
-keep-requires-clause-short g c =
-    taken_short c.args.graph.now c.loop-path.paths.items c.pop.new.self.items c.in-Some.path c.loop-path.weight c.edges.result.now c.args.steps.now c.tick.new.self
-    (takes c.args.graph.now c.loop-path.paths.items c.loop-path.begun.items c.pop.new.self.items c.in-Some.path c.loop-path.weight c.edges.result.now c.args.steps.now c.loop-path.steps c.tick.new.self
-    c.loop-path.invariant.counting c.in-Some.ensures.items c.edges.ensures.value c.tick.ensures) MAX_WEIGHT (short_last (MAX_WEIGHT + 1) c.loop-path.begun.items c.pop.new.self.items c.in-Some.path c.in-Some.ensures.items c.loop-path.invariant.short).1 c.if-weight-gt-MAX_WEIGHT.false
+keep-requires-clause-short c =
+    taken_short c.args.graph.now c.loop-path.paths.items c.pop.new.self.items c.in-Some.path c.loop-path.weight c.edges.result.now c.args.steps.now (c.loop-path.steps + 1)
+    (takes c.args.graph.now c.loop-path.paths.items c.loop-path.begun.items c.pop.new.self.items c.in-Some.path c.loop-path.weight c.edges.result.now c.args.steps.now c.loop-path.steps (c.loop-path.steps + 1)
+    c.loop-path.invariant.counting c.in-Some.ensures.items c.edges.ensures.value refl) MAX_WEIGHT (short_last (MAX_WEIGHT + 1) c.loop-path.begun.items c.pop.new.self.items c.in-Some.path c.in-Some.ensures.items c.loop-path.invariant.short).1 c.if-weight-gt-MAX_WEIGHT.false
 
 pub keep-requires-clause-begun : goal.keep-requires-clause-begun
-keep-requires-clause-begun g c =
+keep-requires-clause-begun c =
     (short_last (MAX_WEIGHT + 1) c.loop-path.begun.items c.pop.new.self.items c.in-Some.path c.in-Some.ensures.items c.loop-path.invariant.short).0
 
 pub loop-path-smaller : goal.loop-path-smaller
-loop-path-smaller g c =
-    taken_smaller c.args.graph.now c.loop-path.paths.items c.pop.new.self.items c.in-Some.path c.loop-path.weight c.edges.result.now c.args.steps.now c.tick.new.self
-    (takes c.args.graph.now c.loop-path.paths.items c.loop-path.begun.items c.pop.new.self.items c.in-Some.path c.loop-path.weight c.edges.result.now c.args.steps.now c.loop-path.steps c.tick.new.self
-    c.loop-path.invariant.counting c.in-Some.ensures.items c.edges.ensures.value c.tick.ensures) MAX_WEIGHT c.loop-path.invariant.light
+loop-path-smaller c =
+    taken_smaller c.args.graph.now c.loop-path.paths.items c.pop.new.self.items c.in-Some.path c.loop-path.weight c.edges.result.now c.args.steps.now (c.loop-path.steps + 1)
+    (takes c.args.graph.now c.loop-path.paths.items c.loop-path.begun.items c.pop.new.self.items c.in-Some.path c.loop-path.weight c.edges.result.now c.args.steps.now c.loop-path.steps (c.loop-path.steps + 1)
+    c.loop-path.invariant.counting c.in-Some.ensures.items c.edges.ensures.value refl) MAX_WEIGHT c.loop-path.invariant.light
 
 pub loop-path-preserved : goal.loop-path-preserved
-loop-path-preserved g c = record {
-  counting = taken_kept c.args.graph.now c.loop-path.paths.items c.pop.new.self.items c.in-Some.path c.loop-path.weight c.edges.result.now c.args.steps.now c.tick.new.self
-      (takes c.args.graph.now c.loop-path.paths.items c.loop-path.begun.items c.pop.new.self.items c.in-Some.path c.loop-path.weight c.edges.result.now c.args.steps.now c.loop-path.steps c.tick.new.self
-      c.loop-path.invariant.counting c.in-Some.ensures.items c.edges.ensures.value c.tick.ensures) c.keep.new.begun.items c.keep.new.paths.items c.in_ok-keep.ensures.longer c.in_ok-keep.ensures.kept;
+loop-path-preserved c = record {
+  counting = taken_kept c.args.graph.now c.loop-path.paths.items c.pop.new.self.items c.in-Some.path c.loop-path.weight c.edges.result.now c.args.steps.now (c.loop-path.steps + 1)
+      (takes c.args.graph.now c.loop-path.paths.items c.loop-path.begun.items c.pop.new.self.items c.in-Some.path c.loop-path.weight c.edges.result.now c.args.steps.now c.loop-path.steps (c.loop-path.steps + 1)
+      c.loop-path.invariant.counting c.in-Some.ensures.items c.edges.ensures.value refl) c.keep.new.begun.items c.keep.new.paths.items c.in_ok-keep.ensures.longer c.in_ok-keep.ensures.kept;
   short = c.in_ok-keep.ensures.begun;
   light = c.if-weight-gt-MAX_WEIGHT.false;
 }
 
 pub returns-clause-paths : goal.returns-clause-paths
-returns-clause-paths g c =
+returns-clause-paths c =
     counted_set c.args.graph.now c.loop-path.paths.items c.loop-path.begun.items c.loop-path.weight c.args.steps.now c.loop-path.steps
     (none_left (vec_len c.loop-path.begun) c.loop-path.begun.items c.pop.new.self.items c.in_default.ensures.cases.0 c.in_default.ensures.items c.in_default.ensures.rest) c.loop-path.invariant.counting
 
 pub returns-clause-weight : goal.returns-clause-weight
-returns-clause-weight g c =
+returns-clause-weight c =
     counted_weight c.args.graph.now c.loop-path.paths.items c.loop-path.begun.items c.loop-path.weight c.args.steps.now c.loop-path.steps
     (none_left (vec_len c.loop-path.begun) c.loop-path.begun.items c.pop.new.self.items c.in_default.ensures.cases.0 c.in_default.ensures.items c.in_default.ensures.rest) c.loop-path.invariant.counting
 
 pub returns-clause-steps : goal.returns-clause-steps
-returns-clause-steps g c =
+returns-clause-steps c =
     counted_steps c.args.graph.now c.loop-path.paths.items c.loop-path.begun.items c.loop-path.weight c.args.steps.now c.loop-path.steps
     (none_left (vec_len c.loop-path.begun) c.loop-path.begun.items c.pop.new.self.items c.in_default.ensures.cases.0 c.in_default.ensures.items c.in_default.ensures.rest) c.loop-path.invariant.counting
 
 pub returns-clause-few : goal.returns-clause-few
-returns-clause-few g c =
+returns-clause-few c =
     one_above c.loop-path.steps c.args.steps.now MAX_WEIGHT
     (counting_few c.args.graph.now c.loop-path.paths.items c.loop-path.begun.items c.loop-path.weight c.args.steps.now c.loop-path.steps MAX_WEIGHT c.loop-path.invariant.counting c.loop-path.invariant.light)
 
 pub returns-clause-fewer : goal.returns-clause-fewer
-returns-clause-fewer g c =
+returns-clause-fewer c =
     λ whole weighs. counting_within c.args.graph.now c.loop-path.paths.items c.loop-path.begun.items c.loop-path.weight c.args.steps.now c.loop-path.steps whole c.loop-path.invariant.counting weighs
+
+pub overflow_add-steps : goal.overflow_add-steps
+overflow_add-steps c =
+    let few = counting_few c.args.graph.now c.loop-path.paths.items c.loop-path.begun.items c.loop-path.weight c.args.steps.now c.loop-path.steps MAX_WEIGHT c.loop-path.invariant.counting c.loop-path.invariant.light in
+    omega (arith, few, c.requires)

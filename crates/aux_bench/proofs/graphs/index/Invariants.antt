@@ -1,4 +1,4 @@
-use Rattle.nav_bench.proofs.graphs.index.Given as goal
+use Rattle.aux_bench.proofs.graphs.index.Given as goal
 
 -- the ledger is the one that was opened here
 abbrev pub ghosts-indexed : goal.ghosts-indexed

@@ -1,5 +1,5 @@
 use Rattle.index_gate.specs.Indexed.{AreIndexed}
-use Rattle.nav_bench.proofs.graphs.indexed.Given as goal
+use Rattle.aux_bench.proofs.graphs.indexed.Given as goal
 
 -- what the store keeps is indexed
 abbrev pub invariant-loop : goal.invariant-loop

@@ -1,9 +1,9 @@
 //! What no clause says: files that are put into a version, as its users see them.
 ghost use Rattle.std.specs.Prelude.{◌≡◌, ◌<◌};
 
+use aux_graph_text::files_of;
 use file_paths::{PathsFault, enumerate};
 use graph_nodes::{FileGraph, Steps};
-use graph_text::files_of;
 use partial_path::{Bounds, FilePaths, SharedPaths};
 use std::alloc::Global;
 use std::marker::Brand;

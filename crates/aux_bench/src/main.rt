@@ -1,4 +1,4 @@
-//! The program `nav_bench`: runs a call of a library that `navd` doesn't make, as often as the case asks
+//! The program `aux_bench`: runs a call of a library that `navd` doesn't make, as often as the case asks
 //! for, so that it can be timed. It is no part of the server.
 //!
 //! The case stands on the first line of standard input, and what it needs behind it. `parse N` reads the

@@ -1,0 +1,7 @@
+//! Tests that cross crates, from the texts that a user has to the rows of an answer. They are no part of the server.
+#![tactic(auto)]
+
+#[cfg(test)]
+mod python;
+#[cfg(test)]
+mod versions;
