@@ -1,8 +1,7 @@
 -- How long and how high a run is that stored paths make, one after the other.
-use Rattle.std.proofs.Common.{◌≡◌, ◌≢◌, ◌≤◌, refl, sym, ap, ◌∙◌, subst, ℕ, ◌+◌, max, List, [], ◌∷◌, ◌++◌, map, length, Option, Some, None, IsSome, arith, length-append}
-use Rattle.std.specs.Prelude.{All, ⊤, MatchOption, ◌↔◌}
+use Rattle.std.proofs.Common.{◌≡◌, ◌≢◌, ◌≤◌, refl, sym, ap, ◌∙◌, subst, ℕ, ◌+◌, max, List, [], ◌∷◌, ◌++◌, length, Option, Some, None, arith, length-append}
+use Rattle.std.specs.Prelude.{All, ⊤, MatchOption}
 use Rattle.std.specs.Option.{option_and_then, option_map_or, is_some}
-use Rattle.std.specs.List.{flat_map, sum_by}
 use Rattle.std.proofs.lemmas.Option.{none-some, same_Some}
 use Rattle.std.proofs.lemmas.List.{length-map}
 use Rattle.graph_nodes.specs.Graph.{Graph}
@@ -14,7 +13,7 @@ use Rattle.partial_path.specs.declared.rule.Start.{Start}
 use Rattle.partial_path.specs.declared.rule.Start.TheVariants.{Before, After}
 use Rattle.partial_path.specs.Spots.{at_node}
 use Rattle.partial_path.specs.Step.{step, start}
-use Rattle.partial_path.specs.Runs.{run, IsShallow, IsBounded}
+use Rattle.partial_path.specs.Runs.{run, IsShallow}
 use Rattle.partial_path.specs.Rules.{Rule}
 use Rattle.partial_path.specs.Apply.{apply, height}
 use Rattle.partial_path.specs.Walks.{begin, run_from, highest, highest_from}
@@ -79,7 +78,7 @@ longer_height : (files : List FileRules) (s : Start) (p : ℕ × Rule) (c next :
 longer_height files s p c next paths sources stored is applied rest =
     let g = graphs_of files in
     let ran : run_from g s (edges_in p) c ≡ Some next =
-      ap (λ (x : Start). run_from g x (edges_in p) c) (sym is) ∙ sym (stored_runs files p c sources stored) ∙ applied in
+    ap (λ (x : Start). run_from g x (edges_in p) c) (sym is) ∙ sym (stored_runs files p c sources stored) ∙ applied in
     ap (λ (o : Option Config). max (height (moved p.0 p.1) c) (option_map_or (λ (next : Config). heights next paths) o 0)) applied
     ∙ (λ i. max (stored_height files s p c next sources stored is applied i) (rest i))
     ∙ sym (highest_from-append g s (edges_in p) (path_edges paths) c next ran)
