@@ -1,10 +1,8 @@
 -- Where a run that stored paths make is cut: where they land at the root, at exported scopes and at turning nodes.
-use Rattle.std.proofs.Common.{◌≡◌, ◌≢◌, refl, sym, ap, ◌∙◌, subst, ℕ, List, [], ◌∷◌, ◌++◌, map, Bool, true, false, cond, Option, Some, None, if◌then◌else◌, append_assoc, append-nil, IsSome}
-use Rattle.std.specs.Prelude.{All, filter, IsTrue, ◌↔◌, slice_get}
-use Rattle.std.specs.Option.{option_and_then, option_map_or}
-use Rattle.std.specs.List.{AllByRecursion, flat_map}
-use Rattle.std.proofs.lemmas.Bool.{false≢true, both_ways}
-use Rattle.std.proofs.lemmas.Option.{none-some, same_Some, option_and_then_some}
+use Rattle.std.proofs.Common.{◌≡◌, ◌≢◌, refl, sym, ap, ◌∙◌, subst, ℕ, List, [], ◌∷◌, ◌++◌, Bool, true, false, cond, Option, Some, None, if◌then◌else◌, append_assoc, append-nil, ◌⊎◌, inl, inr}
+use Rattle.std.specs.Prelude.{All, IsTrue, IsSomeAnd}
+use Rattle.std.specs.Option.{option_and_then, option_map_or, is_some}
+use Rattle.std.proofs.lemmas.Option.{none-some, same_Some}
 use Rattle.graph_nodes.specs.declared.node.Place.TheVariants as place
 use Rattle.graph_nodes.specs.Graph.{Graph}
 use Rattle.stacks_vars.specs.declared.scopes.NodeAt.{NodeAt}
@@ -15,7 +13,8 @@ use Rattle.partial_path.specs.declared.rule.Start.{Start}
 use Rattle.partial_path.specs.declared.rule.Start.TheVariants.{Before, After}
 use Rattle.partial_path.specs.Spots.{at_node}
 use Rattle.partial_path.specs.Step.{step, start, is_cut_edge}
-use Rattle.partial_path.specs.Runs.{run, where_cut, after_cuts, IsClosed}
+use Rattle.partial_path.specs.Runs.{run, where_cut, after_cuts, IsApart, IsStraight, IsClosed, IsAtDefinition}
+use Rattle.partial_path.specs.Counted.{IsComplete}
 use Rattle.partial_path.specs.Rules.{Rule}
 use Rattle.partial_path.specs.Apply.{apply}
 use Rattle.partial_path.specs.Walks.{begin, run_from, is_cut_spot_of, IsUncut}
@@ -23,11 +22,11 @@ use Rattle.partial_path.specs.Moved.{moved_start, moved}
 use Rattle.partial_path.specs.PathSets.{FileRules}
 use Rattle.partial_path.specs.Sources.{IsSourceFile, graphs_of}
 use Rattle.partial_path.specs.Cutting.{IsStoredIn, edges_in, path_edges, PathsLead, LeadFrom, landings, at_cuts}
-use Rattle.partial_path.specs.Laws.{JoinedCuts}
-use Rattle.partial_path.proofs.Followed.{uncut_spot, last_step}
+use Rattle.partial_path.specs.Laws.{AreStraightPaths, LandingsTell}
+use Rattle.partial_path.proofs.Followed.{uncut_spot}
 use Rattle.partial_path.proofs.MovedWalks.{uncut_moved}
 use Rattle.partial_path.proofs.OnlyCuts.{zeros_of}
-use Rattle.partial_path.proofs.Joints.{IsEnded, ended, graph_there, stored_lands, stored_runs, edges_ended, begin_after, run_after, start_entered, begin_before, paths_are_runs}
+use Rattle.partial_path.proofs.Joints.{IsEnded, ended, graph_there, stored_lands, stored_runs, edges_ended, begin_after, start_entered, begin_before, paths_are_runs}
 use Rattle.partial_path.proofs.Exported.{AreChecked, HasCutScopes, place_cut, step_cut, cut_spot}
 use Rattle.partial_path.proofs.CutRuns.{all_checked}
 
@@ -163,12 +162,51 @@ closed_some : (files : List Graph) (c end : Config) (es : List EdgeAt) → AreCh
 closed_some files c end [] checked scopes some ran cut = absurd (some refl)
 closed_some files c end (e ∷ es) checked scopes some ran cut = closed_from files c end e es checked scopes ran cut
 
-pub joined_cuts : JoinedCuts
-joined_cuts files r c end paths sources starts some leads =
+-- where the run is complete or counted
+
+end_lands : (files : List Graph) (c end : Config) (es : List EdgeAt) → run files c es ≡ Some end → IsComplete files c es → IsAtDefinition files end
+end_lands files c end es ran complete = subst (λ (o : Option Config). IsSomeAnd o (IsAtDefinition files)) ran complete.ends
+
+completed : (files : List Graph) (c end : Config) (es : List EdgeAt) → es ≢ [] → run files c es ≡ Some end → IsStraight files c es → IsAtDefinition files end → IsComplete files c es
+completed files c end es some ran straight at = record {
+  nonempty = some;
+  straight = straight;
+  ends = subst (λ (o : Option Config). IsSomeAnd o (IsAtDefinition files)) (sym ran) at;
+}
+
+counted_to : (files : List Graph) (c end : Config) (es : List EdgeAt) → AreChecked files → HasCutScopes files c.stacks → run files c es ≡ Some end
+    → IsClosed files es ⊎ IsComplete files c es → IsTrue (is_cut_spot_of files end.spot) ⊎ IsAtDefinition files end
+counted_to files c end es checked scopes ran (inl closed) = inl (closed_to files c end es checked scopes ran closed)
+counted_to files c end es checked scopes ran (inr complete) = inr (end_lands files c end es ran complete)
+
+counted_from : (files : List Graph) (c end : Config) (es : List EdgeAt) → AreChecked files → HasCutScopes files c.stacks → es ≢ [] → run files c es ≡ Some end → IsStraight files c es
+    → IsTrue (is_cut_spot_of files end.spot) ⊎ IsAtDefinition files end → IsClosed files es ⊎ IsComplete files c es
+counted_from files c end es checked scopes some ran straight (inl cut) = inl (closed_some files c end es checked scopes some ran cut)
+counted_from files c end es checked scopes some ran straight (inr at) = inr (completed files c end es some ran straight at)
+
+pub landings_tell : LandingsTell
+landings_tell files r c end paths sources starts some leads =
     let g = graphs_of files in
+    let es = path_edges paths in
     let checked = all_checked files sources in
     let scopes = start_scopes files r c sources starts in
-    let ran = paths_are_runs files r c end paths sources starts some leads in record {
-      cuts = cuts_from files r c end paths sources starts leads;
-      closed = (closed_to g c end (path_edges paths) checked scopes ran.runs, closed_some g c end (path_edges paths) checked scopes ran.nonempty ran.runs);
+    let ran = paths_are_runs files r c end paths sources starts some leads in
+    let cuts : after_cuts g c es ≡ at_cuts g (landings (at_node r no_stacks) paths) = cuts_from files r c end paths sources starts leads in
+    let to : IsStraight g c es → AreStraightPaths files r c paths = subst (λ (cs : List Config). IsApart (c ∷ cs)) cuts in
+    let from : AreStraightPaths files r c paths → IsStraight g c es = subst (λ (cs : List Config). IsApart (c ∷ cs)) (sym cuts) in record {
+      cuts = cuts;
+      closed = (closed_to g c end es checked scopes ran.runs, closed_some g c end es checked scopes ran.nonempty ran.runs);
+      complete = (
+        λ h. (to h.straight, end_lands g c end es ran.runs h),
+        λ h. completed g c end es ran.nonempty ran.runs (from h.0) h.1,
+      );
+      counted = (
+        λ h. (to h.straight, counted_to g c end es checked scopes ran.runs h.lands),
+        λ h. record {
+          nonempty = ran.nonempty;
+          runs = ap is_some ran.runs;
+          straight = from h.0;
+          lands = counted_from g c end es checked scopes ran.nonempty ran.runs (from h.0) h.1;
+        },
+      );
     }

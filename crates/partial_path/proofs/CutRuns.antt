@@ -1,37 +1,34 @@
 -- A run from a reference is cut, behind each of its cut edges, into stored paths.
-use Rattle.std.proofs.Common.{◌≡◌, ◌≢◌, refl, sym, ap, ◌∙◌, subst, ℕ, zero, suc, ◌+◌, ◌<◌, List, [], ◌∷◌, ◌++◌, map, length, get_or, Bool, true, false, Option, Some, None, if◌then◌else◌, arith, append_assoc, append-nil, ◌⊎◌, inl, inr}
-use Rattle.std.specs.Prelude.{◌||◌, slice_get, All, Contains, IsSome, IsSomeAnd, IsTrue}
+use Rattle.std.proofs.Common.{◌≡◌, ◌≢◌, refl, sym, ap, ◌∙◌, subst, ℕ, zero, suc, ◌<◌, List, [], ◌∷◌, ◌++◌, map, length, get_or, Bool, true, false, Option, Some, None, arith, append_assoc, append-nil, ◌⊎◌, inl, inr}
+use Rattle.std.specs.Prelude.{slice_get, All, Contains, IsSome, IsSomeAnd}
 use Rattle.std.specs.Option.{option_map, option_and_then, option_map_or, is_some}
-use Rattle.std.specs.List.{AllByRecursion, flat_map}
-use Rattle.std.proofs.lemmas.Bool.{or_left, cases_Bool}
-use Rattle.std.proofs.lemmas.Option.{none-some, same_Some, slice_get-map, option_and_then_some}
+use Rattle.std.specs.List.{AllByRecursion}
+use Rattle.std.proofs.lemmas.Bool.{or_left}
+use Rattle.std.proofs.lemmas.Option.{none-some, same_Some, slice_get-map}
 use Rattle.graph_nodes.specs.declared.node.Node.{Node}
-use Rattle.graph_nodes.specs.declared.node.Edge.{Edge}
 use Rattle.graph_nodes.specs.declared.node.Place.TheVariants as place
 use Rattle.graph_nodes.specs.Graph.{Graph, is_reference_kind, is_reference}
 use Rattle.graph_nodes.specs.Checked.{IsChecked}
-use Rattle.graph_nodes.specs.Whole.{edge_of}
 use Rattle.stacks_vars.specs.declared.scopes.NodeAt.{NodeAt}
 use Rattle.stacks_vars.specs.Enter.{no_stacks}
 use Rattle.partial_path.specs.declared.config.Spot.{Spot}
-use Rattle.partial_path.specs.declared.config.Spot.TheVariants as spot
 use Rattle.partial_path.specs.declared.config.Config.{Config}
 use Rattle.partial_path.specs.declared.config.EdgeAt.{EdgeAt}
 use Rattle.partial_path.specs.declared.rule.Start.{Start}
 use Rattle.partial_path.specs.declared.rule.Start.TheVariants.{Before, After}
-use Rattle.partial_path.specs.Spots.{node_at, at_node}
+use Rattle.partial_path.specs.Spots.{at_node}
 use Rattle.partial_path.specs.Step.{step, start, start_at, enter_node, is_cut_edge}
 use Rattle.partial_path.specs.Runs.{run, IsClosed, IsAtDefinition}
-use Rattle.partial_path.specs.Counted.{IsCounted, IsComplete}
+use Rattle.partial_path.specs.Counted.{IsComplete}
 use Rattle.partial_path.specs.Rules.{Rule}
 use Rattle.partial_path.specs.Apply.{apply}
-use Rattle.partial_path.specs.Walks.{alone, run_from, starts_walks_of, is_definition_place, IsUncut, lands_after, ends_landing, IsLandingWalk, Walk, walk_of}
+use Rattle.partial_path.specs.Walks.{alone, run_from, starts_walks_of, IsUncut, lands_after, ends_landing, IsLandingWalk, Walk, walk_of}
 use Rattle.partial_path.specs.Moved.{moved_edge, moved_start, moved}
 use Rattle.partial_path.specs.FileNumbers.{EdgeIn, SpotIn, StartIn}
 use Rattle.partial_path.specs.Inside.{start_inside}
 use Rattle.partial_path.specs.PathSets.{FileRules, walk_of_rule}
 use Rattle.partial_path.specs.Sources.{IsSourceFile, graphs_of}
-use Rattle.partial_path.specs.Cutting.{IsStoredIn, edges_in, path_edges, PathsLead, LeadFrom}
+use Rattle.partial_path.specs.Cutting.{IsStoredIn, edges_in, path_edges, PathsLead}
 use Rattle.partial_path.specs.Laws.{CountedRunsAreCut}
 use Rattle.partial_path.proofs.Swaps.{sw_config, some_mapped}
 use Rattle.partial_path.proofs.SwappedRuns.{ran_from, moved_starts_are_starts}

@@ -1,13 +1,12 @@
 -- All scopes on the stacks of a run are exported scopes, so a run that jumps to one stands where paths are cut.
-use Rattle.std.proofs.Common.{◌≡◌, refl, sym, ap, ◌∙◌, subst, ℕ, List, [], ◌∷◌, length, Bool, true, false, Option, Some, None, if◌then◌else◌, cond, get_or}
-use Rattle.std.specs.Prelude.{slice_get, All, IsTrue, ⊤}
-use Rattle.std.specs.Option.{option_map, option_and_then, option_map_or}
+use Rattle.std.proofs.Common.{◌≡◌, refl, sym, ap, ◌∙◌, subst, ℕ, List, [], ◌∷◌, true, Option, Some, None}
+use Rattle.std.specs.Prelude.{slice_get, IsTrue, ⊤}
+use Rattle.std.specs.Option.{option_map}
 use Rattle.std.specs.List.{AllByRecursion}
 use Rattle.std.specs.Str.{bytes_eq}
 use Rattle.std.proofs.lemmas.Bool.{or_left}
 use Rattle.std.proofs.lemmas.Option.{none-some, same_Some, option_and_then_some, cond_some, slice_get_within, get_or_from_slice_get}
 use Rattle.graph_nodes.specs.declared.node.Node.{Node}
-use Rattle.graph_nodes.specs.declared.node.Edge.{Edge}
 use Rattle.graph_nodes.specs.declared.node.NodeKind.{NodeKind}
 use Rattle.graph_nodes.specs.declared.node.NodeKind.TheVariants.{Scope, Push, PushScoped, Pop, PopScoped, Drops}
 use Rattle.graph_nodes.specs.declared.node.Place.{Place}
@@ -21,14 +20,13 @@ use Rattle.stacks_vars.specs.declared.scopes.NodeAt.{NodeAt}
 use Rattle.stacks_vars.specs.declared.items.SymbolItem.{SymbolItem}
 use Rattle.stacks_vars.specs.declared.stacks.Stacks.{Stacks}
 use Rattle.stacks_vars.specs.Enter.{item_of, stacks_of, popped, popped_scoped, pop, pop_scoped, enter}
-use Rattle.partial_path.specs.declared.config.Spot.TheVariants as spot
 use Rattle.partial_path.specs.declared.config.Config.{Config}
 use Rattle.partial_path.specs.declared.config.EdgeAt.{EdgeAt}
 use Rattle.partial_path.specs.Spots.{node_at, at_node, at_root}
 use Rattle.partial_path.specs.Step.{action_of, enter_node, enter_jump, enter_place, step, is_cut_edge}
 use Rattle.partial_path.specs.Walks.{is_cut_spot_of}
 use Rattle.partial_path.proofs.Edges.{is_cut_edge-found}
-use Rattle.partial_path.proofs.Followed.{IsFollowed, followed_by, entered_spot, root_spot, cut_of}
+use Rattle.partial_path.proofs.Followed.{followed_by, entered_spot, root_spot, cut_of}
 
 -- all graphs of the files are checked
 abbrev pub AreChecked : List Graph → Type 0

@@ -1,8 +1,7 @@
 -- How long and how high a run is that stored paths make, one after the other.
-use Rattle.std.proofs.Common.{◌≡◌, ◌≢◌, ◌≤◌, refl, sym, ap, ◌∙◌, subst, ℕ, ◌+◌, max, List, [], ◌∷◌, ◌++◌, map, length, Option, Some, None, IsSome, arith, length-append}
-use Rattle.std.specs.Prelude.{All, ⊤, MatchOption, ◌↔◌}
+use Rattle.std.proofs.Common.{◌≡◌, ◌≢◌, ◌≤◌, refl, sym, ap, ◌∙◌, subst, ℕ, ◌+◌, max, List, [], ◌∷◌, ◌++◌, length, Option, Some, None, arith, length-append}
+use Rattle.std.specs.Prelude.{All, ⊤, MatchOption}
 use Rattle.std.specs.Option.{option_and_then, option_map_or, is_some}
-use Rattle.std.specs.List.{flat_map, sum_by}
 use Rattle.std.proofs.lemmas.Option.{none-some, same_Some}
 use Rattle.std.proofs.lemmas.List.{length-map}
 use Rattle.graph_nodes.specs.Graph.{Graph}
@@ -14,7 +13,7 @@ use Rattle.partial_path.specs.declared.rule.Start.{Start}
 use Rattle.partial_path.specs.declared.rule.Start.TheVariants.{Before, After}
 use Rattle.partial_path.specs.Spots.{at_node}
 use Rattle.partial_path.specs.Step.{step, start}
-use Rattle.partial_path.specs.Runs.{run, IsShallow, IsBounded}
+use Rattle.partial_path.specs.Runs.{run, IsShallow}
 use Rattle.partial_path.specs.Rules.{Rule}
 use Rattle.partial_path.specs.Apply.{apply, height}
 use Rattle.partial_path.specs.Walks.{begin, run_from, highest, highest_from}

@@ -1,12 +1,11 @@
 -- Stored paths that apply one after the other: they are a run, and each but the last ends with a cut edge.
-use Rattle.std.proofs.Common.{◌≡◌, ◌≢◌, refl, sym, ap, ◌∙◌, subst, ℕ, ◌+◌, List, [], ◌∷◌, ◌++◌, map, length, Bool, true, false, Option, Some, None, if◌then◌else◌, arith, append_assoc, append-nil, ◌⊎◌, inl, inr}
-use Rattle.std.specs.Prelude.{slice_get, All, Contains, IsTrue, IsSome}
-use Rattle.std.specs.Option.{option_map, option_and_then, option_map_or}
-use Rattle.std.specs.List.{AllByRecursion, flat_map}
-use Rattle.std.proofs.lemmas.Bool.{false≢true, both_ways, cases_Bool}
+use Rattle.std.proofs.Common.{◌≡◌, ◌≢◌, refl, sym, ap, ◌∙◌, subst, ℕ, List, [], ◌∷◌, ◌++◌, map, Bool, true, false, Option, Some, None, if◌then◌else◌, arith}
+use Rattle.std.specs.Prelude.{slice_get, All}
+use Rattle.std.specs.Option.{option_map, option_and_then}
+use Rattle.std.proofs.lemmas.Bool.{both_ways}
 use Rattle.std.proofs.lemmas.Bool.Decides.{nat_tests}
-use Rattle.std.proofs.lemmas.Option.{none-some, same_Some, slice_get-map, slice_get_within, get_or_from_slice_get}
-use Rattle.std.proofs.lemmas.List.Elements.{All-from_recursion, recursion_from_All, All-contains}
+use Rattle.std.proofs.lemmas.Option.{none-some, slice_get-map, slice_get_within, get_or_from_slice_get}
+use Rattle.std.proofs.lemmas.List.Elements.{All-from_recursion, All-contains}
 use Rattle.graph_nodes.specs.declared.node.Node.{Node}
 use Rattle.graph_nodes.specs.declared.node.Place.TheVariants as place
 use Rattle.graph_nodes.specs.Graph.{Graph, is_reference_kind}
@@ -21,16 +20,16 @@ use Rattle.partial_path.specs.declared.config.EdgeAt.{EdgeAt}
 use Rattle.partial_path.specs.declared.rule.Start.{Start}
 use Rattle.partial_path.specs.declared.rule.Start.TheVariants.{Before, After}
 use Rattle.partial_path.specs.Spots.{at_node}
-use Rattle.partial_path.specs.Step.{step, start, start_at, enter_node, enter_place, is_cut_edge}
+use Rattle.partial_path.specs.Step.{start, start_at, enter_node, enter_place, is_cut_edge}
 use Rattle.partial_path.specs.Same.{spot_eq}
 use Rattle.partial_path.specs.Runs.{run, IsClosed}
 use Rattle.partial_path.specs.Rules.{Rule}
 use Rattle.partial_path.specs.Apply.{apply}
-use Rattle.partial_path.specs.Walks.{alone, begin, run_from, starts_walks, starts_walks_of, is_cut_spot_of}
+use Rattle.partial_path.specs.Walks.{begin, run_from, starts_walks_of, is_cut_spot_of}
 use Rattle.partial_path.specs.Moved.{moved_edge, moved_start, moved}
 use Rattle.partial_path.specs.PathSets.{FileRules, IsLandingRule}
 use Rattle.partial_path.specs.Sources.{IsSourceFile, graphs_of}
-use Rattle.partial_path.specs.Cutting.{IsStoredIn, edges_in, path_edges, PathsLead, LeadFrom}
+use Rattle.partial_path.specs.Cutting.{IsStoredIn, edges_in, path_edges, PathsLead}
 use Rattle.partial_path.specs.Laws.{PathsAreRuns}
 use Rattle.partial_path.proofs.SwappedRuns.{moved_rules_are_runs, moved_starts_are_starts}
 use Rattle.partial_path.proofs.Followed.{run-append, last_step, uncut_spot}

@@ -1,7 +1,7 @@
 -- A run is cut into stored paths in one way alone.
-use Rattle.std.proofs.Common.{◌≡◌, ◌≢◌, refl, sym, ap, ◌∙◌, subst, ℕ, zero, suc, ◌+◌, ◌<◌, List, [], ◌∷◌, ◌++◌, map, length, get_or, Bool, true, false, Option, Some, None, arith, append_assoc, append-nil, ◌⊎◌, inl, inr}
+use Rattle.std.proofs.Common.{◌≡◌, ◌≢◌, refl, sym, ap, ◌∙◌, subst, ℕ, zero, suc, ◌+◌, ◌<◌, List, [], ◌∷◌, ◌++◌, map, length, get_or, arith, append_assoc, append-nil, ◌⊎◌, inl, inr}
 use Rattle.std.specs.Prelude.{slice_get, All, Contains}
-use Rattle.std.specs.List.{AllByRecursion, flat_map}
+use Rattle.std.specs.List.{AllByRecursion}
 use Rattle.std.proofs.lemmas.Bool.{both_ways}
 use Rattle.std.proofs.lemmas.Option.{same_Some}
 use Rattle.std.proofs.lemmas.List.Elements.{recursion_from_All}
@@ -16,7 +16,7 @@ use Rattle.partial_path.specs.Step.{is_cut_edge}
 use Rattle.partial_path.specs.Runs.{IsApart, IsClosed}
 use Rattle.partial_path.specs.Rules.{Rule}
 use Rattle.partial_path.specs.Apply.{apply}
-use Rattle.partial_path.specs.Walks.{IsUncut, Walk}
+use Rattle.partial_path.specs.Walks.{IsUncut}
 use Rattle.partial_path.specs.Moved.{moved_edge, moved_start, moved}
 use Rattle.partial_path.specs.FileNumbers.{EdgeIn}
 use Rattle.partial_path.specs.Inside.{start_inside}

@@ -1,6 +1,6 @@
 -- Laws of the definitions: what cut edges and counted runs are for, which path set is known at once, what a
 -- file's rules are in a list of files, and which of them a look-up offers.
-use Rattle.std.specs.Prelude.{◌≡◌, ◌≢◌, ◌≤◌, ◌↔◌, ℕ, List, [], ◌∷◌, ◌++◌, map, filter, Some, slice_get, All, IsTrue, IsSome, Contains}
+use Rattle.std.specs.Prelude.{◌≡◌, ◌≢◌, ◌≤◌, ◌↔◌, ℕ, List, [], ◌∷◌, ◌++◌, map, filter, Some, slice_get, All, IsTrue, IsSome, Contains, ◌⊎◌}
 use Rattle.std.specs.List.{AllByRecursion, list_any}
 use Rattle.graph_nodes.specs.declared.node.Edge.{Edge}
 use Rattle.graph_nodes.specs.declared.node.Place.{Place}
@@ -17,8 +17,8 @@ use Rattle.stacks_vars.specs.Enter.{no_stacks}
 use Rattle.partial_path.specs.declared.bounds.Bounds.{Bounds}
 use Rattle.partial_path.specs.Spots.{node_at, at_node}
 use Rattle.partial_path.specs.Step.{start, is_cut_edge}
-use Rattle.partial_path.specs.Runs.{run, after_cuts, IsStraight, IsClosed, IsBounded}
-use Rattle.partial_path.specs.Counted.{IsCounted}
+use Rattle.partial_path.specs.Runs.{run, after_cuts, IsApart, IsStraight, IsClosed, IsBounded, IsAtDefinition}
+use Rattle.partial_path.specs.Counted.{IsCounted, IsComplete}
 use Rattle.partial_path.specs.Walks.{run_from, highest_from, is_cut_spot_of, starts_walks, starts_walks_of, IsWeight}
 use Rattle.partial_path.specs.Rules.{Rule}
 use Rattle.partial_path.specs.Apply.{apply, height}
@@ -142,14 +142,21 @@ JoinedBounds =
     → start (graphs_of files) r ≡ Some c → paths ≢ [] → LeadFrom files r paths end
     → IsBounded bounds (graphs_of files) c (path_edges paths) ↔ ((edge_count paths ≤ bounds.edges) × (heights (at_node r no_stacks) paths ≤ bounds.depth))
 
+-- the paths make a straight run: no two are equal of the start and the configurations where they land at cuts
+abbrev pub AreStraightPaths : List FileRules → NodeAt → Config → List (ℕ × Rule) → Type 0
+AreStraightPaths files r c paths = IsApart (c ∷ at_cuts (graphs_of files) (landings (at_node r no_stacks) paths))
+
 -- the run of such a list, told by where its paths land: the configurations after its cut edges are those that stand
--- at cuts, and it is closed exactly where its end does
-pub record IsCutAtLandings (files : List FileRules) (r : NodeAt) (c end : Config) (paths : List (ℕ × Rule)) : Type 0 where
+-- at cuts, it is closed exactly where its end does, and so the landings tell whether it is complete or counted
+pub record IsToldByLandings (files : List FileRules) (r : NodeAt) (c end : Config) (paths : List (ℕ × Rule)) : Type 0 where
   pub cuts : after_cuts (graphs_of files) c (path_edges paths) ≡ at_cuts (graphs_of files) (landings (at_node r no_stacks) paths)
   pub closed : IsClosed (graphs_of files) (path_edges paths) ↔ IsTrue (is_cut_spot_of (graphs_of files) end.spot)
+  pub complete : IsComplete (graphs_of files) c (path_edges paths) ↔ (AreStraightPaths files r c paths × IsAtDefinition (graphs_of files) end)
+  pub counted : IsCounted (graphs_of files) c (path_edges paths)
+      ↔ (AreStraightPaths files r c paths × (IsTrue (is_cut_spot_of (graphs_of files) end.spot) ⊎ IsAtDefinition (graphs_of files) end))
 
--- so whether it is straight and closed is told by where its paths land
-abbrev pub JoinedCuts : Type 0
-JoinedCuts =
+-- what runs the paths of such a list make is told by where they land
+abbrev pub LandingsTell : Type 0
+LandingsTell =
     (files : List FileRules) (r : NodeAt) (c end : Config) (paths : List (ℕ × Rule)) → All IsSourceFile files → start (graphs_of files) r ≡ Some c
-    → paths ≢ [] → LeadFrom files r paths end → IsCutAtLandings files r c end paths
+    → paths ≢ [] → LeadFrom files r paths end → IsToldByLandings files r c end paths

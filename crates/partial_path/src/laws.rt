@@ -3,7 +3,7 @@ ghost use Rattle.partial_path.specs.declared.bounds.TheConstants.{MAX_RUNS};
 ghost use Rattle.partial_path.specs.declared.slots.TheConstants.{KEY_SIZE};
 ghost use Rattle.partial_path.specs.Limits.{max_runs};
 ghost use Rattle.partial_path.specs.Keys.{key_size};
-ghost use Rattle.partial_path.specs.Laws.{AppliedRulesAreOffered, AreOwnOffers, BeginningsAreCut, CountedRunsAreCut, CutPrefixesAreClosed, CutsAreUnique, CyclesAreCut, JoinedBounds, JoinedCuts, MovedRulesAreRuns, MovedStartsAreStarts, NoEdgesNoWalks, PathsAreRuns};
+ghost use Rattle.partial_path.specs.Laws.{AppliedRulesAreOffered, AreOwnOffers, BeginningsAreCut, CountedRunsAreCut, CutPrefixesAreClosed, CutsAreUnique, CyclesAreCut, JoinedBounds, LandingsTell, MovedRulesAreRuns, MovedStartsAreStarts, NoEdgesNoWalks, PathsAreRuns};
 
 /// A law: where a counted run has been followed up to one of its cut edges, that prefix is a closed and
 /// straight run itself.
@@ -73,9 +73,10 @@ pub fn joined_paths_tell_bounds()
     ensures { JoinedBounds }
 {}
 
-/// A law: where a run that stored paths make is cut, and whether it is closed, is told by where the paths land.
-pub fn joined_paths_tell_cuts()
-    ensures { JoinedCuts }
+/// A law: where a run that stored paths make is cut, and whether it is closed, complete or counted, is told by where
+/// the paths land.
+pub fn landings_tell()
+    ensures { LandingsTell }
 {}
 
 /// A law: the limits of the program are those of the definitions.
