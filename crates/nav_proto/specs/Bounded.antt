@@ -1,15 +1,7 @@
 -- Which bounds the queries among the requests state.
-use Rattle.std.specs.Prelude.{◌≤◌}
-use Rattle.partial_path.specs.declared.bounds.Bounds.{Bounds}
+use Rattle.partial_path.specs.Limits.{IsInRange}
 use Rattle.nav_proto.specs.declared.request.Request.{Request}
 use Rattle.nav_proto.specs.declared.request.Request.TheVariants.{Hello, Pin, Commit, Grant, Revoke, Deny, Undeny, Define, References, Quit}
-
--- 1 to 512 edges, 1 to 96 symbols
-pub record IsInRange (bounds : Bounds) : Type 0 where
-  pub some_edges : 1 ≤ bounds.edges
-  pub most_edges : bounds.edges ≤ 512
-  pub some_depth : 1 ≤ bounds.depth
-  pub most_depth : bounds.depth ≤ 96
 
 -- a query's bounds are in range
 abbrev pub IsBounded : Request → Type 0

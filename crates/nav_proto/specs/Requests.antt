@@ -5,6 +5,7 @@ use Rattle.serde_json.specs.Data.{Data}
 use Rattle.serde_json.specs.Find.{get, as_str}
 use Rattle.serde_json.specs.Read.{read}
 use Rattle.partial_path.specs.declared.bounds.Bounds.{Bounds}
+use Rattle.partial_path.specs.Limits.{max_edges, max_depth}
 use Rattle.nav_proto.specs.declared.request.Request.{Request}
 use Rattle.nav_proto.specs.declared.request.Request.TheVariants.{Hello, Pin, Commit, Grant, Revoke, Deny, Undeny, Define, References, Quit}
 use Rattle.nav_proto.specs.declared.request.Point.{Point}
@@ -67,8 +68,8 @@ query_names d =
 -- the bounds of a query: 1 to 512 edges and 1 to 96 symbols, where absent 128 and 48
 unfoldable pub bounds_of : Data → Result Bounds ProtoFault
 bounds_of d = do
-  edges ← optional_field (codes "edges") (number_of 1 512) 128 d
-  depth ← optional_field (codes "depth") (number_of 1 96) 48 d
+  edges ← optional_field (codes "edges") (number_of 1 max_edges) 128 d
+  depth ← optional_field (codes "depth") (number_of 1 max_depth) 48 d
   Ok (record { edges = edges; depth = depth })
 
 -- `define`, `references`: a path, where in it, and the bounds

@@ -1,6 +1,6 @@
 ghost use Rattle.std.specs.Prelude.{◌≡◌, codes, IfOk};
 ghost use Rattle.serde_json.specs.View.{view};
-ghost use Rattle.nav_proto.specs.Bounded.{IsInRange};
+ghost use Rattle.partial_path.specs.Limits.{IsInRange};
 ghost use Rattle.nav_proto.specs.Edits.{edits_of};
 ghost use Rattle.nav_proto.specs.Forms.{names_of};
 ghost use Rattle.nav_proto.specs.Answers.{Gives};

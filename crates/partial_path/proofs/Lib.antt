@@ -13,3 +13,7 @@ pub mod Asking
 pub mod Offered
 pub mod Listing
 pub mod Edgeless
+pub mod Swaps
+pub mod SwappedRules
+pub mod SwappedRuns
+pub mod Applied

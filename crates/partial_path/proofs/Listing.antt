@@ -27,6 +27,7 @@ use Rattle.partial_path.specs.Keys.{key}
 use Rattle.partial_path.specs.Inside.{file_of, start_inside}
 use Rattle.partial_path.specs.Sources.{IsSourceFile, numbered, stand_first, is_offered, is_offered_in, rules_offered_in, rules_offered_after, rules_offered}
 use Rattle.partial_path.specs.Offers.{offers_left, is_shared, offers_here, offers_behind, list_offers_left}
+use Rattle.partial_path.specs.Laws.{AreOwnOffers}
 use Rattle.partial_path.proofs.Halved.{filter_same}
 use Rattle.partial_path.proofs.Offered.{and_assoc}
 
@@ -251,3 +252,21 @@ offers_from_is files symbols start inside sources first begun = elim (cases_Bool
   | inl e ↦ offers_from_root files symbols start inside first begun e
   | inr e ↦ offers_from_alone files symbols start inside (recursion_from_All IsSourceFile files sources) first begun e
 ]
+
+offered_alone : (files : List FileRules) (file : ℕ) (f : FileRules) (start : Start) (symbols : List SymbolItem) → All IsSourceFile files → slice_get files file ≡ Some f
+    → is_shared start ≡ false → file_of start ≡ file → rules_offered files start symbols ≡ map (numbered file) (filter (is_offered (start_inside start) symbols) f.rules)
+offered_alone files file f start symbols sources there alone here =
+    one_file files 0 file start symbols alone (recursion_from_All IsSourceFile files sources) (omega (arith, here))
+    ∙ (λ i. alone_in (here i) start symbols (there i))
+
+pub own_offers : AreOwnOffers
+own_offers = record {
+  root = λ file f symbols. sym (root_here_alone file f symbols);
+  before = λ files file f node symbols sources there. offered_alone files file f (Before (node_at file node)) symbols sources there refl refl;
+  after = λ files file f node symbols sources there. offered_alone files file f (After (spot.At (node_at file node))) symbols sources there refl refl;
+}
+  where
+    root_here_alone : (file : ℕ) (f : FileRules) (symbols : List SymbolItem)
+        → map (numbered file) (filter (is_offered (After spot.Root) symbols) f.rules) ≡ rules_offered_in file f (After spot.Root) symbols
+    root_here_alone file f symbols =
+        ap (map (numbered file)) (filter_same (is_offered (After spot.Root) symbols) (is_offered_in file (After spot.Root) symbols) (root_offers file (After spot.Root) symbols refl) f.rules)

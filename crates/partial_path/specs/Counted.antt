@@ -5,7 +5,7 @@ use Rattle.graph_nodes.specs.Graph.{Graph}
 use Rattle.partial_path.specs.declared.config.Config.{Config}
 use Rattle.partial_path.specs.declared.config.EdgeAt.{EdgeAt}
 use Rattle.partial_path.specs.declared.bounds.Bounds.{Bounds}
-use Rattle.partial_path.specs.declared.bounds.TheConstants.{MAX_RUNS}
+use Rattle.partial_path.specs.Limits.{max_runs}
 use Rattle.partial_path.specs.Runs.{run, IsStraight, IsClosed, IsBounded, IsAtDefinition, IsApart}
 
 -- complete: a nonempty straight run that ends at a definition with no symbols left
@@ -26,10 +26,10 @@ pub record IsBoundedCounted (bounds : Bounds) (files : List Graph) (c : Config) 
   pub counted : IsCounted files c es
   pub bounded : IsBounded bounds files c es
 
--- crowded: more than `MAX_RUNS` bounded counted runs begin here
+-- crowded: more than `max_runs` bounded counted runs begin here
 abbrev pub IsCrowded : Bounds → List Graph → Config → Type 0
 IsCrowded bounds files c =
-    (runs : List (List EdgeAt)) × IsApart runs × AllByRecursion (IsBoundedCounted bounds files c) runs × (MAX_RUNS < length runs)
+    (runs : List (List EdgeAt)) × IsApart runs × AllByRecursion (IsBoundedCounted bounds files c) runs × (max_runs < length runs)
 
 -- some counted run from here, of any length and depth, isn't bounded
 abbrev pub HasLimit : Bounds → List Graph → Config → Type 0

@@ -1,12 +1,14 @@
 pub mod Spots
 pub mod Step
 pub mod Runs
+pub mod Limits
 pub mod Counted
 pub mod Same
 pub mod Laws
 pub mod Rules
 pub mod Apply
 pub mod Moved
+pub mod FileNumbers
 pub mod Walks
 pub mod PathSets
 pub mod Starts

@@ -7,7 +7,7 @@ use Rattle.graph_nodes.specs.declared.node.Place.{Place}
 use Rattle.graph_nodes.specs.declared.node.Place.TheVariants as place
 use Rattle.graph_nodes.specs.Graph.{Graph, is_reference}
 use Rattle.graph_nodes.specs.Cut.{is_cut}
-use Rattle.graph_nodes.specs.Whole.{edge_of, is_definition_of}
+use Rattle.graph_nodes.specs.Whole.{edge_of, is_cut_of, is_definition_of, is_reference_of}
 use Rattle.partial_path.specs.declared.config.Spot.{Spot}
 use Rattle.partial_path.specs.declared.config.Spot.TheVariants as spot
 use Rattle.partial_path.specs.declared.config.Config.{Config}
@@ -43,12 +43,21 @@ abbrev pub highest_from : List Graph → Start → List EdgeAt → Config → �
 highest_from files start es c =
     max (length c.stacks.symbols) (option_map_or (λ (first : Config). highest files first es) (begin files start c) 0)
 
--- whether walks start after this spot: at the root, at exported scopes and at turning nodes of the file
+-- whether walks of these files start after this spot: at the root, at their exported scopes and turning nodes
+abbrev pub is_cut_spot_of : List Graph → Spot → Bool
+is_cut_spot_of files spot.Root = true
+is_cut_spot_of files (spot.At node) = is_cut_of files node.file (place.At node.node)
+
+-- whether walks of these files start there: before a reference, or after a cut spot
+abbrev pub starts_walks_of : List Graph → Start → Bool
+starts_walks_of files (Before node) = is_reference_of files node.file node.node
+starts_walks_of files (After spot) = is_cut_spot_of files spot
+
+-- the same of one file, whose number is 0
 abbrev pub is_cut_spot : Graph → Spot → Bool
 is_cut_spot g spot.Root = true
 is_cut_spot g (spot.At node) = nat_eq node.file 0 && is_cut g (place.At node.node)
 
--- whether walks of the file start there: before a reference, or after a cut spot
 abbrev pub starts_walks : Graph → Start → Bool
 starts_walks g (Before node) = nat_eq node.file 0 && is_reference g.nodes node.node
 starts_walks g (After spot) = is_cut_spot g spot

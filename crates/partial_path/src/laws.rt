@@ -1,4 +1,9 @@
-ghost use Rattle.partial_path.specs.Laws.{CutPrefixesAreClosed, CyclesAreCut, NoEdgesNoWalks};
+ghost use Rattle.std.specs.Prelude.{◌≡◌};
+ghost use Rattle.partial_path.specs.declared.bounds.TheConstants.{MAX_RUNS};
+ghost use Rattle.partial_path.specs.declared.slots.TheConstants.{KEY_SIZE};
+ghost use Rattle.partial_path.specs.Limits.{max_runs};
+ghost use Rattle.partial_path.specs.Keys.{key_size};
+ghost use Rattle.partial_path.specs.Laws.{AppliedRulesAreOffered, AreOwnOffers, CutPrefixesAreClosed, CyclesAreCut, MovedRulesAreRuns, MovedStartsAreStarts, NoEdgesNoWalks};
 
 /// A law: where a counted run has been followed up to one of its cut edges, that prefix is a closed and
 /// straight run itself.
@@ -14,4 +19,33 @@ pub fn cycles_are_cut()
 /// A law: a graph without edges has no walk, so no paths are its path set, and its weight is 0.
 pub fn no_edges_no_walks()
     ensures { NoEdgesNoWalks }
+{}
+
+/// A law: a partial path of one file, moved to the file's place in a list of files, does what following its
+/// edges there does, and its peak is exact.
+pub fn moved_paths_are_runs()
+    ensures { MovedRulesAreRuns }
+{}
+
+/// A law: a path that applies to a configuration is among those that are offered at its start to the
+/// configuration's symbols.
+pub fn applied_paths_are_offered()
+    ensures { AppliedRulesAreOffered }
+{}
+
+/// A law: walks of a file start where walks of the list of files start, the start moved to the file's place.
+pub fn moved_starts_are_starts()
+    ensures { MovedStartsAreStarts }
+{}
+
+/// A law: what is offered at a start of one file is what that file alone offers; at the root each file offers
+/// what it offers alone.
+pub fn files_offer_their_own()
+    ensures { AreOwnOffers }
+{}
+
+/// A law: the limits of the program are those of the definitions.
+pub fn limits_are_as_stated()
+    ensures runs { MAX_RUNS ≡ max_runs }
+    ensures keys { KEY_SIZE ≡ key_size }
 {}

@@ -25,7 +25,10 @@ pub use config::{Config, EdgeAt, Spot};
 pub use fault::PathFault;
 pub use file_list::{FileList, ListOffers};
 pub use file_paths::FilePaths;
-pub use laws::{cut_prefixes_are_closed, cycles_are_cut, no_edges_no_walks};
+pub use laws::{
+    applied_paths_are_offered, cut_prefixes_are_closed, cycles_are_cut, files_offer_their_own,
+    limits_are_as_stated, moved_paths_are_runs, moved_starts_are_starts, no_edges_no_walks,
+};
 pub use offers::FileOffers;
 pub use path::PartialPath;
 pub use places::{edge_at, is_at_definition, is_definition_spot, node_at};
