@@ -21,7 +21,9 @@ use Rattle.graph_nodes.specs.declared.node.Place.{Place}
 use Rattle.graph_nodes.specs.declared.node.Place.TheVariants.{Root, Jump, At}
 use Rattle.graph_nodes.specs.Graph.{Graph, is_exported_kind, is_reference_kind, is_definition_kind}
 use Rattle.graph_nodes.specs.Checked.{graph_fault}
-use Rattle.graph_json.specs.Pieces.{only_if, u32_of, is_forward, optional_span, data_list}
+use Rattle.json_values.specs.Numbers.{only_if, u32_of}
+use Rattle.json_values.specs.Lists.{data_list}
+use Rattle.graph_json.specs.Pieces.{is_forward, optional_span}
 use Rattle.graph_json.specs.Edges.{edge_in}
 use Rattle.graph_json.specs.Top.{lists_in}
 use Rattle.graph_json.specs.Plain.{node_of, edge_of, scope_at, place_of, bad_node, bad_edge, plain_parts}
@@ -30,7 +32,7 @@ use Rattle.graph_json.specs.Printed.{with_flag, with_value, name_text, position_
 use Rattle.graph_json.specs.PrintSteps.{SpanFits, NodeFits, PlaceFits, EdgeFits}
 use Rattle.graph_json.proofs.Collecting.{collected-somes}
 use Rattle.graph_json.proofs.Parsing.{json_of-value}
-use Rattle.graph_json.proofs.NodesBack.{number_back, below, number_data, span_data, span_json_back, span_back, put_value, StandsFor, node_members, node_stands, node_back}
+use Rattle.graph_json.proofs.NodesBack.{number_back, at_most, number_data, span_data, span_json_back, span_back, put_value, StandsFor, node_members, node_stands, node_back}
 
 -- ---- what the JSON stands for
 
@@ -198,7 +200,7 @@ spans_back (Some s) h k = ap (option_map Some) (span_back s h k)
 
 scope_back : (o : Option ℕ) (found : Option Data) → found ≡ option_map (λ _. unwrap_or (option_map (position_data false) o) null) o → IfSome o (λ n. n < 2 ^ 32) → IfSome o (λ n. option_and_then u32_of found ≡ Some n)
 scope_back None found e h = tt
-scope_back (Some n) found e h = ap (option_and_then u32_of) e ∙ below n (2 ^ 32) h
+scope_back (Some n) found e h = ap (option_and_then u32_of) e ∙ at_most n 4294967295 h
 
 node_of_data : (n : ℕ) (node : Node) → NodeFits node → Forward node → node_of (node_data false n node) ≡ Some node
 node_of_data n node h k =
@@ -212,11 +214,11 @@ nodes_of_data n (x ∷ xs) h k = rw (node_of_data n x h.0 k.0, nodes_of_data (n 
 place_of_data : (p : Place) → PlaceFits p → place_of (place_data false p) ≡ Some p
 place_of_data Root h = refl
 place_of_data Jump h = refl
-place_of_data (At n) h = ap (option_map At) (below n (2 ^ 32) h)
+place_of_data (At n) h = ap (option_map At) (at_most n 4294967295 h)
 
 edge_of_data : (e : Edge) → EdgeFits e → edge_of (edge_data false e) ≡ Some e
 unfolding edge_in
-edge_of_data e h = rw (place_of_data e.source h.0, place_of_data e.sink h.1, below e.precedence (2 ^ 16) h.2) refl
+edge_of_data e h = rw (place_of_data e.source h.0, place_of_data e.sink h.1, at_most e.precedence 65535 h.2) refl
 
 edges_of_data : (xs : List Edge) → AllByRecursion EdgeFits xs → map edge_of (data_list (edges_data false xs)) ≡ map Some xs
 edges_of_data [] h = refl

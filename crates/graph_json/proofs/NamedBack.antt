@@ -13,7 +13,8 @@ use Rattle.graph_nodes.specs.declared.node.Place.{Place}
 use Rattle.graph_nodes.specs.declared.node.Place.TheVariants.{Root, Jump, At}
 use Rattle.graph_nodes.specs.Graph.{Graph}
 use Rattle.graph_nodes.specs.Checked.{graph_fault}
-use Rattle.graph_json.specs.Pieces.{only_if, data_list}
+use Rattle.json_values.specs.Numbers.{only_if}
+use Rattle.json_values.specs.Lists.{data_list}
 use Rattle.graph_json.specs.Edges.{edge_in}
 use Rattle.graph_json.specs.Top.{lists_in}
 use Rattle.graph_json.specs.Plain.{bad_node, bad_edge}
@@ -23,7 +24,7 @@ use Rattle.graph_json.specs.Printed.{name_text, scope_of, graph_json}
 use Rattle.graph_json.specs.PrintSteps.{NodeFits, EdgeFits}
 use Rattle.graph_json.proofs.Collecting.{collected-somes}
 use Rattle.graph_json.proofs.Parsing.{json_of-value}
-use Rattle.graph_json.proofs.NodesBack.{below, span_data, node_back}
+use Rattle.graph_json.proofs.NodesBack.{at_most, span_data, node_back}
 use Rattle.graph_json.proofs.GraphBack.{position_data, scope_data, node_data, nodes_data, place_data, edge_data, edges_data, graph_data, text_is, Forward, spans_back}
 use Rattle.graph_json.proofs.Naming.{is_name-name_text, numbered, first_called-numbered, first_repeat-numbered, none_passes}
 use Rattle.graph_json.proofs.Right.{PlaceIn, EndsIn, ScopeIn, few_nodes, ends_in, scopes_in}
@@ -92,7 +93,7 @@ module _ (names : List (Option (List ℕ))) (count : ℕ) (few : count < 2 ^ 32)
 
   edge_read : (e : Edge) → EdgeFits e → EndsIn count e → named_edge names (edge_data true e) ≡ Some e
   unfolding edge_in
-  edge_read e h w = rw (place_from e.source w.0, place_from e.sink w.1, below e.precedence (2 ^ 16) h.2) refl
+  edge_read e h w = rw (place_from e.source w.0, place_from e.sink w.1, at_most e.precedence 65535 h.2) refl
 
   edges_read : (xs : List Edge) → AllByRecursion EdgeFits xs → AllByRecursion (EndsIn count) xs → map (named_edge names) (data_list (edges_data true xs)) ≡ map Some xs
   edges_read [] h w = refl

@@ -1,5 +1,5 @@
 -- A printed node reads as the node that it was.
-use Rattle.std.proofs.Common.{◌≡◌, ℕ, ◌<◌, ◌^◌, List, Bool, true, false, Option, Some, None, option_map, option_and_then, is_some, codes, refl, ap, ◌∙◌, arith}
+use Rattle.std.proofs.Common.{◌+◌, ◌≡◌, ℕ, ◌<◌, ◌^◌, List, Bool, true, false, Option, Some, None, option_map, option_and_then, is_some, codes, refl, ap, ◌∙◌, arith}
 use Rattle.std.specs.Prelude.{IfSome}
 use Rattle.std.proofs.lemmas.Bool.Decides.{nat_tests}
 use Rattle.json.specs.Json as json
@@ -13,7 +13,8 @@ use Rattle.graph_nodes.specs.declared.node.Span.{Span}
 use Rattle.graph_nodes.specs.declared.node.NodeKind.{NodeKind}
 use Rattle.graph_nodes.specs.declared.node.NodeKind.TheVariants.{Scope, Push, PushScoped, Pop, PopScoped, Drops}
 use Rattle.graph_nodes.specs.Graph.{is_exported_kind, is_reference_kind, is_definition_kind}
-use Rattle.graph_json.specs.Pieces.{only_if, number_below, is_forward, span_of, optional_span}
+use Rattle.json_values.specs.Numbers.{only_if, number_between}
+use Rattle.graph_json.specs.Pieces.{is_forward, span_of, optional_span}
 use Rattle.graph_json.specs.Nodes.{scope_in, push_in, push_scoped_in, pop_in, pop_scoped_in, kind_in, node_in}
 use Rattle.graph_json.specs.Printed.{with_flag, with_value, number_json, name_text, position_json, span_json, kind_text, symbol_of, scope_of, node_json}
 use Rattle.graph_json.specs.PrintSteps.{SpanFits}
@@ -23,8 +24,8 @@ use Rattle.graph_json.specs.PrintSteps.{SpanFits}
 pub number_back : (n : ℕ) → n < 2 ^ 32 → of_json (number_json n) ≡ Some (number (unsigned n))
 number_back n h = ap (option_map number) (number_of-decimal n (omega (arith, h)))
 
-pub below : (n limit : ℕ) → n < limit → number_below limit (number (unsigned n)) ≡ Some n
-below n limit h = grind (arith, nat_tests)
+pub at_most : (n most : ℕ) → n < most + 1 → number_between 0 most (number (unsigned n)) ≡ Some n
+at_most n most h = grind (arith, nat_tests)
 
 abbrev pub number_data : ℕ → Data
 number_data n = number (unsigned n)
@@ -37,7 +38,7 @@ span_json_back s h = rw (number_back s.from_line h.0, number_back s.from_column 
 
 pub span_back : (s : Span) → SpanFits s → is_forward s ≡ true → span_of (span_data s) ≡ Some s
 unfolding span_of
-span_back s h forward = rw (below s.from_line (2 ^ 32) h.0, below s.from_column (2 ^ 32) h.1, below s.to_line (2 ^ 32) h.2, below s.to_column (2 ^ 32) h.3) (rw forward refl)
+span_back s h forward = rw (at_most s.from_line 4294967295 h.0, at_most s.from_column 4294967295 h.1, at_most s.to_line 4294967295 h.2, at_most s.to_column 4294967295 h.3) (rw forward refl)
 
 -- ---- an object's members go in one by one
 

@@ -14,7 +14,7 @@ use Rattle.std.proofs.lemmas.Map.Text.{hash_map_updates_str}
 use Rattle.indexmap.specs.IndexMap.{IndexMap, get_by}
 use Rattle.serde_json.specs.View.{view}
 use Rattle.serde_json.specs.declared.value.Value.{Value}
-use Rattle.graph_json.specs.Pieces.{only_if}
+use Rattle.json_values.specs.Numbers.{only_if}
 use Rattle.graph_json.specs.Named.{is_called, first_called, names_of, name_in}
 use Rattle.graph_json.specs.Numbering.{IsNumbering}
 

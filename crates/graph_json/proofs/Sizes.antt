@@ -11,7 +11,8 @@ use Rattle.json.specs.Json.{Parse, parse_map, after_end_array, read_key, items_s
 use Rattle.serde_json.specs.Data.{Data, null, boolean, number, string, array, object, Items, no_items, item, Members, no_members, member, put}
 use Rattle.serde_json.specs.Events.{items_len}
 use Rattle.serde_json.specs.Find.{get, get_member, as_array}
-use Rattle.graph_json.specs.Pieces.{data_list, list_in, HasShortLists}
+use Rattle.json_values.specs.Lists.{data_list, list_of}
+use Rattle.graph_json.specs.Pieces.{list_in, HasShortLists}
 use Rattle.serde_json.specs.Read.{number_of, of_json, of_items, of_members, max_depth, read}
 
 -- ---- no more tokens than bytes, and one
@@ -333,7 +334,7 @@ length-data_list (item d ds) = ap suc (length-data_list ds)
 
 list_len : (name : List ℕ) (d : Data) (n : ℕ) → longest d ≤ n → AtMost length n (list_in name d)
 list_len name d n h =
-    AtMost-map items_len length n n data_list (λ ds x. omega (arith, length-data_list ds, x)) _ (AtMost-and_then longest items_len n n as_array (λ e x. array_len e n x) _ (longest-get name d n h))
+    AtMost-and_then longest length n n list_of (λ e x. AtMost-map items_len length n n data_list (λ ds y. omega (arith, length-data_list ds, y)) _ (array_len e n x)) _ (longest-get name d n h)
 
 short : (m : ℕ) (o : Option (List Data)) → m < 2 ^ 32 → AtMost length m o → IfSome o (λ xs. length xs < 2 ^ 32)
 short m None h x = tt

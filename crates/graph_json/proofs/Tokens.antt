@@ -12,7 +12,7 @@ use Rattle.std.proofs.lemmas.Option.{slice_get_within, get_or_from_slice_get}
 use Rattle.graph_nodes.specs.declared.node.Edge.{Edge}
 use Rattle.graph_nodes.specs.declared.node.Node.{Node}
 use Rattle.graph_nodes.specs.Graph.{Graph, is_reference_kind}
-use Rattle.graph_json.specs.Pieces.{only_if}
+use Rattle.json_values.specs.Numbers.{only_if}
 use Rattle.graph_json.specs.Printed.{with_flag, with_value, position_json, span_json, symbol_of, scope_of, node_json, nodes_json, edge_json, edges_json, graph_json, number_json}
 use Rattle.graph_json.specs.PrintSteps.{flag_tokens, value_tokens, front_tokens, NodeFits, EdgeFits, Adds}
 

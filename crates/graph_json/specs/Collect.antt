@@ -29,6 +29,6 @@ Fails (SameName n) defined = defined ≡ Err (SameName n)
 Fails (UnknownName part) defined = defined ≡ Err (UnknownName part)
 
 -- a call answered what is defined, its value seen by the view
-abbrev pub Gives : {X Y : Type 0} → (X → Y) → Result X GraphTextFault → Result Y GraphTextFault → Type 0
-Gives view (Ok x) defined = defined ≡ Ok (view x)
-Gives view (Err e) defined = Fails e defined
+abbrev pub TextGives : {X Y : Type 0} → (X → Y) → Result X GraphTextFault → Result Y GraphTextFault → Type 0
+TextGives view (Ok x) defined = defined ≡ Ok (view x)
+TextGives view (Err e) defined = Fails e defined

@@ -4,7 +4,8 @@ use Rattle.serde_json.specs.Data.{Data}
 use Rattle.serde_json.specs.Find.{at}
 use Rattle.graph_nodes.specs.declared.node.Edge.{Edge}
 use Rattle.graph_nodes.specs.declared.node.Place.{Place}
-use Rattle.graph_json.specs.Pieces.{◌>>=◌, only_if, u16_of, has_items}
+use Rattle.json_values.specs.Numbers.{only_if, u16_of}
+use Rattle.graph_json.specs.Pieces.{◌>>=◌, has_items}
 
 -- an edge between these places: an array of three, with the precedence last
 unfoldable pub edge_in : Option Place → Option Place → Data → Option Edge

@@ -12,7 +12,7 @@ use Rattle.graph_nodes.specs.declared.node.Place.TheVariants.{At}
 use Rattle.graph_json.specs.declared.fault.GraphTextFault.{GraphTextFault}
 use Rattle.graph_json.specs.declared.fault.GraphTextFault.TheVariants.{BadShape, SameName, UnknownName}
 use Rattle.graph_json.specs.declared.fault.Part.TheVariants as Part
-use Rattle.graph_json.specs.Pieces.{only_if, u32_of}
+use Rattle.json_values.specs.Numbers.{only_if, u32_of}
 use Rattle.graph_json.specs.Collect.{◌>>=◌, collected, unless}
 use Rattle.graph_json.specs.Nodes.{node_in}
 use Rattle.graph_json.specs.Edges.{edge_in}

@@ -2,11 +2,13 @@
 use Rattle.std.specs.Prelude.{ℕ, List, Bool, false, ◌&&◌, ◌||◌, if◌then◌else◌, Option, Some, option_map, codes}
 use Rattle.std.specs.Str.{bytes_eq}
 use Rattle.serde_json.specs.Data.{Data}
-use Rattle.serde_json.specs.Find.{get, as_object}
+use Rattle.serde_json.specs.Find.{get}
 use Rattle.graph_nodes.specs.declared.node.Node.{Node}
 use Rattle.graph_nodes.specs.declared.node.NodeKind.{NodeKind}
 use Rattle.graph_nodes.specs.declared.node.NodeKind.TheVariants.{Scope, Push, PushScoped, Pop, PopScoped, Drops}
-use Rattle.graph_json.specs.Pieces.{◌>>=◌, only_if, flag_in, text_in, optional_span, each_name}
+use Rattle.json_values.specs.Numbers.{only_if}
+use Rattle.json_values.specs.Members.{has_only}
+use Rattle.graph_json.specs.Pieces.{◌>>=◌, flag_in, text_in, optional_span}
 
 -- one row of the table each, from the object's members; `scope` is what its member `scope` names
 unfoldable pub scope_in : Data → Option NodeKind
@@ -63,8 +65,7 @@ may_have named kind name = bytes_eq name (codes "kind") || bytes_eq name (codes 
 -- a node: an object of its kind's members and no others
 unfoldable pub node_in : Bool → Option ℕ → Data → Option Node
 node_in named scope d = do
-  members ← as_object d
   span ← optional_span (get (codes "span") d)
   text ← text_in (codes "kind") d
   kind ← kind_in text scope d
-  only_if (each_name (may_have named kind) members) (record { kind = kind; span = span })
+  only_if (has_only (may_have named kind) d) (record { kind = kind; span = span })

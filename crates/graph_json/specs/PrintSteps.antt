@@ -12,7 +12,7 @@ use Rattle.graph_nodes.specs.declared.node.NodeKind.{NodeKind}
 use Rattle.graph_nodes.specs.declared.node.Place.{Place}
 use Rattle.graph_nodes.specs.declared.node.Place.TheVariants.{Root, Jump, At}
 use Rattle.graph_nodes.specs.Graph.{is_exported_kind, is_definition_kind}
-use Rattle.graph_json.specs.Pieces.{only_if}
+use Rattle.json_values.specs.Numbers.{only_if}
 use Rattle.graph_json.specs.Printed.{name_text, kind_text, scope_of}
 
 -- ---- what the types say of the numbers

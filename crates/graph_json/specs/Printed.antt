@@ -12,7 +12,8 @@ use Rattle.graph_nodes.specs.declared.node.Place.{Place}
 use Rattle.graph_nodes.specs.declared.node.Place.TheVariants.{Root, Jump, At}
 use Rattle.graph_nodes.specs.Graph.{Graph, is_exported_kind, is_reference_kind, is_definition_kind}
 use Rattle.std.specs.List.{AllByRecursion}
-use Rattle.graph_json.specs.Pieces.{only_if, is_forward}
+use Rattle.json_values.specs.Numbers.{only_if}
+use Rattle.graph_json.specs.Pieces.{is_forward}
 
 -- ---- members that stand only where they are told
 

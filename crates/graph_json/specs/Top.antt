@@ -2,27 +2,27 @@
 use Rattle.std.specs.Prelude.{ℕ, List, Bool, ◌||◌, ◌&&◌, Option, option_map, codes, Result, ok_or}
 use Rattle.std.specs.Str.{bytes_eq}
 use Rattle.serde_json.specs.Data.{Data}
-use Rattle.serde_json.specs.Find.{as_object}
 use Rattle.graph_nodes.specs.declared.node.Node.{Node}
 use Rattle.graph_nodes.specs.declared.node.Edge.{Edge}
 use Rattle.graph_nodes.specs.Checked.{graph_fault}
 use Rattle.graph_json.specs.declared.fault.GraphTextFault.{GraphTextFault}
 use Rattle.graph_json.specs.declared.fault.GraphTextFault.TheVariants.{BadShape, Graph}
 use Rattle.graph_json.specs.declared.fault.Part.TheVariants.{Top}
-use Rattle.graph_json.specs.Pieces.{◌>>=◌, only_if, each_name, list_in}
+use Rattle.json_values.specs.Numbers.{only_if}
+use Rattle.json_values.specs.Members.{has_only}
+use Rattle.graph_json.specs.Pieces.{◌>>=◌, list_in}
 use Rattle.graph_json.specs.Collect.{unless}
 
 -- whether a graph file may have a member of this name; `format` is one in format 2
 abbrev pub may_stand : Bool → List ℕ → Bool
 may_stand named name = bytes_eq name (codes "nodes") || bytes_eq name (codes "edges") || (named && bytes_eq name (codes "format"))
 
--- the values of the nodes and of the edges
+-- the values of the nodes and of the edges, in an object of these members and no others
 unfoldable pub lists_in : Bool → Data → Option (List Data × List Data)
 lists_in named d = do
-  members ← as_object d
   nodes ← list_in (codes "nodes") d
   edges ← list_in (codes "edges") d
-  only_if (each_name (may_stand named) members) (nodes, edges)
+  only_if (has_only (may_stand named) d) (nodes, edges)
 
 -- the same, or the fault
 abbrev pub top_of : Bool → Data → Result (List Data × List Data) GraphTextFault

@@ -5,8 +5,9 @@ ghost use Rattle.serde_json.specs.View.{view};
 ghost use Rattle.graph_json.specs.Edges.{edge_in};
 ghost use Rattle.graph_json.specs.Plain.{shared_place, place_of, edge_of, place_at};
 
-use crate::pieces::{is_array_of, precedence, whole};
+use crate::pieces::is_array_of;
 use graph_nodes::{Edge, Place};
+use json_values::{u16_of, u32_of};
 use serde_json::Value;
 
 // The place that files share and that has this text.
@@ -29,7 +30,7 @@ pub(crate) fn edge_between(v: &Value, source: Option<Place>, sink: Option<Place>
 {
     let source = source?;
     let sink = sink?;
-    let precedence = precedence(v.get(2)?)?;
+    let precedence = u16_of(v.get(2)?)?;
     if is_array_of(v, 3) {
         Some(Edge {
             source,
@@ -46,7 +47,7 @@ fn plain_place(v: &Value) -> Option<Place>
 {
     match v.as_str() {
         Some(text) => shared(text, "root", "jump"),
-        None => whole(v).map(Place::At),
+        None => u32_of(v).map(Place::At),
     }
 }
 

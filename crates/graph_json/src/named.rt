@@ -1,8 +1,10 @@
-ghost use Rattle.std.specs.Prelude.{◌≡◌, ◌^◌, ◌<◌, length, vec_len, map, option_map, position, codes, IfOk, IfSome};
+ghost use Rattle.std.specs.Prelude.{◌≡◌, ◌^◌, ◌<◌, length, vec_len, map, option_map, option_and_then, position, codes, IfOk, IfSome};
 ghost use Rattle.std.specs.List.{enumerate_from};
+ghost use Rattle.serde_json.specs.Find.{get};
 ghost use Rattle.serde_json.specs.View.{view};
+ghost use Rattle.json_values.specs.Numbers.{u32_of};
 ghost use Rattle.graph_json.specs.Pieces.{HasShortLists};
-ghost use Rattle.graph_json.specs.Collect.{Gives, collected};
+ghost use Rattle.graph_json.specs.Collect.{TextGives, collected};
 ghost use Rattle.graph_json.specs.Plain.{bad_node, bad_edge};
 ghost use Rattle.graph_json.specs.Named.{name_in, number_of, named_node, place_called, named_place_at, named_edge, has_format_2, named_lists, named_parts};
 
@@ -11,9 +13,9 @@ use crate::fault::{GraphTextFault, Part};
 use crate::name_fault::name_fault;
 use crate::names::{Names, may_be_name, member_name};
 use crate::node::node;
-use crate::pieces::whole;
 use crate::top::lists;
 use graph_nodes::{Edge, Node, Place};
+use json_values::u32_of;
 use serde_json::Value;
 use std::alloc::{AllocError, Global};
 
@@ -61,7 +63,7 @@ fn edge_among(v: &Value, names: &Names) -> Option<Edge>
 
 fn named_nodes(alloc: Global, values: &[Value], names: &Names) -> Result<Vec<Node>, GraphTextFault>
     requires { length values.now < 2 ^ 32 }
-    ensures gives { Gives (λ v. v.items) result (collected bad_node
+    ensures gives { TextGives (λ v. v.items) result (collected bad_node
         (map (named_node names.now) (map view values.now))) }
     ensures short { IfOk result (λ v. vec_len v < 2 ^ 32) }
 {
@@ -77,7 +79,7 @@ fn named_nodes(alloc: Global, values: &[Value], names: &Names) -> Result<Vec<Nod
 
 fn named_edges(alloc: Global, values: &[Value], names: &Names) -> Result<Vec<Edge>, GraphTextFault>
     requires { length values.now < 2 ^ 32 }
-    ensures gives { Gives (λ v. v.items) result (collected bad_edge
+    ensures gives { TextGives (λ v. v.items) result (collected bad_edge
         (map (named_edge names.now) (map view values.now))) }
     ensures short { IfOk result (λ v. vec_len v < 2 ^ 32) }
 {
@@ -91,10 +93,16 @@ fn named_edges(alloc: Global, values: &[Value], names: &Names) -> Result<Vec<Edg
     Ok(edges)
 }
 
+fn format(v: &Value) -> Option<u32>
+    ensures { result ≡ option_and_then u32_of (get (codes "format") (view v.now)) }
+{
+    u32_of(v.get("format")?)
+}
+
 fn is_format_2(v: &Value) -> bool
     ensures { result ≡ has_format_2 (view v.now) }
 {
-    match v.get("format").and_then(whole) {
+    match format(v) {
         Some(n) => n == 2,
         None => false,
     }
@@ -117,7 +125,7 @@ pub(crate) fn named_graph(
     v: &Value,
 ) -> Result<(Vec<Node>, Vec<Edge>), GraphTextFault>
     requires { HasShortLists (view v.now) }
-    ensures gives { Gives (λ p. (p.0.items, p.1.items)) result (named_parts (view v.now)) }
+    ensures gives { TextGives (λ p. (p.0.items, p.1.items)) result (named_parts (view v.now)) }
     ensures short { IfOk result (λ p. (vec_len p.0 < 2 ^ 32) × (vec_len p.1 < 2 ^ 32)) }
 {
     let Some((nodes, edges)) = lists_of(v) else {

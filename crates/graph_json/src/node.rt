@@ -1,16 +1,15 @@
 ghost use Rattle.std.specs.Prelude.{◌≡◌, codes, IfOk};
-ghost use Rattle.std.specs.BTreeMap.{keys};
-ghost use Rattle.std.specs.List.{list_all};
-ghost use Rattle.std.specs.String.{string_bytes};
 ghost use Rattle.serde_json.specs.Find.{get};
-ghost use Rattle.serde_json.specs.View.{view, members_view};
-ghost use Rattle.graph_json.specs.Pieces.{text_in, each_name};
+ghost use Rattle.serde_json.specs.View.{view};
+ghost use Rattle.json_values.specs.Members.{has_only};
+ghost use Rattle.graph_json.specs.Pieces.{text_in};
 ghost use Rattle.graph_json.specs.Nodes.{scope_in, push_in, push_scoped_in, pop_in, pop_scoped_in, kind_in, takes, may_have, node_in};
 ghost use Rattle.graph_json.specs.Plain.{node_of, scope_at};
 
-use crate::pieces::{flag, node_span, whole};
+use crate::pieces::{flag, node_span};
 use graph_nodes::{Name, Node, NodeKind};
-use serde_json::{Map, Value};
+use json_values::{Form, has_only, u32_of};
+use serde_json::Value;
 use std::alloc::{AllocError, Global};
 
 fn symbol(alloc: Global, v: &Value) -> Result<Option<Name>, AllocError>
@@ -130,25 +129,30 @@ fn is_of_kind(kind: &NodeKind, name: &str) -> bool
     }
 }
 
-fn is_member(named: bool, kind: &NodeKind, name: &str) -> bool
-    ensures { result ≡ may_have named kind.now name.now }
-{
-    name == "kind" || name == "span" || (named && name == "name") || is_of_kind(kind, name)
+// The members of a node of this kind; `name` is one where nodes have names.
+#[derive(Clone, Copy)]
+struct NodeForm<'a> {
+    named: bool,
+    kind: &'a NodeKind,
 }
 
-fn has_only_keys(members: &Map<String, Value>, named: bool, kind: &NodeKind) -> bool
-    ensures { result ≡ list_all (λ k. may_have named kind.now (string_bytes k)) (keys members.now) }
-{
-    members
-        .keys()
-        .all(|name| is_member(named, kind, name.as_str()))
+impl<'a> Form for NodeForm<'a> {
+    ghost use Rattle.graph_json.specs.Nodes.{may_have};
+
+    ghost allows = { λ form name. may_have form.named form.kind.now name };
+
+    fn may_have(&self, name: &str) -> bool {
+        name == "kind"
+            || name == "span"
+            || (self.named && name == "name")
+            || is_of_kind(self.kind, name)
+    }
 }
 
-#[tactic(auto, using(crate::proofs::Lengths::names))]
-fn has_only_members(members: &Map<String, Value>, named: bool, kind: &NodeKind) -> bool
-    ensures { result ≡ each_name (may_have named kind.now) (members_view members.now.entries) }
+fn has_only_members(v: &Value, named: bool, kind: &NodeKind) -> bool
+    ensures { result ≡ has_only (may_have named kind.now) (view v.now) }
 {
-    has_only_keys(members, named, kind)
+    has_only(v, &NodeForm { named, kind })
 }
 
 // A node of that value, where its member `scope` names `attached`.
@@ -161,9 +165,6 @@ pub(crate) fn node(
 ) -> Result<Option<Node>, AllocError>
     ensures { IfOk result (λ n. n ≡ node_in named attached (view v.now)) }
 {
-    let Some(members) = v.as_object() else {
-        return Ok(None);
-    };
     let Some(span) = node_span(v) else {
         return Ok(None);
     };
@@ -173,7 +174,7 @@ pub(crate) fn node(
     let Some(kind) = kind(alloc, v, text, attached)? else {
         return Ok(None);
     };
-    if has_only_members(members, named, &kind) {
+    if has_only_members(v, named, &kind) {
         Ok(Some(Node { kind, span }))
     } else {
         Ok(None)
@@ -183,7 +184,7 @@ pub(crate) fn node(
 fn scope_position(v: &Value) -> Option<u32>
     ensures { result ≡ scope_at (view v.now) }
 {
-    whole(v.get("scope")?)
+    u32_of(v.get("scope")?)
 }
 
 // A node of format 1.

@@ -1,30 +1,11 @@
 ghost use Rattle.std.specs.Prelude.{◌≡◌, codes};
 ghost use Rattle.serde_json.specs.Find.{at, get};
 ghost use Rattle.serde_json.specs.View.{view};
-ghost use Rattle.graph_json.specs.Pieces.{u32_of, u16_of, flag_in, text_in, u32_at, has_items, is_forward, span_of, optional_span};
+ghost use Rattle.graph_json.specs.Pieces.{flag_in, text_in, u32_at, has_items, is_forward, span_of, optional_span};
 
 use graph_nodes::Span;
+use json_values::u32_of;
 use serde_json::Value;
-
-// A whole number of 32 bits.
-pub(crate) fn whole(v: &Value) -> Option<u32>
-    ensures { result ≡ u32_of (view v.now) }
-{
-    match v.as_u64() {
-        Some(n) if n <= u32::MAX as u64 => Some(n as u32),
-        _ => None,
-    }
-}
-
-// A whole number of 16 bits.
-pub(crate) fn precedence(v: &Value) -> Option<u16>
-    ensures { result ≡ u16_of (view v.now) }
-{
-    match v.as_u64() {
-        Some(n) if n <= u16::MAX as u64 => Some(n as u16),
-        _ => None,
-    }
-}
 
 // The truth value of that member, false where it is left out.
 pub(crate) fn flag(v: &Value, name: &str) -> Option<bool>
@@ -52,7 +33,7 @@ fn whole_at(v: &Value, i: usize) -> Option<u32>
     ensures { result ≡ u32_at i (view v.now) }
 {
     match v.get(i) {
-        Some(item) => whole(item),
+        Some(item) => u32_of(item),
         None => None,
     }
 }

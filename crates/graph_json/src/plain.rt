@@ -1,7 +1,7 @@
 ghost use Rattle.std.specs.Prelude.{◌≡◌, ◌^◌, ◌<◌, length, vec_len, map, IfOk};
 ghost use Rattle.graph_json.specs.Pieces.{HasShortLists};
 ghost use Rattle.serde_json.specs.View.{view};
-ghost use Rattle.graph_json.specs.Collect.{Gives, collected};
+ghost use Rattle.graph_json.specs.Collect.{TextGives, collected};
 ghost use Rattle.graph_json.specs.Plain.{node_of, edge_of, bad_node, bad_edge, plain_parts};
 
 use crate::edge::plain_edge;
@@ -14,7 +14,7 @@ use std::alloc::Global;
 
 fn plain_nodes(alloc: Global, values: &[Value]) -> Result<Vec<Node>, GraphTextFault>
     requires { length values.now < 2 ^ 32 }
-    ensures gives { Gives (λ v. v.items) result (collected bad_node (map node_of (map view values.now))) }
+    ensures gives { TextGives (λ v. v.items) result (collected bad_node (map node_of (map view values.now))) }
     ensures short { IfOk result (λ v. vec_len v < 2 ^ 32) }
 {
     let mut nodes = Vec::new(alloc);
@@ -29,7 +29,7 @@ fn plain_nodes(alloc: Global, values: &[Value]) -> Result<Vec<Node>, GraphTextFa
 
 fn plain_edges(alloc: Global, values: &[Value]) -> Result<Vec<Edge>, GraphTextFault>
     requires { length values.now < 2 ^ 32 }
-    ensures gives { Gives (λ v. v.items) result (collected bad_edge (map edge_of (map view values.now))) }
+    ensures gives { TextGives (λ v. v.items) result (collected bad_edge (map edge_of (map view values.now))) }
     ensures short { IfOk result (λ v. vec_len v < 2 ^ 32) }
 {
     let mut edges = Vec::new(alloc);
@@ -49,7 +49,7 @@ pub(crate) fn plain_graph(
     v: &Value,
 ) -> Result<(Vec<Node>, Vec<Edge>), GraphTextFault>
     requires { HasShortLists (view v.now) }
-    ensures gives { Gives (λ p. (p.0.items, p.1.items)) result (plain_parts (view v.now)) }
+    ensures gives { TextGives (λ p. (p.0.items, p.1.items)) result (plain_parts (view v.now)) }
     ensures short { IfOk result (λ p. (vec_len p.0 < 2 ^ 32) × (vec_len p.1 < 2 ^ 32)) }
 {
     let Some((nodes, edges)) = lists(v, false) else {

@@ -7,7 +7,7 @@ ghost use Rattle.std.specs.List.{AllByRecursion};
 ghost use Rattle.json.specs.Tree.{json_tokens, items_tokens};
 ghost use Rattle.graph_json.specs.Printed.{nodes_json, edges_json, graph_json, text_of, graph_text, named_text, HasForwardSpans, number_json};
 ghost use Rattle.graph_json.specs.PrintSteps.{Adds, NodeFits, EdgeFits, value_tokens};
-ghost use Rattle.graph_json.specs.Pieces.{only_if};
+ghost use Rattle.json_values.specs.Numbers.{only_if};
 
 use crate::print::{put_edge, put_node};
 use graph_nodes::FileGraph;

@@ -1,15 +1,17 @@
-ghost use Rattle.std.specs.Prelude.{◌≡◌, ◌≢◌, ◌^◌, ◌<◌, length, vec_len, IfOk, IfErr, Ok, Err};
+ghost use Rattle.std.specs.Prelude.{◌≡◌, ◌≢◌, ◌^◌, ◌<◌, length, vec_len, IfOk, IfErr, Ok, Err, ok_or};
 ghost use Rattle.serde_json.specs.View.{view};
+ghost use Rattle.json_values.specs.Text.{json_of};
 ghost use Rattle.graph_json.specs.Pieces.{HasShortLists};
-ghost use Rattle.graph_json.specs.Collect.{Gives};
-ghost use Rattle.graph_json.specs.Reading.{json_of, parts_of, graph_from};
+ghost use Rattle.graph_json.specs.Collect.{TextGives};
+ghost use Rattle.graph_json.specs.Reading.{parts_of, graph_from};
 ghost use Rattle.graph_json.specs.Top.{checked};
 
 use crate::fault::GraphTextFault;
 use crate::named::named_graph;
 use crate::plain::plain_graph;
 use graph_nodes::{Edge, FileGraph, GraphFault, Node};
-use serde_json::{Category, Value};
+use json_values::{JsonFault, parse};
+use serde_json::Value;
 use std::alloc::Global;
 
 /// The graph that the bytes are, in format 1 or in format 2, or the first fault in them.
@@ -31,9 +33,9 @@ pub fn read_graph(alloc: Global, bytes: &[u8]) -> Result<FileGraph, GraphTextFau
 #[tactic(auto, unfolding(crate::specs::Reading::graph_from))]
 fn read(alloc: Global, bytes: &[u8]) -> Result<FileGraph, GraphTextFault>
     requires { length bytes.now < 2 ^ 32 }
-    ensures { Gives (λ g. (g.nodes, g.edges)) result (graph_from bytes.now) }
+    ensures { TextGives (λ g. (g.nodes, g.edges)) result (graph_from bytes.now) }
 {
-    let value = parse_short(alloc, bytes)?;
+    let value = value_of(alloc, bytes)?;
     let (nodes, edges) = parts(alloc, &value)?;
     check(alloc, nodes, edges)
 }
@@ -42,7 +44,7 @@ fn read(alloc: Global, bytes: &[u8]) -> Result<FileGraph, GraphTextFault>
 fn check(alloc: Global, nodes: Vec<Node>, edges: Vec<Edge>) -> Result<FileGraph, GraphTextFault>
     requires nodes { vec_len nodes < 2 ^ 32 }
     requires edges { vec_len edges < 2 ^ 32 }
-    ensures { Gives (λ g. (g.nodes, g.edges)) result (checked nodes.items edges.items) }
+    ensures { TextGives (λ g. (g.nodes, g.edges)) result (checked nodes.items edges.items) }
 {
     match FileGraph::check(alloc, nodes, edges) {
         Ok(graph) => Ok(graph),
@@ -54,7 +56,7 @@ fn check(alloc: Global, nodes: Vec<Node>, edges: Vec<Edge>) -> Result<FileGraph,
 // The nodes and edges of a value.
 fn parts(alloc: Global, v: &Value) -> Result<(Vec<Node>, Vec<Edge>), GraphTextFault>
     requires { HasShortLists (view v.now) }
-    ensures gives { Gives (λ p. (p.0.items, p.1.items)) result (parts_of (view v.now)) }
+    ensures gives { TextGives (λ p. (p.0.items, p.1.items)) result (parts_of (view v.now)) }
     ensures short { IfOk result (λ p. (vec_len p.0 < 2 ^ 32) × (vec_len p.1 < 2 ^ 32)) }
 {
     match v.get("format") {
@@ -63,24 +65,16 @@ fn parts(alloc: Global, v: &Value) -> Result<(Vec<Node>, Vec<Edge>), GraphTextFa
     }
 }
 
-// The value of the bytes.
-#[tactic(auto, using(crate::proofs::Parsing::texts))]
-fn parse(alloc: Global, bytes: &[u8]) -> Result<Value, GraphTextFault>
-    ensures { Gives view result (json_of bytes.now) }
-{
-    match Value::from_slice(alloc, bytes) {
-        Ok(value) => Ok(value),
-        Err(e) if e.classify() == Category::Memory => Err(GraphTextFault::NoMemory),
-        Err(_) => Err(GraphTextFault::BadJson),
-    }
-}
-
 // The value of the bytes, with how long its arrays may be.
 #[tactic(auto, using(crate::proofs::Parsing::texts))]
-fn parse_short(alloc: Global, bytes: &[u8]) -> Result<Value, GraphTextFault>
+fn value_of(alloc: Global, bytes: &[u8]) -> Result<Value, GraphTextFault>
     requires { length bytes.now < 2 ^ 32 }
-    ensures value { Gives view result (json_of bytes.now) }
+    ensures value { TextGives view result (ok_or (json_of bytes.now) GraphTextFault.BadJson) }
     ensures short { IfOk result (λ v. HasShortLists (view v)) }
 {
-    parse(alloc, bytes)
+    match parse(alloc, bytes) {
+        Ok(value) => Ok(value),
+        Err(JsonFault::BadJson) => Err(GraphTextFault::BadJson),
+        Err(JsonFault::NoMemory) => Err(GraphTextFault::NoMemory),
+    }
 }

@@ -10,9 +10,9 @@ Fails BadJson defined = defined ≡ Err BadJson
 Fails (BadRequest name) defined = defined ≡ Err (BadRequest name)
 
 -- a call answered what is defined
-abbrev pub Gives : {X : Type 0} → Result X ProtoFault → Result X ProtoFault → Type 0
-Gives (Ok x) defined = defined ≡ Ok x
-Gives (Err e) defined = Fails e defined
+abbrev pub LineGives : {X : Type 0} → Result X ProtoFault → Result X ProtoFault → Type 0
+LineGives (Ok x) defined = defined ≡ Ok x
+LineGives (Err e) defined = Fails e defined
 
 -- the same where the answer is seen by a view
 abbrev pub Shows : {X Y : Type 0} → (X → Y) → Result X ProtoFault → Result Y ProtoFault → Type 0

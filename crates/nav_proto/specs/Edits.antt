@@ -1,11 +1,13 @@
 -- Which edits a commit has.
 use Rattle.std.specs.Prelude.{ℕ, List, [], ◌∷◌, is_some, is_none, map, if◌then◌else◌, Option, Some, option_map, option_and_then, codes}
-use Rattle.serde_json.specs.Data.{Data, Items, no_items, item}
-use Rattle.serde_json.specs.Find.{get, as_array, as_str}
+use Rattle.serde_json.specs.Data.{Data}
+use Rattle.serde_json.specs.Find.{get, as_str}
+use Rattle.json_values.specs.Numbers.{only_if}
+use Rattle.json_values.specs.Lists.{list_of}
+use Rattle.json_values.specs.Members.{is_among, other_in}
 use Rattle.nav_proto.specs.declared.request.FileEdit.{FileEdit}
 use Rattle.nav_proto.specs.declared.request.FileEdit.TheVariants.{Put, Remove}
-use Rattle.nav_proto.specs.Texts.{only_if, text_of, is_path}
-use Rattle.nav_proto.specs.Members.{other_in}
+use Rattle.nav_proto.specs.Texts.{text_of, is_path}
 
 infixl 10 ◌>>=◌
 abbrev pub ◌>>=◌ : {A B : Type 0} → Option A → (A → Option B) → Option B
@@ -20,22 +22,17 @@ unfoldable pub put_of : Data → Option FileEdit
 put_of d = do
   path ← path_in (codes "put") d
   text ← option_and_then as_str (get (codes "text") d)
-  only_if (is_none (other_in (codes "put" ∷ codes "text" ∷ []) d)) (Put path text)
+  only_if (is_none (other_in (is_among (codes "put" ∷ codes "text" ∷ [])) d)) (Put path text)
 
 -- an object of exactly `remove`, a path
 unfoldable pub remove_of : Data → Option FileEdit
 remove_of d = do
   path ← path_in (codes "remove") d
-  only_if (is_none (other_in (codes "remove" ∷ []) d)) (Remove path)
+  only_if (is_none (other_in (is_among (codes "remove" ∷ [])) d)) (Remove path)
 
 -- an edit
 abbrev pub edit_of : Data → Option FileEdit
 edit_of d = if is_some (get (codes "put") d) then put_of d else remove_of d
-
--- the items of an array, as a list
-abbrev pub data_list : Items → List Data
-data_list no_items = []
-data_list (item d ds) = d ∷ data_list ds
 
 -- all the values, where there is one at each place
 abbrev pub all_some : {A : Type 0} → List (Option A) → Option (List A)
@@ -44,4 +41,4 @@ all_some (o ∷ os) = option_and_then (λ x. option_map (λ xs. x ∷ xs) (all_s
 
 -- an array of edits
 unfoldable pub edits_of : Data → Option (List FileEdit)
-edits_of d = option_and_then (λ items. all_some (map edit_of (data_list items))) (as_array d)
+edits_of d = option_and_then (λ items. all_some (map edit_of items)) (list_of d)

@@ -1,7 +1,7 @@
 -- The members of each form by a name for it; no public clause cites this.
 use Rattle.std.specs.Prelude.{ℕ, List, [], ◌∷◌, codes}
 use Rattle.nav_proto.specs.declared.members.Form.{Form}
-use Rattle.nav_proto.specs.declared.members.Form.TheVariants.{Bare, User, Commit, Rule, NodeQuery, PlaceQuery, Put, Remove}
+use Rattle.nav_proto.specs.declared.members.Form.TheVariants.{Bare, User, Commit, Rule, NodeQuery, PlaceQuery, Put, Remove, NodeLine}
 
 abbrev pub names_of : Form → List (List ℕ)
 names_of Bare = codes "do" ∷ []
@@ -12,3 +12,4 @@ names_of NodeQuery = codes "do" ∷ codes "path" ∷ codes "node" ∷ codes "edg
 names_of PlaceQuery = codes "do" ∷ codes "path" ∷ codes "line" ∷ codes "column" ∷ codes "edges" ∷ codes "depth" ∷ []
 names_of Put = codes "put" ∷ codes "text" ∷ []
 names_of Remove = codes "remove" ∷ []
+names_of NodeLine = codes "node" ∷ []

@@ -6,5 +6,6 @@ pub mod Members
 pub mod Answers
 pub mod Edits
 pub mod Requests
+pub mod NodeLine
 pub mod Bounded
 pub mod Forms

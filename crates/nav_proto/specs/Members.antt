@@ -1,9 +1,8 @@
 -- Which member of a request is wrong first, and which it may not have.
-use Rattle.std.specs.Prelude.{ℕ, List, Bool, if◌then◌else◌, Option, Some, None, option_map, option_and_then, Result, Ok, Err, ok_or}
-use Rattle.std.specs.List.{list_any}
-use Rattle.std.specs.Str.{bytes_eq}
-use Rattle.serde_json.specs.Data.{Data, Members, no_members, member}
-use Rattle.serde_json.specs.Find.{get, as_object}
+use Rattle.std.specs.Prelude.{ℕ, List, Option, Some, None, option_map, option_and_then, Result, Ok, Err, ok_or}
+use Rattle.serde_json.specs.Data.{Data}
+use Rattle.serde_json.specs.Find.{get}
+use Rattle.json_values.specs.Members.{is_among, other_in}
 use Rattle.nav_proto.specs.declared.proto_fault.ProtoFault.{ProtoFault}
 use Rattle.nav_proto.specs.declared.proto_fault.ProtoFault.TheVariants.{BadRequest}
 
@@ -24,19 +23,6 @@ read_or read default (Some d) = read d
 abbrev pub optional_field : {A : Type 0} → List ℕ → (Data → Option A) → A → Data → Result A ProtoFault
 optional_field name read default d = ok_or (read_or read default (get name d)) (BadRequest name)
 
--- whether the name is one of these
-abbrev pub is_among : List (List ℕ) → List ℕ → Bool
-is_among names name = list_any (bytes_eq name) names
-
--- the first member that is none of these; members stand in the order of their names' bytes
-abbrev pub other_of : List (List ℕ) → Members → Option (List ℕ)
-other_of names no_members = None
-other_of names (member name d ms) = if is_among names name then other_of names ms else Some name
-
--- the least member by bytes that the form doesn't have
-abbrev pub other_in : List (List ℕ) → Data → Option (List ℕ)
-other_in names d = option_and_then (other_of names) (as_object d)
-
 -- the value, unless there is a fault
 abbrev pub unless : {A : Type 0} → Option ProtoFault → A → Result A ProtoFault
 unless None x = Ok x
@@ -44,4 +30,4 @@ unless (Some fault) x = Err fault
 
 -- the value, where the object has no member but these
 abbrev pub with_only : {A : Type 0} → List (List ℕ) → Data → A → Result A ProtoFault
-with_only names d x = unless (option_map BadRequest (other_in names d)) x
+with_only names d x = unless (option_map BadRequest (other_in (is_among names) d)) x

@@ -1,9 +1,10 @@
 -- Which request a line is, or its first fault: a function of the line's JSON value.
 use Rattle.std.specs.Prelude.{ℕ, List, [], ◌∷◌, is_some, if◌then◌else◌, Some, None, option_map, Result, Ok, Err, ok_or, codes}
-use Rattle.std.specs.Str.{bytes_eq, is_utf8}
+use Rattle.std.specs.Str.{bytes_eq}
 use Rattle.serde_json.specs.Data.{Data}
 use Rattle.serde_json.specs.Find.{get, as_str}
-use Rattle.serde_json.specs.Read.{read}
+use Rattle.json_values.specs.Text.{json_of}
+use Rattle.json_values.specs.Numbers.{number_between, u32_of}
 use Rattle.partial_path.specs.declared.bounds.Bounds.{Bounds}
 use Rattle.partial_path.specs.Limits.{max_edges, max_depth}
 use Rattle.nav_proto.specs.declared.request.Request.{Request}
@@ -12,7 +13,7 @@ use Rattle.nav_proto.specs.declared.request.Point.{Point}
 use Rattle.nav_proto.specs.declared.request.Point.TheVariants.{Node, LineColumn}
 use Rattle.nav_proto.specs.declared.proto_fault.ProtoFault.{ProtoFault}
 use Rattle.nav_proto.specs.declared.proto_fault.ProtoFault.TheVariants.{BadJson, BadRequest}
-use Rattle.nav_proto.specs.Texts.{is_path, is_prefix, is_user, text_of, number_of, u32_of}
+use Rattle.nav_proto.specs.Texts.{is_path, is_prefix, is_user, text_of}
 use Rattle.nav_proto.specs.Members.{◌>>=◌, field, optional_field, with_only}
 use Rattle.nav_proto.specs.Edits.{edits_of}
 
@@ -68,8 +69,8 @@ query_names d =
 -- the bounds of a query: 1 to 512 edges and 1 to 96 symbols, where absent 128 and 48
 unfoldable pub bounds_of : Data → Result Bounds ProtoFault
 bounds_of d = do
-  edges ← optional_field (codes "edges") (number_of 1 max_edges) 128 d
-  depth ← optional_field (codes "depth") (number_of 1 max_depth) 48 d
+  edges ← optional_field (codes "edges") (number_between 1 max_edges) 128 d
+  depth ← optional_field (codes "depth") (number_between 1 max_depth) 48 d
   Ok (record { edges = edges; depth = depth })
 
 -- `define`, `references`: a path, where in it, and the bounds
@@ -104,12 +105,8 @@ request_of d = do
   word ← field (codes "do") as_str d
   form_of word d
 
--- the value of the bytes, which are JSON in UTF-8
-abbrev pub json_of : List ℕ → Result Data ProtoFault
-json_of bytes = if is_utf8 bytes then ok_or (read bytes) BadJson else Err BadJson
-
 -- the request of a line
 unfoldable pub request_from : List ℕ → Result Request ProtoFault
 request_from line = do
-  value ← json_of line
+  value ← ok_or (json_of line) BadJson
   request_of value

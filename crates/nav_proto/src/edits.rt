@@ -1,12 +1,13 @@
 ghost use Rattle.std.specs.Prelude.{◌≡◌, IfOk, map, option_map, option_and_then};
 ghost use Rattle.std.specs.String.{string_bytes};
-ghost use Rattle.serde_json.specs.Find.{get, as_str, as_array};
-ghost use Rattle.serde_json.specs.View.{view, items_view};
+ghost use Rattle.serde_json.specs.Find.{get, as_str};
+ghost use Rattle.serde_json.specs.View.{view};
 ghost use Rattle.nav_proto.specs.Edits.{path_in, put_of, remove_of, edit_of, all_some, edits_of};
 
 use crate::members::{Form, other};
 use crate::pieces::is_path;
 use crate::{DocText, Edits, FileEdit};
+use json_values::into_items;
 use serde_json::Value;
 use std::alloc::{AllocError, Global};
 use version_tree::PathText;
@@ -17,16 +18,6 @@ fn string_of(v: Value) -> Option<String>
 {
     match v {
         Value::String(text) => Some(text),
-        _ => None,
-    }
-}
-
-/// The items of this value, which aren't copied.
-fn items_of(v: Value) -> Option<Vec<Value>>
-    ensures { option_map (λ vs. items_view vs.items) result ≡ as_array (view v) }
-{
-    match v {
-        Value::Array(items) => Some(items),
         _ => None,
     }
 }
@@ -111,11 +102,11 @@ fn all_edits(alloc: Global, values: Vec<Value>) -> Result<Option<Edits>, AllocEr
 }
 
 /// The edits of a value. It leaves the value without them.
-#[tactic(auto, using(crate::proofs::Lists::lists), unfolding(crate::specs::Edits::edits_of))]
+#[tactic(auto, unfolding(crate::specs::Edits::edits_of))]
 pub(crate) fn edits_in(alloc: Global, v: Value) -> Result<Option<Edits>, AllocError>
     ensures { IfOk result (λ edits. edits ≡ edits_of (view v)) }
 {
-    match items_of(v) {
+    match into_items(v) {
         Some(values) => all_edits(alloc, values),
         None => Ok(None),
     }

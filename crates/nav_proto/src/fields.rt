@@ -1,11 +1,14 @@
-ghost use Rattle.std.specs.Prelude.{◌≡◌, ◌≤◌, IfOk, None, Some, option_map, codes};
+ghost use Rattle.std.specs.Prelude.{◌≡◌, ◌≤◌, IfOk, None, Some, option_map, option_and_then, codes};
+ghost use Rattle.serde_json.specs.Find.{get};
 ghost use Rattle.serde_json.specs.View.{view};
-ghost use Rattle.nav_proto.specs.Answers.{Gives};
+ghost use Rattle.nav_proto.specs.Answers.{LineGives};
 ghost use Rattle.nav_proto.specs.Members.{field, optional_field};
-ghost use Rattle.nav_proto.specs.Texts.{text_of, is_path, is_prefix, is_user, u32_of, number_of};
+ghost use Rattle.nav_proto.specs.Texts.{text_of, is_path, is_prefix, is_user};
+ghost use Rattle.json_values.specs.Numbers.{number_between, u32_of};
 
 use crate::ProtoFault;
-use crate::pieces::{is_path, is_prefix, is_user, number, wrong};
+use crate::pieces::{is_path, is_prefix, is_user, wrong};
+use json_values::{number, u32_of};
 use serde_json::Value;
 use std::alloc::Global;
 use version_tree::{PathText, UserText};
@@ -13,7 +16,7 @@ use version_tree::{PathText, UserText};
 /// The member `user`.
 #[tactic(auto, using(crate::proofs::Named::named))]
 pub(crate) fn user_field(alloc: Global, v: &Value) -> Result<UserText, ProtoFault>
-    ensures { Gives result (field (codes "user") (text_of is_user) (view v.now)) }
+    ensures { LineGives result (field (codes "user") (text_of is_user) (view v.now)) }
 {
     match v.get("user").and_then(Value::as_str) {
         Some(text) if is_user(text) => Ok(UserText::of(alloc, text)?),
@@ -24,7 +27,7 @@ pub(crate) fn user_field(alloc: Global, v: &Value) -> Result<UserText, ProtoFaul
 /// The member `prefix`.
 #[tactic(auto, using(crate::proofs::Named::named))]
 pub(crate) fn prefix_field(alloc: Global, v: &Value) -> Result<PathText, ProtoFault>
-    ensures { Gives result (field (codes "prefix") (text_of is_prefix) (view v.now)) }
+    ensures { LineGives result (field (codes "prefix") (text_of is_prefix) (view v.now)) }
 {
     match v.get("prefix").and_then(Value::as_str) {
         Some(text) if is_prefix(text) => Ok(PathText::of(alloc, text)?),
@@ -35,7 +38,7 @@ pub(crate) fn prefix_field(alloc: Global, v: &Value) -> Result<PathText, ProtoFa
 /// The member `path`.
 #[tactic(auto, using(crate::proofs::Named::named))]
 pub(crate) fn path_field(alloc: Global, v: &Value) -> Result<PathText, ProtoFault>
-    ensures { Gives result (field (codes "path") (text_of is_path) (view v.now)) }
+    ensures { LineGives result (field (codes "path") (text_of is_path) (view v.now)) }
 {
     match v.get("path").and_then(Value::as_str) {
         Some(text) if is_path(text) => Ok(PathText::of(alloc, text)?),
@@ -43,12 +46,18 @@ pub(crate) fn path_field(alloc: Global, v: &Value) -> Result<PathText, ProtoFaul
     }
 }
 
+fn number_in(v: &Value, name: &str) -> Option<u32>
+    ensures { result ≡ option_and_then u32_of (get name.now (view v.now)) }
+{
+    u32_of(v.get(name)?)
+}
+
 /// The number that is the member of this name.
 #[tactic(auto, using(crate::proofs::Named::named))]
 pub(crate) fn number_field(alloc: Global, v: &Value, name: &str) -> Result<u32, ProtoFault>
-    ensures { Gives result (field name.now u32_of (view v.now)) }
+    ensures { LineGives result (field name.now u32_of (view v.now)) }
 {
-    match v.get(name).and_then(|found| number(found, 0, u32::MAX)) {
+    match number_in(v, name) {
         Some(n) => Ok(n),
         None => Err(wrong(alloc, name)),
     }
@@ -64,7 +73,7 @@ pub(crate) fn bound_field(
     default: u32,
 ) -> Result<u32, ProtoFault>
     requires { (1 ≤ default) × (default ≤ most) }
-    ensures gives { Gives result (optional_field name.now (number_of 1 most) default (view v.now)) }
+    ensures gives { LineGives result (optional_field name.now (number_between 1 most) default (view v.now)) }
     ensures bounded { IfOk result (λ n. (1 ≤ n) × (n ≤ most)) }
 {
     let Some(found) = v.get(name) else {
@@ -79,12 +88,12 @@ pub(crate) fn bound_field(
 /// The member `base`, which may be absent.
 #[tactic(auto, using(crate::proofs::Named::named))]
 pub(crate) fn base_field(alloc: Global, v: &Value) -> Result<Option<u32>, ProtoFault>
-    ensures { Gives result (optional_field (codes "base") (λ d. option_map Some (u32_of d)) None (view v.now)) }
+    ensures { LineGives result (optional_field (codes "base") (λ d. option_map Some (u32_of d)) None (view v.now)) }
 {
     let Some(found) = v.get("base") else {
         return Ok(None);
     };
-    match number(found, 0, u32::MAX) {
+    match u32_of(found) {
         Some(base) => Ok(Some(base)),
         None => Err(wrong(alloc, "base")),
     }

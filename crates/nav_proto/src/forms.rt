@@ -3,7 +3,7 @@ ghost use Rattle.serde_json.specs.View.{view};
 ghost use Rattle.partial_path.specs.Limits.{IsInRange};
 ghost use Rattle.nav_proto.specs.Edits.{edits_of};
 ghost use Rattle.nav_proto.specs.Forms.{names_of};
-ghost use Rattle.nav_proto.specs.Answers.{Gives};
+ghost use Rattle.nav_proto.specs.Answers.{LineGives};
 ghost use Rattle.nav_proto.specs.Members.{field};
 ghost use Rattle.nav_proto.specs.Requests.{rule_in, node_point, place_point, point_of, bounds_of, query_names, query_in};
 
@@ -19,7 +19,7 @@ use version_tree::{PathText, UserText};
 /// The member `edits`, whose documents aren't copied.
 #[tactic(auto, using(crate::proofs::Named::named))]
 pub(crate) fn edits_field(alloc: Global, v: Value) -> Result<Edits, ProtoFault>
-    ensures { Gives result (field (codes "edits") edits_of (view v)) }
+    ensures { LineGives result (field (codes "edits") edits_of (view v)) }
 {
     let mut v = v;
     let Some(found) = v.get_mut("edits") else {
@@ -34,7 +34,7 @@ pub(crate) fn edits_field(alloc: Global, v: Value) -> Result<Edits, ProtoFault>
 /// The bounds of a query.
 #[tactic(auto, unfolding(crate::specs::Requests::bounds_of))]
 fn bounds(alloc: Global, v: &Value) -> Result<Bounds, ProtoFault>
-    ensures gives { Gives result (bounds_of (view v.now)) }
+    ensures gives { LineGives result (bounds_of (view v.now)) }
     ensures bounded { IfOk result IsInRange }
 {
     let edges = bound_field(alloc, v, "edges", 512, 128)?;
@@ -44,14 +44,14 @@ fn bounds(alloc: Global, v: &Value) -> Result<Bounds, ProtoFault>
 
 #[tactic(auto, unfolding(crate::specs::Requests::node_point))]
 fn node(alloc: Global, v: &Value) -> Result<Point, ProtoFault>
-    ensures { Gives result (node_point (view v.now)) }
+    ensures { LineGives result (node_point (view v.now)) }
 {
     Ok(Point::Node(number_field(alloc, v, "node")?))
 }
 
 #[tactic(auto, unfolding(crate::specs::Requests::place_point))]
 fn place(alloc: Global, v: &Value) -> Result<Point, ProtoFault>
-    ensures { Gives result (place_point (view v.now)) }
+    ensures { LineGives result (place_point (view v.now)) }
 {
     let line = number_field(alloc, v, "line")?;
     let column = number_field(alloc, v, "column")?;
@@ -60,7 +60,7 @@ fn place(alloc: Global, v: &Value) -> Result<Point, ProtoFault>
 
 /// Where a query stands.
 fn point(alloc: Global, v: &Value) -> Result<Point, ProtoFault>
-    ensures { Gives result (point_of (view v.now)) }
+    ensures { LineGives result (point_of (view v.now)) }
 {
     match v.get("node") {
         Some(_) => node(alloc, v),
@@ -80,7 +80,7 @@ fn query_form(v: &Value) -> Form
 /// The members of a query.
 #[tactic(auto, unfolding(crate::specs::Requests::query_in))]
 pub(crate) fn query(alloc: Global, v: &Value) -> Result<(PathText, (Point, Bounds)), ProtoFault>
-    ensures gives { Gives result (query_in (view v.now)) }
+    ensures gives { LineGives result (query_in (view v.now)) }
     ensures bounded { IfOk result (λ q. IsInRange q.1.1) }
 {
     let path = path_field(alloc, v)?;
@@ -93,7 +93,7 @@ pub(crate) fn query(alloc: Global, v: &Value) -> Result<(PathText, (Point, Bound
 /// The members of a grant or a deny.
 #[tactic(auto, unfolding(crate::specs::Requests::rule_in))]
 pub(crate) fn rule(alloc: Global, v: &Value) -> Result<(UserText, PathText), ProtoFault>
-    ensures { Gives result (rule_in (view v.now)) }
+    ensures { LineGives result (rule_in (view v.now)) }
 {
     let user = user_field(alloc, v)?;
     let prefix = prefix_field(alloc, v)?;

@@ -5,13 +5,13 @@ mod edits;
 mod faults;
 mod fields;
 mod forms;
+mod lines;
 mod members;
 mod pieces;
 mod print;
 mod proto_fault;
 #[cfg(test)]
 mod read_tests;
-mod reading;
 mod reply;
 mod request;
 mod rows;
@@ -20,10 +20,10 @@ mod tests;
 mod text;
 mod words;
 
+pub use lines::{read_node, read_request};
 pub use partial_path::Bounds;
 pub use print::print_reply;
 pub use proto_fault::ProtoFault;
-pub use reading::read_request;
 pub use reply::{FileError, PlainError, Reply, ShapePart};
 pub use request::{Edits, FileEdit, Point, Request};
 pub use text::{DocText, ReplyText};

@@ -1,11 +1,9 @@
-ghost use Rattle.std.specs.Prelude.{◌≡◌, ◌≤◌, nat_le, IfSome};
+ghost use Rattle.std.specs.Prelude.{◌≡◌, nat_le};
 ghost use Rattle.std.specs.List.{list_all, slice_split};
-ghost use Rattle.serde_json.specs.View.{view};
 ghost use Rattle.nav_proto.specs.Answers.{Names};
-ghost use Rattle.nav_proto.specs.Texts.{has_bytes, is_slash, is_part, is_path, is_prefix, is_user, number_of};
+ghost use Rattle.nav_proto.specs.Texts.{has_bytes, is_slash, is_part, is_path, is_prefix, is_user};
 
 use crate::{ProtoFault, ReplyText};
-use serde_json::Value;
 use std::alloc::Global;
 
 /// The fault that names this field, or want of memory.
@@ -62,15 +60,4 @@ pub(crate) fn is_user(text: &str) -> bool
     ensures { result ≡ is_user text.now }
 {
     has_bytes(text, 256)
-}
-
-/// The value as a whole number between these two.
-pub(crate) fn number(v: &Value, low: u32, high: u32) -> Option<u32>
-    ensures is { result ≡ number_of low high (view v.now) }
-    ensures within { IfSome result (λ n. (low ≤ n) × (n ≤ high)) }
-{
-    match v.as_u64() {
-        Some(n) if low as u64 <= n && n <= high as u64 => Some(n as u32),
-        _ => None,
-    }
 }

@@ -1,4 +1,4 @@
-use crate::{Bounds, FileEdit, Point, ProtoFault, Request, read_request};
+use crate::{Bounds, FileEdit, Point, ProtoFault, Request, read_node, read_request};
 use std::alloc::{AllocError, Global};
 use std::test::Fail;
 
@@ -86,12 +86,26 @@ fn shown(alloc: Global, line: &str) -> Result<String, AllocError> {
             &at,
             &bounds,
         ),
-        Err(ProtoFault::BadJson) => String::from_str(alloc, "bad_json"),
-        Err(ProtoFault::BadRequest(field)) => {
+        Err(fault) => refused(alloc, fault),
+    }
+}
+
+fn refused(alloc: Global, fault: ProtoFault) -> Result<String, AllocError> {
+    match fault {
+        ProtoFault::BadJson => String::from_str(alloc, "bad_json"),
+        ProtoFault::BadRequest(field) => {
             let field = field.as_str();
             format!(in alloc; "bad {field}")
         }
-        Err(ProtoFault::NoMemory) => Err(AllocError),
+        ProtoFault::NoMemory => Err(AllocError),
+    }
+}
+
+/// The node, or the refusal of its line, in a few words.
+fn node_shown(alloc: Global, line: &str) -> Result<String, AllocError> {
+    match read_node(alloc, line.as_bytes()) {
+        Ok(node) => format!(in alloc; "{node}"),
+        Err(fault) => refused(alloc, fault),
     }
 }
 
@@ -212,6 +226,32 @@ fn lines_are_read(rt: HostRuntime) -> Result<(), Fail> {
     for row in LINES.split('\n') {
         let (line, wanted) = row.split_once(" => ").unwrap_or((row, "no arrow"));
         assert_eq!(rt; shown(rt.alloc(), line)?.as_str(), wanted, "{line}");
+    }
+    Ok(())
+}
+
+/// Lines that ask for a node, and behind an arrow the node or the refusal.
+const NODE_LINES: &str = r#"{"node":0} => 0
+{"node":4294967295} => 4294967295
+{"node":1,"node":2} => 2
+ => bad_json
+{"node":0 => bad_json
+{"node":4294967296} => bad node
+{"node":1.0} => bad node
+{"node":-0} => bad node
+{"node":"0"} => bad node
+{"node":0,"x":0} => bad node
+{"a":0,"node":0} => bad node
+{"Node":0} => bad node
+{} => bad node
+[0] => bad node
+0 => bad node"#;
+
+#[test]
+fn node_lines_are_read(rt: HostRuntime) -> Result<(), Fail> {
+    for row in NODE_LINES.split('\n') {
+        let (line, wanted) = row.split_once(" => ").unwrap_or((row, "no arrow"));
+        assert_eq!(rt; node_shown(rt.alloc(), line)?.as_str(), wanted, "{line}");
     }
     Ok(())
 }

@@ -1,7 +1,7 @@
 ghost use Rattle.std.specs.Prelude.{◌≡◌, IfOk};
 ghost use Rattle.serde_json.specs.View.{view};
 ghost use Rattle.nav_proto.specs.Bounded.{IsBounded};
-ghost use Rattle.nav_proto.specs.Answers.{Gives};
+ghost use Rattle.nav_proto.specs.Answers.{LineGives};
 ghost use Rattle.nav_proto.specs.Requests.{hello_of, bare_of, commit_of, rule_of, query_of, request_of};
 
 use crate::fields::{base_field, user_field};
@@ -15,7 +15,7 @@ use std::alloc::Global;
 /// The request of the form that the member `do` names.
 #[tactic(auto, using(crate::proofs::Named::named), unfolding(crate::specs::Requests::request_of, crate::specs::Requests::form_of))]
 pub(crate) fn request(alloc: Global, v: Value) -> Result<Request, ProtoFault>
-    ensures gives { Gives result (request_of (view v)) }
+    ensures gives { LineGives result (request_of (view v)) }
     ensures bounded { IfOk result IsBounded }
 {
     let Some(word) = v.get("do").and_then(Value::as_str) else {
@@ -49,7 +49,7 @@ pub(crate) fn request(alloc: Global, v: Value) -> Result<Request, ProtoFault>
 /// The request `hello`.
 #[tactic(auto, unfolding(crate::specs::Requests::hello_of))]
 fn hello(alloc: Global, v: &Value) -> Result<Request, ProtoFault>
-    ensures gives { Gives result (hello_of (view v.now)) }
+    ensures gives { LineGives result (hello_of (view v.now)) }
     ensures bounded { IfOk result IsBounded }
 {
     let user = user_field(alloc, v)?;
@@ -58,7 +58,7 @@ fn hello(alloc: Global, v: &Value) -> Result<Request, ProtoFault>
 }
 
 fn pin(alloc: Global, v: &Value) -> Result<Request, ProtoFault>
-    ensures gives { Gives result (bare_of Request.Pin (view v.now)) }
+    ensures gives { LineGives result (bare_of Request.Pin (view v.now)) }
     ensures bounded { IfOk result IsBounded }
 {
     only(alloc, v, Form::Bare)?;
@@ -66,7 +66,7 @@ fn pin(alloc: Global, v: &Value) -> Result<Request, ProtoFault>
 }
 
 fn quit(alloc: Global, v: &Value) -> Result<Request, ProtoFault>
-    ensures gives { Gives result (bare_of Request.Quit (view v.now)) }
+    ensures gives { LineGives result (bare_of Request.Quit (view v.now)) }
     ensures bounded { IfOk result IsBounded }
 {
     only(alloc, v, Form::Bare)?;
@@ -76,7 +76,7 @@ fn quit(alloc: Global, v: &Value) -> Result<Request, ProtoFault>
 /// The request `commit`.
 #[tactic(auto, unfolding(crate::specs::Requests::commit_of))]
 fn commit(alloc: Global, v: Value) -> Result<Request, ProtoFault>
-    ensures gives { Gives result (commit_of (view v)) }
+    ensures gives { LineGives result (commit_of (view v)) }
     ensures bounded { IfOk result IsBounded }
 {
     let base = base_field(alloc, &v)?;
@@ -88,7 +88,7 @@ fn commit(alloc: Global, v: Value) -> Result<Request, ProtoFault>
 }
 
 fn grant(alloc: Global, v: &Value) -> Result<Request, ProtoFault>
-    ensures gives { Gives result (rule_of Request.Grant (view v.now)) }
+    ensures gives { LineGives result (rule_of Request.Grant (view v.now)) }
     ensures bounded { IfOk result IsBounded }
 {
     let (user, prefix) = rule(alloc, v)?;
@@ -96,7 +96,7 @@ fn grant(alloc: Global, v: &Value) -> Result<Request, ProtoFault>
 }
 
 fn revoke(alloc: Global, v: &Value) -> Result<Request, ProtoFault>
-    ensures gives { Gives result (rule_of Request.Revoke (view v.now)) }
+    ensures gives { LineGives result (rule_of Request.Revoke (view v.now)) }
     ensures bounded { IfOk result IsBounded }
 {
     let (user, prefix) = rule(alloc, v)?;
@@ -104,7 +104,7 @@ fn revoke(alloc: Global, v: &Value) -> Result<Request, ProtoFault>
 }
 
 fn deny(alloc: Global, v: &Value) -> Result<Request, ProtoFault>
-    ensures gives { Gives result (rule_of Request.Deny (view v.now)) }
+    ensures gives { LineGives result (rule_of Request.Deny (view v.now)) }
     ensures bounded { IfOk result IsBounded }
 {
     let (user, prefix) = rule(alloc, v)?;
@@ -112,7 +112,7 @@ fn deny(alloc: Global, v: &Value) -> Result<Request, ProtoFault>
 }
 
 fn undeny(alloc: Global, v: &Value) -> Result<Request, ProtoFault>
-    ensures gives { Gives result (rule_of Request.Undeny (view v.now)) }
+    ensures gives { LineGives result (rule_of Request.Undeny (view v.now)) }
     ensures bounded { IfOk result IsBounded }
 {
     let (user, prefix) = rule(alloc, v)?;
@@ -120,7 +120,7 @@ fn undeny(alloc: Global, v: &Value) -> Result<Request, ProtoFault>
 }
 
 fn define(alloc: Global, v: &Value) -> Result<Request, ProtoFault>
-    ensures gives { Gives result (query_of Request.Define (view v.now)) }
+    ensures gives { LineGives result (query_of Request.Define (view v.now)) }
     ensures bounded { IfOk result IsBounded }
 {
     let (path, (at, bounds)) = query(alloc, v)?;
@@ -128,7 +128,7 @@ fn define(alloc: Global, v: &Value) -> Result<Request, ProtoFault>
 }
 
 fn references(alloc: Global, v: &Value) -> Result<Request, ProtoFault>
-    ensures gives { Gives result (query_of Request.References (view v.now)) }
+    ensures gives { LineGives result (query_of Request.References (view v.now)) }
     ensures bounded { IfOk result IsBounded }
 {
     let (path, (at, bounds)) = query(alloc, v)?;

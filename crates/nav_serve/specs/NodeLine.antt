@@ -1,20 +1,27 @@
--- Which JSON values are a node line: an object of the one member `node`, a position.
-use Rattle.std.specs.Prelude.{ℕ, List, Bool, Option, codes}
-use Rattle.std.specs.Option.{option_and_then}
-use Rattle.std.specs.Str.{bytes_eq}
-use Rattle.serde_json.specs.Data.{Data, Members}
-use Rattle.serde_json.specs.Find.{get, as_object}
-use Rattle.graph_json.specs.Pieces.{only_if, u32_of, each_name}
+-- What a line that has to ask for a node is answered with.
+use Rattle.std.specs.Prelude.{ℕ, Result, Ok, Err}
+use Rattle.nav_proto.specs.declared.proto_fault.ProtoFault.{ProtoFault}
+use Rattle.nav_proto.specs.declared.proto_fault.ProtoFault.TheVariants as fault
+use Rattle.nav_proto.specs.declared.reply.Reply.{Reply}
+use Rattle.nav_proto.specs.declared.reply.Reply.TheVariants.{Plain, BadRequest}
+use Rattle.nav_proto.specs.declared.reply.PlainError.TheVariants.{BadJson}
+use Rattle.nav_serve.specs.declared.file.Refused.{Refused}
+use Rattle.nav_serve.specs.declared.file.Refused.TheVariants as refused
+use Rattle.nav_serve.specs.declared.halt.Halt.TheVariants as halt
 
--- whether a node line may have a member of this name
-abbrev pub may_stand : List ℕ → Bool
-may_stand name = bytes_eq name (codes "node")
+-- the reply to a line's fault; want of memory is no fault, and a definition never gives it
+abbrev pub reply_to : ProtoFault → Reply
+reply_to fault.BadJson = Plain BadJson
+reply_to (fault.BadRequest field) = BadRequest field
+reply_to fault.NoMemory = Plain BadJson
 
--- the position, where each member may stand
-abbrev pub position_among : Option ℕ → Members → Option ℕ
-position_among n members = option_and_then (λ at. only_if (each_name may_stand members) at) n
+-- the node, or the reply to its line's fault
+abbrev pub node_or_refusal : Result ℕ ProtoFault → Result ℕ Reply
+node_or_refusal (Ok n) = Ok n
+node_or_refusal (Err fault) = Err (reply_to fault)
 
--- the position that a node line asks for
-abbrev pub node_number : Data → Option ℕ
-node_number d =
-    option_and_then (position_among (option_and_then u32_of (get (codes "node") d))) (as_object d)
+-- what stands in place of a node: the reply, or a stop for want of memory; no public clause cites this
+abbrev pub refusal_of : ProtoFault → Refused
+refusal_of fault.BadJson = refused.Reply (Plain BadJson)
+refusal_of (fault.BadRequest field) = refused.Reply (BadRequest field)
+refusal_of fault.NoMemory = refused.Halt halt.NoMemory

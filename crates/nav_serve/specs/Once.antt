@@ -1,13 +1,10 @@
 -- What `once` replies to its input.
 use Rattle.std.specs.Prelude.{◌≡◌, ℕ, List, [], ◌∷◌, map, Bool, IsTrue, Option, Some, None, codes, Result, Ok, Err, ◌⊎◌, ◌↔◌, slice_get}
 use Rattle.std.specs.Option.{option_and_then}
-use Rattle.serde_json.specs.Data.{Data}
 use Rattle.graph_nodes.specs.declared.node.Node.{Node}
 use Rattle.graph_nodes.specs.declared.node.Edge.{Edge}
 use Rattle.graph_nodes.specs.declared.node.Span.{Span}
 use Rattle.graph_nodes.specs.Graph.{Graph}
-use Rattle.graph_json.specs.Reading.{json_of}
-use Rattle.graph_json.specs.declared.fault.GraphTextFault.{GraphTextFault}
 use Rattle.partial_path.specs.declared.bounds.Bounds.{Bounds}
 use Rattle.partial_path.specs.declared.config.Config.{Config}
 use Rattle.partial_path.specs.Spots.{node_at}
@@ -19,10 +16,11 @@ use Rattle.version_tree.specs.declared.row.Row.{Row}
 use Rattle.version_tree.specs.declared.row.Answer.{Answer}
 use Rattle.nav_proto.specs.declared.reply.Reply.{Reply}
 use Rattle.nav_proto.specs.declared.reply.Reply.TheVariants.{Rows, Plain, BadRequest}
-use Rattle.nav_proto.specs.declared.reply.PlainError.TheVariants.{BadJson, NoReference, Crowded}
+use Rattle.nav_proto.specs.declared.reply.PlainError.TheVariants.{NoReference, Crowded}
+use Rattle.nav_proto.specs.NodeLine.{node_from}
 use Rattle.nav_io.specs.Lines.{line_at_front, after_line}
 use Rattle.nav_serve.specs.Files.{graph_line}
-use Rattle.nav_serve.specs.NodeLine.{node_number}
+use Rattle.nav_serve.specs.NodeLine.{node_or_refusal}
 
 -- the path that `once` gives its graph
 abbrev pub once_path : List ℕ
@@ -32,25 +30,10 @@ once_path = codes "once.sg.json"
 abbrev pub usual : Bounds
 usual = record { edges = 128; depth = 48 }
 
--- the node of a line that asks for one, or the reply that refuses the line
-abbrev pub number_or_refusal : Option ℕ → Result ℕ Reply
-number_or_refusal (Some n) = Ok n
-number_or_refusal None = Err (BadRequest (codes "node"))
-
--- the value of a line, or the reply that refuses it
-abbrev pub json_or_refusal : Result Data GraphTextFault → Result Data Reply
-json_or_refusal (Ok d) = Ok d
-json_or_refusal (Err fault) = Err (Plain BadJson)
-
--- the node of a line that is this value, or the reply that refuses it
-abbrev pub node_in : Result Data Reply → Result ℕ Reply
-node_in (Ok d) = number_or_refusal (node_number d)
-node_in (Err refusal) = Err refusal
-
 -- the node that the line asks for, or the reply that refuses it
 abbrev pub node_line : Option (List ℕ) → Result ℕ Reply
 node_line None = Err (BadRequest (codes "node"))
-node_line (Some line) = node_in (json_or_refusal (json_of line))
+node_line (Some line) = node_or_refusal (node_from line)
 
 -- the span of a node of the graph
 abbrev pub span_at : Graph → ℕ → Option Span

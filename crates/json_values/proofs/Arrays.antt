@@ -2,7 +2,7 @@
 use Rattle.std.proofs.Common.{◌≡◌, List, [], ◌∷◌, map, refl, ap}
 use Rattle.serde_json.specs.View.{view, items_view}
 use Rattle.serde_json.specs.declared.value.Value.{Value}
-use Rattle.nav_proto.specs.Edits.{data_list}
+use Rattle.json_values.specs.Lists.{data_list}
 
 -- the items of an array are those of its list
 pub data_list-items_view : (vs : List Value) → data_list (items_view vs) ≡ map view vs

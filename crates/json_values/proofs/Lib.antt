@@ -1,0 +1,3 @@
+mod Text
+mod Arrays
+mod Members

@@ -1,0 +1,15 @@
+//! Values of JSON: the value that bytes are, whole numbers in a range, and objects that have no
+//! member but those of a form.
+#![tactic(auto)]
+
+mod forms;
+mod lists;
+mod numbers;
+mod parsing;
+#[cfg(test)]
+mod tests;
+
+pub use forms::{Form, has_only, other_member};
+pub use lists::{into_items, items};
+pub use numbers::{number, u16_of, u32_of};
+pub use parsing::{JsonFault, parse};

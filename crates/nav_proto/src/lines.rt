@@ -1,0 +1,85 @@
+ghost use Rattle.std.specs.Prelude.{◌≡◌, ◌≢◌, IfOk, IfErr, Ok, Err, ok_or};
+ghost use Rattle.serde_json.specs.View.{view};
+ghost use Rattle.json_values.specs.Text.{json_of};
+ghost use Rattle.nav_proto.specs.Bounded.{IsBounded};
+ghost use Rattle.nav_proto.specs.Answers.{LineGives, Shows};
+ghost use Rattle.nav_proto.specs.Requests.{request_from};
+ghost use Rattle.nav_proto.specs.NodeLine.{node_of, node_from};
+
+use crate::members::Form;
+use crate::pieces::wrong;
+use crate::words::request;
+use crate::{ProtoFault, Request};
+use json_values::{JsonFault, has_only, parse, u32_of};
+use serde_json::Value;
+use std::alloc::Global;
+
+/// The request that the line is, or its first fault, as `docs/FORMATS.md` tells them.
+///
+/// `NoMemory` may come in place of any answer. The line is gone over once to make a value of it,
+/// which copies each text once; the documents of a commit are taken out of that value and not
+/// copied again.
+#[tactic(auto, using(crate::proofs::Causes::causes))]
+pub fn read_request(alloc: Global, line: &[u8]) -> Result<Request, ProtoFault>
+    ensures ok { IfOk result (λ request. request_from line.now ≡ Ok request) }
+    ensures err { IfErr result (λ e. e ≢ ProtoFault.NoMemory → request_from line.now ≡ Err e) }
+    ensures bounded { IfOk result IsBounded }
+{
+    read(alloc, line)
+}
+
+#[tactic(auto, unfolding(crate::specs::Requests::request_from))]
+fn read(alloc: Global, line: &[u8]) -> Result<Request, ProtoFault>
+    ensures gives { LineGives result (request_from line.now) }
+    ensures bounded { IfOk result IsBounded }
+{
+    let value = value_of(alloc, line)?;
+    request(alloc, value)
+}
+
+/// The node that the line of `once` asks for: `{"node":n}`, n a whole number of 32 bits, with no
+/// other member. `BadRequest` names `node` where the line is JSON of any other form.
+///
+/// `NoMemory` may come in place of any answer.
+#[tactic(auto, using(crate::proofs::Causes::causes))]
+pub fn read_node(alloc: Global, line: &[u8]) -> Result<u32, ProtoFault>
+    ensures ok { IfOk result (λ node. node_from line.now ≡ Ok node) }
+    ensures err { IfErr result (λ e. e ≢ ProtoFault.NoMemory → node_from line.now ≡ Err e) }
+{
+    node(alloc, line)
+}
+
+#[tactic(auto, using(crate::proofs::Named::named), unfolding(crate::specs::NodeLine::node_from))]
+fn node(alloc: Global, line: &[u8]) -> Result<u32, ProtoFault>
+    ensures { LineGives result (node_from line.now) }
+{
+    let value = value_of(alloc, line)?;
+    match node_of(&value) {
+        Some(node) => Ok(node),
+        None => Err(wrong(alloc, "node")),
+    }
+}
+
+// The node that the value asks for.
+#[tactic(auto, unfolding(crate::specs::NodeLine::node_of))]
+fn node_of(v: &Value) -> Option<u32>
+    ensures { result ≡ node_of (view v.now) }
+{
+    let node = u32_of(v.get("node")?)?;
+    if has_only(v, &Form::NodeLine) {
+        Some(node)
+    } else {
+        None
+    }
+}
+
+// The value of the bytes.
+fn value_of(alloc: Global, bytes: &[u8]) -> Result<Value, ProtoFault>
+    ensures { Shows view result (ok_or (json_of bytes.now) ProtoFault.BadJson) }
+{
+    match parse(alloc, bytes) {
+        Ok(value) => Ok(value),
+        Err(JsonFault::BadJson) => Err(ProtoFault::BadJson),
+        Err(JsonFault::NoMemory) => Err(ProtoFault::NoMemory),
+    }
+}
