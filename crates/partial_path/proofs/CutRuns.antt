@@ -55,7 +55,7 @@ all_checked files sources k g h =
 
 -- what has an image in a list
 
-image_of : {X Y : Type 0} (f : X → Y) (xs : List X) (y : Y) (k : ℕ) → k < length (map f xs) → get_or (map f xs) k y ≡ y → (x : X) × Contains xs x × (f x ≡ y)
+pub image_of : {X Y : Type 0} (f : X → Y) (xs : List X) (y : Y) (k : ℕ) → k < length (map f xs) → get_or (map f xs) k y ≡ y → (x : X) × Contains xs x × (f x ≡ y)
 image_of f [] y k lt is = absurd (omega (arith, lt))
 image_of f (x ∷ xs) y zero lt is = (x, (zero, omega arith, refl), is)
 image_of f (x ∷ xs) y (suc k) lt is =

@@ -27,3 +27,4 @@ pub mod Exported
 pub mod CutRuns
 pub mod HighJoints
 pub mod CutJoints
+pub mod OfferedStored

@@ -25,7 +25,7 @@ use Rattle.partial_path.specs.Apply.{apply, height}
 use Rattle.partial_path.specs.Moved.{moved_edge, moved_start, moved}
 use Rattle.partial_path.specs.FileNumbers.{StartIn}
 use Rattle.partial_path.specs.PathSets.{FileRules, IsRuleOf, IsPathSet}
-use Rattle.partial_path.specs.Cutting.{path_edges, LeadFrom, edge_count, heights, landings, at_cuts}
+use Rattle.partial_path.specs.Cutting.{IsStoredIn, path_edges, LeadFrom, edge_count, heights, landings, at_cuts}
 use Rattle.partial_path.specs.Sources.{IsSourceFile, graphs_of, is_offered, numbered, rules_offered, rules_offered_in}
 
 -- a closed and straight run
@@ -84,6 +84,12 @@ abbrev pub AppliedRulesAreOffered : Type 0
 AppliedRulesAreOffered =
     (files : List FileRules) (file : ℕ) (f : FileRules) (rule : Rule) (c : Config) → slice_get files file ≡ Some f → Contains f.rules rule
     → IsSome (apply (moved file rule) c) → Contains (rules_offered files (moved_start file rule.start) c.stacks.symbols) (file, rule)
+
+-- and what is offered at a start are stored paths that begin there
+abbrev pub OfferedRulesAreStored : Type 0
+OfferedRulesAreStored =
+    (files : List FileRules) (start : Start) (symbols : List SymbolItem) (p : ℕ × Rule) → Contains (rules_offered files start symbols) p
+    → IsStoredIn files p × (moved_start p.0 p.1.start ≡ start)
 
 -- at the root each file offers what it offers alone; and what is offered at another start, of one file, is what
 -- that file alone offers

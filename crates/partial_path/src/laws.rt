@@ -3,7 +3,7 @@ ghost use Rattle.partial_path.specs.declared.bounds.TheConstants.{MAX_RUNS};
 ghost use Rattle.partial_path.specs.declared.slots.TheConstants.{KEY_SIZE};
 ghost use Rattle.partial_path.specs.Limits.{max_runs};
 ghost use Rattle.partial_path.specs.Keys.{key_size};
-ghost use Rattle.partial_path.specs.Laws.{AppliedRulesAreOffered, AreOwnOffers, BeginningsAreCut, CountedRunsAreCut, CutPrefixesAreClosed, CutsAreUnique, CyclesAreCut, JoinedBounds, LandingsTell, MovedRulesAreRuns, MovedStartsAreStarts, NoEdgesNoWalks, PathsAreRuns};
+ghost use Rattle.partial_path.specs.Laws.{AppliedRulesAreOffered, AreOwnOffers, BeginningsAreCut, CountedRunsAreCut, CutPrefixesAreClosed, CutsAreUnique, CyclesAreCut, JoinedBounds, LandingsTell, MovedRulesAreRuns, MovedStartsAreStarts, NoEdgesNoWalks, OfferedRulesAreStored, PathsAreRuns};
 
 /// A law: where a counted run has been followed up to one of its cut edges, that prefix is a closed and
 /// straight run itself.
@@ -31,6 +31,11 @@ pub fn moved_paths_are_runs()
 /// configuration's symbols.
 pub fn applied_paths_are_offered()
     ensures { AppliedRulesAreOffered }
+{}
+
+/// A law: the paths that are offered at a start are stored ones, and begin there.
+pub fn offered_paths_are_stored()
+    ensures { OfferedRulesAreStored }
 {}
 
 /// A law: walks of a file start where walks of the list of files start, the start moved to the file's place.
