@@ -101,13 +101,22 @@ attaches files file g (Pop symbol definition) there h = tt
 attaches files file g (PopScoped symbol definition) there h = tt
 attaches files file g Drops there h = tt
 
+-- what a node of a checked graph attaches is an exported scope there
+pub node_scoped : (files : List Graph) (file n : ℕ) (node : Node) → AreChecked files → node_of files file n ≡ Some node
+    → (g : Graph) × (slice_get files file ≡ Some g) × IsTrue (has_scope g.nodes node.kind)
+node_scoped files file n node checked found =
+    option_and_then_some (λ (g : Graph). slice_get g.nodes n) (slice_get files file) node found
+    (λ g there is. (
+      g,
+      there,
+      subst (λ (x : Node). IsTrue (has_scope g.nodes x.kind)) (get_or_from_slice_get g.nodes n node node is)
+          ((graph_fault-none g.nodes g.edges (checked file g there)).scopes n node (slice_get_within g.nodes n node is)),
+    ))
+
 -- a node of a checked graph attaches an exported scope alone
 node_attaches : (files : List Graph) (file n : ℕ) (node : Node) → AreChecked files → node_of files file n ≡ Some node → AttachesCut files file node.kind
 node_attaches files file n node checked found =
-    option_and_then_some (λ (g : Graph). slice_get g.nodes n) (slice_get files file) node found
-    (λ g there is. attaches files file g node.kind there
-    (subst (λ (x : Node). IsTrue (has_scope g.nodes x.kind)) (get_or_from_slice_get g.nodes n node node is)
-    ((graph_fault-none g.nodes g.edges (checked file g there)).scopes n node (slice_get_within g.nodes n node is))))
+    let s = node_scoped files file n node checked found in attaches files file s.0 node.kind s.1 s.2
 
 jump_cut : (files : List Graph) (symbols : List SymbolItem) (scopes : List NodeAt) (next : Config) → AllByRecursion (IsCutItem files) symbols → AllByRecursion (IsCutNode files) scopes
     → enter_jump symbols scopes ≡ Some next → HasCutScopes files next.stacks × (is_cut_spot_of files next.spot ≡ true)

@@ -27,4 +27,5 @@ pub mod Exported
 pub mod CutRuns
 pub mod HighJoints
 pub mod CutJoints
+pub mod Returned
 pub mod OfferedStored

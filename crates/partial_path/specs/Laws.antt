@@ -1,13 +1,15 @@
 -- Laws of the definitions: what cut edges and counted runs are for, which path set is known at once, what a
 -- file's rules are in a list of files, and which of them a look-up offers.
-use Rattle.std.specs.Prelude.{◌≡◌, ◌≢◌, ◌≤◌, ◌↔◌, ℕ, List, [], ◌∷◌, ◌++◌, map, filter, Some, slice_get, All, IsTrue, IsSome, Contains, ◌⊎◌}
+use Rattle.std.specs.Prelude.{◌≡◌, ◌≢◌, ◌≤◌, ◌↔◌, ℕ, List, [], ◌∷◌, ◌++◌, map, filter, Some, slice_get, All, IsTrue, IsSome, Contains, ◌⊎◌, ⊤, length}
 use Rattle.std.specs.List.{AllByRecursion, list_any}
 use Rattle.graph_nodes.specs.declared.node.Edge.{Edge}
 use Rattle.graph_nodes.specs.declared.node.Place.{Place}
 use Rattle.graph_nodes.specs.Graph.{Graph}
 use Rattle.graph_nodes.specs.Cut.{is_cut}
+use Rattle.graph_nodes.specs.Whole.{node_of}
 use Rattle.partial_path.specs.declared.config.Config.{Config}
 use Rattle.partial_path.specs.declared.config.EdgeAt.{EdgeAt}
+use Rattle.partial_path.specs.declared.config.Spot.{Spot}
 use Rattle.partial_path.specs.declared.config.Spot.TheVariants as spot
 use Rattle.partial_path.specs.declared.rule.Start.{Start}
 use Rattle.partial_path.specs.declared.rule.Start.TheVariants.{Before, After}
@@ -166,3 +168,26 @@ abbrev pub LandingsTell : Type 0
 LandingsTell =
     (files : List FileRules) (r : NodeAt) (c end : Config) (paths : List (ℕ × Rule)) → All IsSourceFile files → start (graphs_of files) r ≡ Some c
     → paths ≢ [] → LeadFrom files r paths end → IsToldByLandings files r c end paths
+
+-- a spot of the files: the root, or one of their nodes
+abbrev pub IsSpotOf : List Graph → Spot → Type 0
+IsSpotOf files spot.Root = ⊤
+IsSpotOf files (spot.At node) = IsSome (node_of files node.file node.node)
+
+-- a run from a reference ends at such a spot
+abbrev pub RunsEndInFiles : Type 0
+RunsEndInFiles =
+    (files : List FileRules) (r : NodeAt) (c end : Config) (es : List EdgeAt) → All IsSourceFile files → start (graphs_of files) r ≡ Some c
+    → es ≢ [] → run (graphs_of files) c es ≡ Some end → IsSpotOf (graphs_of files) end.spot
+
+-- the configuration is at the node, with one symbol and no scopes
+pub record IsAtStart (r : NodeAt) (c : Config) : Type 0 where
+  pub spot : c.spot ≡ spot.At r
+  pub one : length c.stacks.symbols ≡ 1
+  pub none : c.stacks.scopes ≡ []
+
+-- a run comes back to its start, a reference, exactly where it comes back to that node with one symbol and no scopes
+abbrev pub ReturnsAreStarts : Type 0
+ReturnsAreStarts =
+    (files : List FileRules) (r : NodeAt) (c end : Config) (es : List EdgeAt) → All IsSourceFile files → start (graphs_of files) r ≡ Some c
+    → es ≢ [] → run (graphs_of files) c es ≡ Some end → (end ≡ c) ↔ IsAtStart r end

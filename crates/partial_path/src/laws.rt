@@ -3,7 +3,7 @@ ghost use Rattle.partial_path.specs.declared.bounds.TheConstants.{MAX_RUNS};
 ghost use Rattle.partial_path.specs.declared.slots.TheConstants.{KEY_SIZE};
 ghost use Rattle.partial_path.specs.Limits.{max_runs};
 ghost use Rattle.partial_path.specs.Keys.{key_size};
-ghost use Rattle.partial_path.specs.Laws.{AppliedRulesAreOffered, AreOwnOffers, BeginningsAreCut, CountedRunsAreCut, CutPrefixesAreClosed, CutsAreUnique, CyclesAreCut, JoinedBounds, LandingsTell, MovedRulesAreRuns, MovedStartsAreStarts, NoEdgesNoWalks, OfferedRulesAreStored, PathsAreRuns};
+ghost use Rattle.partial_path.specs.Laws.{AppliedRulesAreOffered, AreOwnOffers, BeginningsAreCut, CountedRunsAreCut, CutPrefixesAreClosed, CutsAreUnique, CyclesAreCut, JoinedBounds, LandingsTell, MovedRulesAreRuns, MovedStartsAreStarts, NoEdgesNoWalks, OfferedRulesAreStored, PathsAreRuns, ReturnsAreStarts, RunsEndInFiles};
 
 /// A law: where a counted run has been followed up to one of its cut edges, that prefix is a closed and
 /// straight run itself.
@@ -82,6 +82,17 @@ pub fn joined_paths_tell_bounds()
 /// the paths land.
 pub fn landings_tell()
     ensures { LandingsTell }
+{}
+
+/// A law: a run from a reference ends at the root or at a node of the files.
+pub fn runs_end_in_files()
+    ensures { RunsEndInFiles }
+{}
+
+/// A law: a run from a reference is back at its start exactly where it is at the reference with one symbol and no
+/// scopes, so that the start itself needn't be known to tell.
+pub fn returns_are_starts()
+    ensures { ReturnsAreStarts }
 {}
 
 /// A law: the limits of the program are those of the definitions.

@@ -30,7 +30,8 @@ pub use laws::{
     applied_paths_are_offered, beginnings_are_cut, counted_runs_are_cut, cut_prefixes_are_closed,
     cuts_are_unique, cycles_are_cut, files_offer_their_own, joined_paths_are_runs,
     joined_paths_tell_bounds, landings_tell, limits_are_as_stated, moved_paths_are_runs,
-    moved_starts_are_starts, no_edges_no_walks, offered_paths_are_stored,
+    moved_starts_are_starts, no_edges_no_walks, offered_paths_are_stored, returns_are_starts,
+    runs_end_in_files,
 };
 pub use moving::file_zero_moves;
 pub use offers::FileOffers;

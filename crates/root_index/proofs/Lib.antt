@@ -1,0 +1,7 @@
+mod Amended
+mod Gathered
+mod Halved
+mod KeyOrders
+mod Runs
+mod Seen
+mod Unique

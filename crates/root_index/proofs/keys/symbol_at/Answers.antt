@@ -1,0 +1,12 @@
+use Rattle.std.proofs.Common.{sym, inl, inr, arith}
+use Rattle.root_index.proofs.KeyOrders.{front_text, no_text, turned_back, turned_length}
+use Rattle.root_index.proofs.keys.symbol_at.Goals as goal
+
+pub returns-then-i-items : goal.returns-then-i-items
+returns-then-i-items c =
+    sym (front_text c.reversed-items.result.now c.args.symbols.now c.args.count c.args.i c.index-items-items.result (turned_back _ _ c.reversed-items.ensures) c.if-i-count.true c.if-i-items.true)
+
+pub returns-else-i-count : goal.returns-else-i-count
+returns-else-i-count c =
+    let len = turned_length c.reversed-items.result.now c.args.symbols.now c.reversed-items.ensures in
+    sym (no_text c.args.symbols.now c.args.count c.args.i (elim c.else-i-count.either [ inl few ↦ inr (λ h. omega (arith, few.1, len, h)) | inr none ↦ inl (λ h. omega (arith, none, h)) ]))

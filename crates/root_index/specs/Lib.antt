@@ -1,0 +1,4 @@
+pub mod Amended
+pub mod Inside
+pub mod Offers
+pub mod Roots

@@ -1,0 +1,15 @@
+//! The index of a version's paths from the root: which of them a user may see and a stack can meet.
+#![tactic(auto)]
+
+mod file_handle;
+mod index;
+mod keys;
+mod laws;
+mod offers;
+mod slot;
+#[cfg(test)]
+mod tests;
+
+pub use index::RootIndex;
+pub use laws::rows_have_one_index;
+pub use offers::RootOffers;

@@ -1,0 +1,125 @@
+//! Taking from an index what it offers to a stack of symbols, path by path.
+ghost use Rattle.std.specs.Prelude.{◌≡◌, ◌≤◌, ◌<◌, ◌+◌, ◌-◌, [], ◌∷◌, length, take, drop, filter, slice_get, option_copied, MatchOption, IfSome};
+ghost use Rattle.std.specs.List.{prefix_len};
+ghost use Rattle.std.specs.List.Sorted.{IsPartitionedBy};
+ghost use Rattle.std.specs.Ordering.{nat_cmp, is_lt, is_eq};
+ghost use Rattle.partial_path.specs.Keys.{key_cmp, key_size, texts};
+ghost use Rattle.root_index.specs.Roots.{AreByRank, root_key};
+ghost use Rattle.root_index.specs.Offers.{asks, next_paths, paths_left, offers_at};
+ghost use Rattle.root_index.specs.Inside.{key_order, is_before_key, is_at_key};
+
+use crate::keys::key_side;
+use crate::slot::Slot;
+use partial_path::KEY_SIZE;
+use stacks_vars::SymbolStack;
+use std::cmp::Ordering;
+
+/// Where a look-up in an index stands.
+#[derive(Clone, Copy, Debug)]
+pub struct RootOffers {
+    /// The place of the path that comes next, and the one at which the present run of equal keys ends.
+    pub place: usize,
+    pub end: usize,
+    /// Behind that run come the paths that ask for so many symbols or more.
+    pub asked: usize,
+}
+
+/// The path that comes next, whoever may see it, and where the look-up stands after it; None where there is
+/// no more. The paths are in order.
+pub(crate) fn next_slot<'a>(
+    slots: &'a [Slot],
+    symbols: &SymbolStack,
+    at: RootOffers,
+) -> Option<(&'a Slot, RootOffers)>
+    requires { AreByRank slots.now }
+    ensures { MatchOption result (paths_left at symbols.now slots.now ≡ []) (λ found. paths_left at symbols.now slots.now ≡ found.0.now ∷ paths_left found.1 symbols.now slots.now) }
+{
+    match next_here(slots, at) {
+        Some(slot) => {
+            let after = RootOffers {
+                place: at.place + 1,
+                end: at.end,
+                asked: at.asked,
+            };
+            Some((slot, after))
+        }
+        None => next_run(slots, symbols, at),
+    }
+}
+
+/// The next path of the present run; None where that is at its end.
+fn next_here(slots: &[Slot], at: RootOffers) -> Option<&Slot>
+    ensures value { option_copied result ≡ slice_get (next_paths at slots.now) 0 }
+    ensures inside { IfSome result (λ _. at.place < at.end) }
+{
+    if at.place < at.end {
+        slots.get(at.place)
+    } else {
+        None
+    }
+}
+
+/// The first path of the runs to come, and where the look-up stands after it; None where they have none.
+fn next_run<'a>(
+    slots: &'a [Slot],
+    symbols: &SymbolStack,
+    at: RootOffers,
+) -> Option<(&'a Slot, RootOffers)>
+    requires { AreByRank slots.now }
+    ensures { MatchOption result (filter (asks symbols.now at.asked) slots.now ≡ []) (λ found. filter (asks symbols.now at.asked) slots.now ≡ found.0.now ∷ paths_left found.1 symbols.now slots.now) }
+{
+    let most = KEY_SIZE.min(symbols.len());
+    for asked in at.asked..most + 1 {
+        let (place, end) = run_asking(slots, symbols, asked);
+        if place < end {
+            let after = RootOffers {
+                place: place + 1,
+                end,
+                asked: asked + 1,
+            };
+            return Some((&slots[place], after));
+        }
+    }
+    None
+}
+
+/// Where the paths stand whose key is made of the texts of the stack's first symbols, so many of them: from
+/// which place on, and before which. They are found by halving.
+fn run_asking(slots: &[Slot], symbols: &SymbolStack, count: usize) -> (usize, usize)
+    requires order { AreByRank slots.now }
+    requires count { count ≤ key_size }
+    ensures run { take (result.1 - result.0) (drop result.0 slots.now) ≡ filter (is_at_key (take count (texts symbols.now))) slots.now }
+    ensures bounds { (result.0 ≤ result.1) × (result.1 ≤ length slots.now) }
+{
+    let low = count_before(slots, symbols, count);
+    let many = count_at(&slots[low..], symbols, count);
+    (low, low + many)
+}
+
+/// How many of the paths, which are in order, have a lower key.
+fn count_before(slots: &[Slot], symbols: &SymbolStack, count: usize) -> usize
+    requires order { AreByRank slots.now }
+    requires count { count ≤ key_size }
+    ensures value { result ≡ prefix_len (is_before_key (take count (texts symbols.now))) slots.now }
+    ensures bound { result ≤ length slots.now }
+{
+    slots.partition_point(|slot| order_of(slot, symbols, count).is_lt())
+}
+
+/// How many of the first paths have that key, of paths of which none has it after one that doesn't.
+fn count_at(slots: &[Slot], symbols: &SymbolStack, count: usize) -> usize
+    requires parted { IsPartitionedBy (is_at_key (take count (texts symbols.now))) slots.now }
+    requires count { count ≤ key_size }
+    ensures value { result ≡ prefix_len (is_at_key (take count (texts symbols.now))) slots.now }
+    ensures bound { result ≤ length slots.now }
+{
+    slots.partition_point(|slot| order_of(slot, symbols, count).is_eq())
+}
+
+/// How the path's key stands to the texts of the stack's first symbols, so many of them.
+fn order_of(slot: &Slot, symbols: &SymbolStack, count: usize) -> Ordering
+    requires { count ≤ key_size }
+    ensures { result ≡ key_order (take count (texts symbols.now)) slot.now }
+{
+    key_side(slot.rule(), symbols, count)
+}

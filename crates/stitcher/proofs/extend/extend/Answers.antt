@@ -1,0 +1,42 @@
+-- Each path of the look-up is tried, one after the other.
+use Rattle.std.proofs.Common.{ℕ, List, [], ◌∷◌, ◌++◌, refl, sym, ap, ◌∙◌, subst, append_assoc, append-nil, IsPermutation}
+use Rattle.partial_path.specs.Rules.{Rule}
+use Rattle.partial_path.specs.declared.rule.Start.{Start}
+use Rattle.partial_path.specs.Sources.{rules_offered}
+use Rattle.stitcher.specs.Joins.{joined}
+use Rattle.stitcher.specs.Opens.{opens_of}
+use Rattle.stitcher.specs.Trail.{asked, paths_of}
+use Rattle.stitcher.proofs.Tried.{one_offered, tried_more}
+use Rattle.stitcher.proofs.Within.{none_noted}
+use Rattle.stitcher.proofs.extend.extend.Goals as goal
+
+pub loop-found-init : goal.loop-found-init
+loop-found-init g c = record {
+  few = c.requires.few;
+  tried = (
+    [],
+    refl,
+    record {
+      noted = none_noted (asked (g.P.PathSource.files c.args.source.now) c.args.query) c.args.tally.now;
+      opens = sym (append-nil (opens_of c.args.trail.now c.args.work.now.items));
+    },
+  );
+}
+
+pub join-requires-clause-offered : goal.join-requires-clause-offered
+join-requires-clause-offered g c =
+    one_offered (asked (g.P.PathSource.files c.args.source.now) c.args.query) c.args.trail.now c.args.at.now c.loop-found.invariant.tried.0 _ _ (c.in-Some.found.0, c.in-Some.found.1.now)
+    (ap (λ (xs : List (ℕ × Rule)). c.loop-found.invariant.tried.0 ++ xs) (sym c.in-Some.ensures) ∙ c.loop-found.invariant.tried.1)
+    (subst (λ (s : Start). IsPermutation (rules_offered (g.P.PathSource.files c.args.source.now) s c.args.at.now.stacks.symbols) (g.P.PathSource.offered c.args.source.now c.args.at.now.stacks.symbols c.offers-next.result)) c.requires.begin c.offers-next.ensures.exact)
+
+pub loop-found-preserved : goal.loop-found-preserved
+loop-found-preserved g c = record {
+  few = c.in_ok-join.ensures.few;
+  tried = (
+    c.loop-found.invariant.tried.0 ++ (c.in-Some.found.0, c.in-Some.found.1.now) ∷ [],
+    (append_assoc c.loop-found.invariant.tried.0 ((c.in-Some.found.0, c.in-Some.found.1.now) ∷ []) (g.P.PathSource.offered c.args.source.now c.args.at.now.stacks.symbols c.in-Some.found.2)
+        ∙ (ap (λ (xs : List (ℕ × Rule)). c.loop-found.invariant.tried.0 ++ xs) (sym c.in-Some.ensures) ∙ c.loop-found.invariant.tried.1)),
+    tried_more (asked (g.P.PathSource.files c.args.source.now) c.args.query) c.args.trail.now (joined (paths_of c.args.trail.now) c.args.at.now) c.loop-found.invariant.tried.0 (c.in-Some.found.0, c.in-Some.found.1.now) _ _ _ _ _ _
+        c.loop-found.invariant.tried.2 c.in_ok-join.ensures.noted c.in_ok-join.ensures.opens,
+  );
+}

@@ -1,0 +1,39 @@
+-- What the tests before the path is applied tell.
+use Rattle.std.proofs.Common.{◌≡◌, ◌∙◌, sym, subst, Some, Option, IfSome}
+use Rattle.partial_path.specs.declared.config.Config.{Config}
+use Rattle.partial_path.specs.Apply.{apply}
+use Rattle.partial_path.specs.Moved.{moved, moved_start}
+use Rattle.partial_path.specs.Rules.{start_spot}
+use Rattle.partial_path.specs.Same.{spot_eq}
+use Rattle.stitcher.specs.Opens.{opens_of}
+use Rattle.stitcher.specs.Trail.{asked}
+use Rattle.stitcher.proofs.Within.{met_asks, stored_moves, within_is, past_noted, past_opens}
+use Rattle.stitcher.proofs.join.join.Goals as goal
+
+pub is_within-bounded-requires-clause-met : goal.is_within-bounded-requires-clause-met
+is_within-bounded-requires-clause-met g c =
+    met_asks c.args.file c.args.path.now.pre c.args.at.now.stacks (spot_eq (start_spot (moved_start c.args.file c.args.path.now.start)) c.args.at.now.spot) (sym c.meets.ensures ∙ c.if-not-meets.false)
+
+pub returns-then-not-bounded-clause-noted : goal.returns-then-not-bounded-clause-noted
+returns-then-not-bounded-clause-noted g c =
+    past_noted (asked (g.P.PathSource.files c.args.source.now) c.args.query) c.args.trail.now c.args.at.now (c.args.file, c.args.path.now) c.args.tally.now c.if-tally.true
+    (λ next applies.
+    sym (within_is (asked (g.P.PathSource.files c.args.source.now) c.args.query) c.args.trail.now c.args.at.now next (c.args.file, c.args.path.now) c.args.edges c.is_within-bounded.result c.requires.here applies
+    c.edges-more.ensures.rule c.requires.edges c.requires.low (c.is_within-bounded.ensures c.args.file)) ∙ c.if-not-bounded.true)
+
+pub returns-then-not-bounded-clause-opens : goal.returns-then-not-bounded-clause-opens
+returns-then-not-bounded-clause-opens g c =
+    past_opens (asked (g.P.PathSource.files c.args.source.now) c.args.query) c.args.trail.now c.args.at.now (c.args.file, c.args.path.now) (opens_of c.args.trail.now c.args.work.now.items)
+    (λ next applies.
+    sym (within_is (asked (g.P.PathSource.files c.args.source.now) c.args.query) c.args.trail.now c.args.at.now next (c.args.file, c.args.path.now) c.args.edges c.is_within-bounded.result c.requires.here applies
+    c.edges-more.ensures.rule c.requires.edges c.requires.low (c.is_within-bounded.ensures c.args.file)) ∙ c.if-not-bounded.true)
+
+pub note-requires-clause-bounded : goal.note-requires-clause-bounded
+note-requires-clause-bounded g c =
+    within_is (asked (g.P.PathSource.files c.args.source.now) c.args.query) c.args.trail.now c.args.at.now c.in-Some.next (c.args.file, c.args.path.now) c.args.edges c.is_within-bounded.result c.requires.here
+    (subst (λ (o : Option Config). IfSome o (λ (next : Config). apply (moved c.args.file c.args.path.now) c.args.at.now ≡ Some next)) c.in-Some.is c.in_ok-next.ensures.applies)
+    c.edges-more.ensures.rule c.requires.edges c.requires.low (c.is_within-bounded.ensures c.args.file)
+
+pub note-requires-clause-level : goal.note-requires-clause-level
+note-requires-clause-level g c =
+    stored_moves c.file_zero_moves.ensures (asked (g.P.PathSource.files c.args.source.now) c.args.query) c.args.trail.now c.args.at.now (c.args.file, c.args.path.now) c.requires.sources c.ranges.file.fits c.requires.offered

@@ -1,0 +1,56 @@
+ghost use Rattle.std.specs.Prelude.{◌≡◌};
+ghost use Rattle.stitcher.specs.declared.found.StitchFault.TheVariants.{NoMemory};
+
+use partial_path::EdgeAt;
+use stacks_vars::NodeAt;
+use std::alloc::{AllocError, AllocFailed};
+use std::fmt;
+
+/// A complete run: its edges, the first first, and the definition at which it ends.
+#[derive(Debug, Drop)]
+pub struct EdgePath {
+    pub edges: Vec<EdgeAt>,
+    pub end: NodeAt,
+}
+
+/// The bounded complete runs of a reference, each once, and whether a counted run was left out for its length or
+/// depth.
+#[derive(Debug, Drop)]
+pub struct Stitched {
+    pub complete: Vec<EdgePath>,
+    pub limit: bool,
+}
+
+/// Why a reference has no runs told.
+#[derive(Clone, Copy, Debug, PartialEq, Eq)]
+pub enum StitchFault {
+    /// More than 8,192 bounded counted runs start at the reference.
+    Crowded,
+    /// Memory was refused.
+    NoMemory,
+}
+
+impl fmt::Display for StitchFault {
+    fn fmt<W: fmt::Write>(&self, f: &mut fmt::Formatter<W>) -> fmt::Result {
+        f.write_str(match self {
+            StitchFault::Crowded => "the reference has too many runs",
+            StitchFault::NoMemory => "memory was refused",
+        })
+    }
+}
+
+impl From<AllocError> for StitchFault {
+    ghost from_gives = { λ _ fault. fault ≡ NoMemory };
+
+    fn from(_: AllocError) -> StitchFault {
+        StitchFault::NoMemory
+    }
+}
+
+impl<T: Drop> From<AllocFailed<T>> for StitchFault {
+    ghost from_gives = { λ _ fault. fault ≡ NoMemory };
+
+    fn from(_: AllocFailed<T>) -> StitchFault {
+        StitchFault::NoMemory
+    }
+}

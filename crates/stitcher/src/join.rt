@@ -1,0 +1,129 @@
+//! Whether a stored path is joined, and where it lands.
+ghost use Rattle.std.specs.Prelude.{◌≡◌, ◌↔◌, ◌⊎◌, [], ◌∷◌, map, All, IfOk, IfSome, OnOk, IsTrue, Some, ◌≤◌, ◌++◌, filter, length};
+ghost use Rattle.std.specs.Option.{option_map_or};
+ghost use Rattle.std.specs.List.{list_any};
+ghost use Rattle.partial_path.specs.Same.{config_eq};
+ghost use Rattle.partial_path.specs.Apply.{apply};
+ghost use Rattle.partial_path.specs.Moved.{moved};
+ghost use Rattle.partial_path.specs.Limits.{max_runs};
+ghost use Rattle.partial_path.specs.Cutting.{edge_count, heights};
+ghost use Rattle.partial_path.specs.Step.{start};
+ghost use Rattle.partial_path.specs.Walks.{is_cut_spot_of};
+ghost use Rattle.partial_path.specs.Sources.{IsSourceFile, graphs_of};
+ghost use Rattle.partial_path.specs.Laws.{IsSpotOf, IsAtStart};
+ghost use Rattle.stitcher.specs.Joins.{joined, with_path, origin, joined_by, is_bounded_counted, goes_on};
+ghost use Rattle.stitcher.specs.Opens.{opens_of, IsNoted};
+ghost use Rattle.stitcher.specs.Trail.{Moves, paths_of, landed_at, asked, IsHere, IsOffered};
+
+use crate::found::StitchFault;
+use crate::landing::{is_at_cut, is_within};
+use crate::note::note;
+use crate::open::Open;
+use crate::query::Query;
+use crate::tally::Tally;
+use crate::trail::{Level, has_landed, is_back};
+use partial_path::{
+    Config, PartialPath, PathSource, file_zero_moves, joined_paths_are_runs, returns_are_starts,
+    runs_end_in_files,
+};
+use stacks_vars::NodeAt;
+use std::alloc::{AllocError, Global};
+
+/// Whether a run that lands there, at a cut, is where it was before: at its start, or where one of its paths landed.
+fn comes_back<P: PathSource>(source: &P, node: NodeAt, trail: &[Level], next: &Config) -> bool
+    requires { IsSpotOf (graphs_of (P.files source.now)) next.now.spot }
+    ensures { IsTrue result ↔ (IsTrue (is_cut_spot_of (graphs_of (P.files source.now)) next.now.spot) × (IsAtStart node next.now ⊎ IsTrue (list_any (config_eq next.now) (map landed_at trail.now)))) }
+{
+    is_at_cut(source, next.spot) && (is_back(node, next) || has_landed(trail, next))
+}
+
+/// Where the path lands that is joined to the trail, which landed at `at`; None where it doesn't apply, or the run
+/// wouldn't be straight.
+pub fn landing_of<P: PathSource>(
+    alloc: Global,
+    source: &P,
+    query: Query,
+    trail: &[Level],
+    at: &Config,
+    file: u32,
+    path: &PartialPath,
+) -> Result<Option<Config>, AllocError>
+    requires sources { All IsSourceFile (P.files source.now) }
+    requires begins { start (graphs_of (P.files source.now)) query.node ≡ Some (asked (P.files source.now) query).start }
+    requires here { IsHere (asked (P.files source.now) query) trail.now at.now }
+    requires offered { IsOffered (asked (P.files source.now) query) trail.now at.now (file, path.now) }
+    ensures applies { IfOk result (λ o. IfSome o (λ next. apply (moved file path.now) at.now ≡ Some next)) }
+    ensures spot { IfOk result (λ o. IfSome o (λ next. IsSpotOf (graphs_of (P.files source.now)) next.spot)) }
+    ensures joined { IfOk result (λ o. joined_by (asked (P.files source.now) query) (joined (paths_of trail.now) at.now) (file, path.now) ≡ option_map_or (λ next. joined (with_path (paths_of trail.now) (file, path.now)) next ∷ []) o []) }
+{
+    file_zero_moves();
+    joined_paths_are_runs();
+    runs_end_in_files();
+    returns_are_starts();
+    let Some(next) = path.apply_to(alloc, file, at.copy(alloc)?)? else {
+        return Ok(None);
+    };
+    if comes_back(source, query.node, trail, &next) {
+        return Ok(None);
+    }
+    Ok(Some(next))
+}
+
+/// Joins a stored path that is offered to the trail, which landed at `at` and has so many edges, and notes what comes
+/// of it. Past the bounds it is looked at only until one counted run past them is found.
+pub fn join<'a, P: PathSource>(
+    alloc: Global,
+    source: &P,
+    query: Query,
+    trail: &[Level],
+    at: &Config,
+    edges: usize,
+    file: u32,
+    path: &'a PartialPath,
+    work: &mut Vec<Open<'a>>,
+    tally: &mut Tally,
+) -> Result<(), StitchFault>
+    requires sources { All IsSourceFile (P.files source.now) }
+    requires begins { start (graphs_of (P.files source.now)) query.node ≡ Some (asked (P.files source.now) query).start }
+    requires here { IsHere (asked (P.files source.now) query) trail.now at.now }
+    requires offered { IsOffered (asked (P.files source.now) query) trail.now at.now (file, path.now) }
+    requires edges { edges ≡ edge_count (paths_of trail.now) }
+    requires few_edges { edges ≤ query.bounds.edges }
+    requires low { heights (origin (asked (P.files source.now) query)) (paths_of trail.now) ≤ query.bounds.depth }
+    requires trail { All (λ l. Moves l.file l.path.now) trail.now }
+    requires few { tally.old.counted ≤ max_runs }
+    ensures noted { OnOk result (IsNoted (asked (P.files source.now) query) (joined_by (asked (P.files source.now) query) (joined (paths_of trail.now) at.now) (file, path.now)) tally.old tally.new) }
+    ensures opens { OnOk result (opens_of trail.now work.new.items ≡ opens_of trail.now work.old.items ++ filter (goes_on (asked (P.files source.now) query)) (joined_by (asked (P.files source.now) query) (joined (paths_of trail.now) at.now) (file, path.now))) }
+    ensures few { OnOk result (tally.new.counted ≤ max_runs) }
+    ensures full { result ≡ Err StitchFault.Crowded → tally.old.counted ≡ max_runs }
+    ensures crowded { result ≡ Err StitchFault.Crowded → length (filter (is_bounded_counted (asked (P.files source.now) query)) (joined_by (asked (P.files source.now) query) (joined (paths_of trail.now) at.now) (file, path.now))) ≡ 1 }
+{
+    file_zero_moves();
+    let more = path.edges().len();
+    if !path.meets(file, at) {
+        return Ok(());
+    }
+    let bounded = is_within(query.bounds, edges, path, at);
+    if tally.limit && !bounded {
+        return Ok(());
+    }
+    let Some(next) = landing_of(alloc, source, query, trail, at, file, path)? else {
+        return Ok(());
+    };
+    let level = Level {
+        file,
+        path,
+        at: next,
+    };
+    note(
+        alloc,
+        source,
+        query,
+        trail,
+        edges + more,
+        bounded,
+        level,
+        work,
+        tally,
+    )
+}

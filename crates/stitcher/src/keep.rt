@@ -1,0 +1,46 @@
+ghost use Rattle.std.specs.Prelude.{◌≡◌, ◌++◌, All, IfOk, OnOk, true};
+ghost use Rattle.partial_path.specs.declared.config.Spot.TheVariants.{Root};
+ghost use Rattle.partial_path.specs.Cutting.{path_edges};
+ghost use Rattle.stitcher.specs.Joins.{with_path};
+ghost use Rattle.stitcher.specs.Opens.{kept_edges, those};
+ghost use Rattle.stitcher.specs.Trail.{Moves, paths_of, path_of};
+
+use crate::found::EdgePath;
+use crate::trail::{Level, edges_of, push_edges};
+use partial_path::{EdgeAt, Spot};
+use std::alloc::{AllocError, Global};
+
+/// The edges of the trail and of one path more.
+fn edges_with(alloc: Global, trail: &[Level], level: &Level) -> Result<Vec<EdgeAt>, AllocError>
+    requires trail { All (λ l. Moves l.file l.path.now) trail.now }
+    requires level { Moves level.now.file level.now.path.now }
+    ensures { IfOk result (λ edges. edges.items ≡ path_edges (with_path (paths_of trail.now) (path_of level.now))) }
+{
+    let mut edges = edges_of(alloc, trail)?;
+    push_edges(&mut edges, level.file, level.path)?;
+    Ok(edges)
+}
+
+/// Keeps the run of the trail and the level, where it is complete: its edges, and the node where it ends.
+pub fn keep_if(
+    alloc: Global,
+    complete: &mut Vec<EdgePath>,
+    is_complete: bool,
+    trail: &[Level],
+    level: &Level,
+) -> Result<(), AllocError>
+    requires trail { All (λ l. Moves l.file l.path.now) trail.now }
+    requires level { Moves level.now.file level.now.path.now }
+    requires node { is_complete ≡ true → level.now.at.spot ≡ Root → ⊥ }
+    ensures { OnOk result (kept_edges complete.new.items ≡ kept_edges complete.old.items ++ those is_complete (path_edges (with_path (paths_of trail.now) (path_of level.now)))) }
+{
+    if !is_complete {
+        return Ok(());
+    }
+    let Spot::At(end) = level.at.spot else {
+        return Ok(());
+    };
+    let edges = edges_with(alloc, trail, level)?;
+    complete.push(EdgePath { edges, end })?;
+    Ok(())
+}

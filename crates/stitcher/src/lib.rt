@@ -1,0 +1,17 @@
+//! Stitching: the runs of a reference over the whole graph of a list of files, found by joining stored paths.
+#![tactic(auto)]
+
+mod extend;
+mod found;
+mod join;
+mod keep;
+mod landing;
+mod laws;
+mod note;
+mod open;
+mod query;
+mod tally;
+mod trail;
+
+pub use found::{EdgePath, StitchFault, Stitched};
+pub use laws::joined_paths_tell;

@@ -1,0 +1,40 @@
+ghost use Rattle.std.specs.Prelude.{◌≡◌, ◌+◌, ◌++◌, [], ◌∷◌, length, OnOk, if◌then◌else◌};
+ghost use Rattle.stitcher.specs.Joins.{joined, with_path};
+ghost use Rattle.stitcher.specs.Opens.{opens_of, those};
+ghost use Rattle.stitcher.specs.Trail.{paths_of, path_of};
+
+use crate::trail::Level;
+use std::alloc::AllocError;
+
+/// Joined paths that are still to be gone on from.
+#[derive(Drop)]
+pub struct Open<'a> {
+    /// How many levels of the trail come before its last path.
+    pub depth: usize,
+    /// How many edges its paths have together.
+    pub edges: usize,
+    /// Its last path, and where that landed.
+    pub level: Level<'a>,
+}
+
+/// Adds the trail with the level to the open ones, where more paths are joined to it.
+pub fn push_if<'a>(
+    work: &mut Vec<Open<'a>>,
+    goes_on: bool,
+    trail: &[Level],
+    edges: usize,
+    level: Level<'a>,
+) -> Result<(), AllocError>
+    ensures { OnOk result (opens_of trail.now work.new.items ≡ opens_of trail.now work.old.items ++ those goes_on (joined (with_path (paths_of trail.now) (path_of level.entry)) level.entry.at)) }
+{
+    if !goes_on {
+        return Ok(());
+    }
+    let depth = trail.len();
+    work.push(Open {
+        depth,
+        edges,
+        level,
+    })?;
+    Ok(())
+}
