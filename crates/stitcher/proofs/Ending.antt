@@ -9,12 +9,11 @@ use Rattle.partial_path.specs.Runs.{IsApart}
 use Rattle.partial_path.specs.Counted.{IsBoundedComplete, IsCrowded, HasLimit}
 use Rattle.partial_path.specs.Sources.{IsSourceFile, graphs_of}
 use Rattle.stitcher.specs.Joins.{Asked, Joined, none_joined, met, is_bounded_complete, is_bounded_counted, is_past_bounds, complete_met, counted_met}
-use Rattle.stitcher.specs.Laws.{joined_edges}
+use Rattle.stitcher.specs.Laws.{joined_edges, CutLaws}
 use Rattle.stitcher.proofs.Members.{IsIn, IsIn-map, IsIn-map_from, IsIn-filter, IsIn-filter_from, IsIn-from_Contains, Contains-from_IsIn}
 use Rattle.stitcher.proofs.Apart.{IsApart-filter, length-apart_le}
 use Rattle.stitcher.proofs.Same.{AreSame, length-same, same_filter, same_any}
 use Rattle.stitcher.proofs.Meeting.{apart_meets}
-use Rattle.stitcher.proofs.Reached.{CutLaws}
 use Rattle.stitcher.proofs.Telling.{same_edges, apart_images, told_by_met}
 use Rattle.stitcher.proofs.UnderWay.{IsUnderWay}
 
@@ -25,18 +24,18 @@ images_there f xs ys y each h =
 
 module _ (laws : CutLaws) (q : Asked) (sources : All IsSourceFile q.files) (begins : start (graphs_of q.files) q.node ≡ Some q.start) where
   -- all that is met was found, each once
-  pub record IsEnded (done : List Joined) : Type 0 where
+  pub record AreAllMet (done : List Joined) : Type 0 where
     pub apart : IsApart done
     pub same : AreSame done (met q)
 
-  pub ended : (done : List Joined) → IsUnderWay laws q sources begins done [] → IsEnded done
+  pub ended : (done : List Joined) → IsUnderWay q done [] → AreAllMet done
   ended done w = record {
     apart = subst IsApart (append-nil done) w.apart;
     same = subst (λ (xs : List Joined). AreSame xs (met q)) (append-nil done) w.same;
   }
 
   -- the complete ones that were found are the bounded complete runs, each once
-  pub complete_once : (done : List Joined) → IsEnded done → IsApart (map joined_edges (filter (is_bounded_complete q) done))
+  pub complete_once : (done : List Joined) → AreAllMet done → IsApart (map joined_edges (filter (is_bounded_complete q) done))
   complete_once done e =
       apart_images joined_edges (filter (is_bounded_complete q) done)
       (λ a b ga gb.
@@ -45,7 +44,7 @@ module _ (laws : CutLaws) (q : Asked) (sources : All IsSourceFile q.files) (begi
       (e.same.there b (IsIn-filter_from (is_bounded_complete q) b done gb).0))
       (IsApart-filter (is_bounded_complete q) done e.apart)
 
-  pub complete_exact : (done : List Joined) → IsEnded done → (es : List EdgeAt) → Contains (map joined_edges (filter (is_bounded_complete q) done)) es ↔ IsBoundedComplete q.bounds (graphs_of q.files) q.start es
+  pub complete_exact : (done : List Joined) → AreAllMet done → (es : List EdgeAt) → Contains (map joined_edges (filter (is_bounded_complete q) done)) es ↔ IsBoundedComplete q.bounds (graphs_of q.files) q.start es
   complete_exact done e es =
       let s = same_filter (is_bounded_complete q) done (met q) e.same in
       let t = (told_by_met laws q sources begins).complete es in (
@@ -54,13 +53,13 @@ module _ (laws : CutLaws) (q : Asked) (sources : All IsSourceFile q.files) (begi
       )
 
   -- one past the bounds was found exactly where some counted run isn't bounded
-  pub limit_exact : (done : List Joined) → IsEnded done → IsTrue (list_any (is_past_bounds q) done) ↔ HasLimit q.bounds (graphs_of q.files) q.start
+  pub limit_exact : (done : List Joined) → AreAllMet done → IsTrue (list_any (is_past_bounds q) done) ↔ HasLimit q.bounds (graphs_of q.files) q.start
   limit_exact done e =
       subst (λ (b : Bool). IsTrue b ↔ HasLimit q.bounds (graphs_of q.files) q.start) (sym (same_any (is_past_bounds q) done (met q) e.same))
       (told_by_met laws q sources begins).limit
 
   -- few enough that are counted and bounded were found: the reference isn't crowded
-  pub not_crowded : (done : List Joined) → IsEnded done → length (filter (is_bounded_counted q) done) ≤ max_runs → ¬ IsCrowded q.bounds (graphs_of q.files) q.start
+  pub not_crowded : (done : List Joined) → AreAllMet done → length (filter (is_bounded_counted q) done) ≤ max_runs → ¬ IsCrowded q.bounds (graphs_of q.files) q.start
   not_crowded done e few h =
       let all : length (filter (is_bounded_counted q) done) ≡ length (counted_met q) =
       length-same (filter (is_bounded_counted q) done) (counted_met q) (IsApart-filter (is_bounded_counted q) done e.apart)

@@ -16,3 +16,5 @@ pub mod Joining
 pub mod Noting
 pub mod Within
 pub mod Tried
+pub mod Opening
+pub mod Going

@@ -5,14 +5,13 @@ use Rattle.partial_path.specs.Rules.{Rule}
 use Rattle.partial_path.specs.Cutting.{path_edges}
 use Rattle.stitcher.specs.declared.tally.Tally.{Tally}
 use Rattle.stitcher.specs.Joins.{Asked, Joined, joined, with_path, is_none, is_at_cut, is_at_result, is_bounded, goes_on, is_bounded_complete, is_bounded_counted, is_past_bounds}
-use Rattle.stitcher.specs.Laws.{joined_edges}
-use Rattle.stitcher.specs.Opens.{those, kept_edges, IsNoted}
+use Rattle.stitcher.specs.Opens.{those, kept_runs, joined_run, IsNoted}
 
 one_counted : {X : Type 0} (x : X) (b : Bool) → (if b then 1 else 0) ≡ length (cond b (x ∷ []) [])
 one_counted x true = refl
 one_counted x false = refl
 
-one_kept : (x : Joined) (b : Bool) → those b (joined_edges x) ≡ map joined_edges (cond b (x ∷ []) [])
+one_kept : (x : Joined) (b : Bool) → those b (joined_run x) ≡ map joined_run (cond b (x ∷ []) [])
 one_kept x true = refl
 one_kept x false = refl
 
@@ -24,7 +23,7 @@ one_any : (b : Bool) → b ≡ (b || false)
 one_any true = refl
 one_any false = refl
 
-some_with : (paths : List (ℕ × Rule)) (p : ℕ × Rule) → is_none (with_path paths p) ≡ false
+pub some_with : (paths : List (ℕ × Rule)) (p : ℕ × Rule) → is_none (with_path paths p) ≡ false
 some_with [] p = refl
 some_with (x ∷ paths) p = refl
 
@@ -35,10 +34,10 @@ module _ (q : Asked) (paths : List (ℕ × Rule)) (p : ℕ × Rule) (at : Config
   pub counted_is : ((cut || complete) && bounded) ≡ is_bounded_counted q x
   counted_is = λ i. (c i || r i) && b i
 
-  pub noted : (old new : Tally) → new.counted ≡ old.counted + (if (cut || complete) && bounded then 1 else 0) → kept_edges new.complete.items ≡ kept_edges old.complete.items ++ those (complete && bounded) (path_edges (with_path paths p)) → new.limit ≡ (old.limit || ((cut || complete) && not bounded)) → IsNoted q (x ∷ []) old new
+  pub noted : (old new : Tally) → new.counted ≡ old.counted + (if (cut || complete) && bounded then 1 else 0) → kept_runs new.complete.items ≡ kept_runs old.complete.items ++ those (complete && bounded) (path_edges (with_path paths p), at.spot) → new.limit ≡ (old.limit || ((cut || complete) && not bounded)) → IsNoted q (x ∷ []) old new
   noted old new n k l = record {
     counted = n ∙ ap (λ (t : Bool). old.counted + (if t then 1 else 0)) counted_is ∙ ap (λ (m : ℕ). old.counted + m) (one_counted x (is_bounded_counted q x));
-    complete = k ∙ (λ i. kept_edges old.complete.items ++ those (r i && b i) (joined_edges x)) ∙ ap (λ xs. kept_edges old.complete.items ++ xs) (one_kept x (is_bounded_complete q x));
+    complete = k ∙ (λ i. kept_runs old.complete.items ++ those (r i && b i) (joined_run x)) ∙ ap (λ xs. kept_runs old.complete.items ++ xs) (one_kept x (is_bounded_complete q x));
     limit = l ∙ (λ i. old.limit || ((c i || r i) && not (b i))) ∙ ap (λ (t : Bool). old.limit || t) (one_any (is_past_bounds q x));
   }
 

@@ -16,23 +16,14 @@ use Rattle.partial_path.specs.Rules.{Rule}
 use Rattle.partial_path.specs.PathSets.{FileRules}
 use Rattle.partial_path.specs.Sources.{IsSourceFile, graphs_of, rules_offered}
 use Rattle.partial_path.specs.Cutting.{path_edges, PathsLead, LeadFrom, edge_count, heights}
-use Rattle.partial_path.specs.Laws.{AppliedRulesAreOffered, BeginningsAreCut, CountedRunsAreCut, CutsAreUnique, PathsAreRuns, JoinedBounds, LandingsTell, AreStraightPaths}
+use Rattle.partial_path.specs.Laws.{AreStraightPaths}
 use Rattle.stitcher.specs.Joins.{Asked, Joined, joined, with_path, origin, none_joined, is_none, start_behind, next_start, is_at_cut, is_bounded, goes_on, offered_to, longer, meets, met, lands, is_at_result}
+use Rattle.stitcher.specs.Laws.{CutLaws}
 use Rattle.stitcher.proofs.Members.{IsIn, IsIn-flat_map, IsIn-from_Contains}
 use Rattle.stitcher.proofs.Leading.{IsNext, lead_with, lead_once, parts, path_edges-append, split_last, nonempty_with}
 use Rattle.stitcher.proofs.Straight.{keeps_from, straight_front}
 use Rattle.stitcher.proofs.Offered.{stored_nonempty}
 use Rattle.stitcher.proofs.Meeting.{Stands, none_stands, in_longer}
-
--- the laws of cut runs
-pub record CutLaws : Type 0 where
-  pub offered : AppliedRulesAreOffered
-  pub beginnings : BeginningsAreCut
-  pub cut : CountedRunsAreCut
-  pub unique : CutsAreUnique
-  pub runs : PathsAreRuns
-  pub bounds : JoinedBounds
-  pub tell : LandingsTell
 
 match_more : {P Q : Config → Type 0} (o : Option Config) → ((next : Config) → P next → Q next) → MatchOption o ⊤ P → MatchOption o ⊤ Q
 match_more None f h = h
@@ -61,7 +52,7 @@ length_edge_count files sources s c end (p ∷ paths) h =
     let one : 1 ≤ length p.1.edges = some_length p.1.edges (stored_nonempty files p sources h.0) in
     omega arith
 
-behind_with : (s : Start) (paths : List (ℕ × Rule)) (p : ℕ × Rule) (at : Config) → start_behind s (with_path paths p) at ≡ After at.spot
+pub behind_with : (s : Start) (paths : List (ℕ × Rule)) (p : ℕ × Rule) (at : Config) → start_behind s (with_path paths p) at ≡ After at.spot
 behind_with s [] p at = refl
 behind_with s (x ∷ paths) p at = refl
 

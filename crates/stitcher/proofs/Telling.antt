@@ -13,12 +13,12 @@ use Rattle.partial_path.specs.Counted.{IsComplete, IsCounted, IsBoundedCounted, 
 use Rattle.partial_path.specs.Sources.{IsSourceFile, graphs_of}
 use Rattle.partial_path.specs.Laws.{IsToldByLandings}
 use Rattle.stitcher.specs.Joins.{Asked, Joined, joined, none_joined, is_none, is_at_cut, is_at_result, is_bounded, met, lands, is_bounded_complete, is_bounded_counted, is_past_bounds, complete_met, counted_met, meets_past}
-use Rattle.stitcher.specs.Laws.{joined_edges, IsToldByMet, MetPathsTell}
+use Rattle.stitcher.specs.Laws.{joined_edges, CutLaws, IsToldByMet, MetPathsTell}
 use Rattle.stitcher.proofs.Members.{IsIn, IsIn-map, IsIn-map_from, IsIn-filter, IsIn-filter_from, IsIn-from_Contains, Contains-from_IsIn, at_member, each_member, passing_member, list_any-from_member}
 use Rattle.stitcher.proofs.Apart.{IsApart-filter, all_differ, absent, length-apart_le}
 use Rattle.stitcher.proofs.Leading.{nonempty_with}
 use Rattle.stitcher.proofs.Meeting.{Stands, none_stands, meets_sound, meets_begin, apart_meets}
-use Rattle.stitcher.proofs.Reached.{CutLaws, bounded_decides, in_met, bounded_fronts, stop, same_joined}
+use Rattle.stitcher.proofs.Reached.{bounded_decides, in_met, bounded_fronts, stop, same_joined}
 
 -- images of elements that are apart are apart where no two of the elements have one image
 pub apart_images : {X Y : Type 0} (f : X → Y) (xs : List X) → ((a b : X) → IsIn a xs → IsIn b xs → f a ≡ f b → a ≡ b) → IsApart xs → IsApart (map f xs)
@@ -53,10 +53,10 @@ module _ (laws : CutLaws) (q : Asked) (sources : All IsSourceFile q.files) (begi
       (Decides-and (is_definition_spot (graphs_of q.files) at.spot) (is_none at.stacks.symbols) ((λ t. t), (λ t. t)) (is_none_decides at.stacks.symbols))
 
   -- what is met stands, and isn't empty
-  met_stands : (x : Joined) → IsIn x (met q) → Stands q x
+  pub met_stands : (x : Joined) → IsIn x (met q) → Stands q x
   met_stands x h = meets_sound (q.bounds.edges + 1) q (none_joined q) x (none_stands q) h
 
-  met_some : (x : Joined) → IsIn x (met q) → x.paths ≢ []
+  pub met_some : (x : Joined) → IsIn x (met q) → x.paths ≢ []
   met_some x h =
       let m = meets_begin (q.bounds.edges + 1) q (none_joined q) x h in
       λ e. nonempty_with [] m.0 m.1 (m.2 ∙ e)

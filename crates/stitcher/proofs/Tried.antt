@@ -12,8 +12,7 @@ use Rattle.stitcher.specs.declared.open.Open.{Open}
 use Rattle.stitcher.specs.declared.tally.Tally.{Tally}
 use Rattle.stitcher.specs.declared.trail.Level.{Level}
 use Rattle.stitcher.specs.Joins.{Asked, Joined, joined, joined_by, goes_on, offered_to, next_start, is_bounded_complete, is_bounded_counted, is_past_bounds}
-use Rattle.stitcher.specs.Laws.{joined_edges}
-use Rattle.stitcher.specs.Opens.{opens_of, kept_edges, IsNoted, AreTried}
+use Rattle.stitcher.specs.Opens.{opens_of, kept_runs, joined_run, IsNoted, AreTried}
 use Rattle.stitcher.specs.Trail.{paths_of, IsOffered}
 use Rattle.stitcher.proofs.Members.{IsIn, IsIn-append_right, IsIn-from_Contains, Contains-from_IsIn}
 use Rattle.stitcher.proofs.Offered.{offered_stored}
@@ -31,10 +30,10 @@ noted_after q xs ys a b c m n = record {
       ap length (filter-append (is_bounded_counted q) xs ys) ∙ length-append (filter (is_bounded_counted q) xs) (filter (is_bounded_counted q) ys) in
       omega arith);
   complete =
-      n.complete ∙ (ap (λ es. es ++ map joined_edges (filter (is_bounded_complete q) ys)) m.complete
-      ∙ (append_assoc (kept_edges a.complete.items) (map joined_edges (filter (is_bounded_complete q) xs)) (map joined_edges (filter (is_bounded_complete q) ys))
-      ∙ ap (λ es. kept_edges a.complete.items ++ es)
-      (sym (ap (map joined_edges) (filter-append (is_bounded_complete q) xs ys) ∙ map-append joined_edges (filter (is_bounded_complete q) xs) (filter (is_bounded_complete q) ys)))));
+      n.complete ∙ (ap (λ es. es ++ map joined_run (filter (is_bounded_complete q) ys)) m.complete
+      ∙ (append_assoc (kept_runs a.complete.items) (map joined_run (filter (is_bounded_complete q) xs)) (map joined_run (filter (is_bounded_complete q) ys))
+      ∙ ap (λ es. kept_runs a.complete.items ++ es)
+      (sym (ap (map joined_run) (filter-append (is_bounded_complete q) xs ys) ∙ map-append joined_run (filter (is_bounded_complete q) xs) (filter (is_bounded_complete q) ys)))));
   limit =
       n.limit ∙ (ap (λ (t : Bool). t || list_any (is_past_bounds q) ys) m.limit
       ∙ (or_assoc a.limit (list_any (is_past_bounds q) xs) (list_any (is_past_bounds q) ys)

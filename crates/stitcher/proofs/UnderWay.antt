@@ -8,11 +8,12 @@ use Rattle.partial_path.specs.Apply.{apply}
 use Rattle.partial_path.specs.Moved.{moved}
 use Rattle.partial_path.specs.Sources.{IsSourceFile, graphs_of}
 use Rattle.stitcher.specs.Joins.{Asked, Joined, none_joined, joined_by, goes_on, offered_to, longer, meets, met, ahead}
+use Rattle.stitcher.specs.Laws.{CutLaws}
 use Rattle.stitcher.proofs.Members.{IsIn, IsIn-append_left, IsIn-append_right, IsIn-append_cases, IsIn-flat_map, IsIn-flat_map_from}
 use Rattle.stitcher.proofs.Apart.{all_differ, IsApart-flat_map}
 use Rattle.stitcher.proofs.Same.{AreSame, length-same, apart_of_many}
 use Rattle.stitcher.proofs.Meeting.{Stands, longer_of, same_longer, length_longer, same_front, no_room, meets_begin, piece_begins, apart_meets, apart_landed, path_of_joined}
-use Rattle.stitcher.proofs.Reached.{CutLaws, count_of}
+use Rattle.stitcher.proofs.Reached.{count_of}
 use Rattle.std.proofs.lemmas.List.{same_from_push}
 
 -- the one itself, and what is met behind it
@@ -102,6 +103,11 @@ onward-going q (x ∷ xs) = by (goes_on q x) (onward-going q xs)
 pub fuel-of : (n k m : ℕ) → k ≤ n → m ≡ k + 1 → ((n + 1) - k ≡ suc ((n + 1) - m))
 fuel-of n k m le e = omega arith
 
+-- what was found, and what is met behind the open ones, is what is met, each once
+pub record IsUnderWay (q : Asked) (done opens : List Joined) : Type 0 where
+  pub apart : IsApart (done ++ flat_map (ahead q) opens)
+  pub same : AreSame (done ++ flat_map (ahead q) opens) (met q)
+
 module _ (laws : CutLaws) (q : Asked) (sources : All IsSourceFile q.files) (begins : start (graphs_of q.files) q.node ≡ Some q.start) where
   abbrev fuel : Joined → ℕ
   fuel j = (q.bounds.edges + 1) - length j.paths
@@ -144,12 +150,7 @@ module _ (laws : CutLaws) (q : Asked) (sources : All IsSourceFile q.files) (begi
   length-ahead j found s goes f =
       length-same (flat_map (onward q) found) (ahead q j) (apart_found j found f) (apart_meets (fuel j) q j sources) (same_ahead j found s goes f)
 
-  -- what was found, and what is met behind the open ones, is what is met, each once
-  pub record IsUnderWay (done opens : List Joined) : Type 0 where
-    pub apart : IsApart (done ++ flat_map (ahead q) opens)
-    pub same : AreSame (done ++ flat_map (ahead q) opens) (met q)
-
-  pub begins_under_way : IsUnderWay [] (none_joined q ∷ [])
+  pub begins_under_way : IsUnderWay q [] (none_joined q ∷ [])
   begins_under_way =
       let none : (q.bounds.edges + 1) - 0 ≡ q.bounds.edges + 1 = omega arith in
       let is : met q ≡ ahead q (none_joined q) ++ [] =
@@ -221,7 +222,7 @@ module _ (laws : CutLaws) (q : Asked) (sources : All IsSourceFile q.files) (begi
       omega arith
 
   -- the first open one is gone on from: what is found is done, and those of it that are gone on with are open
-  pub goes_on_under_way : (done rest found : List Joined) (j : Joined) → IsUnderWay done (j ∷ rest) → Stands q j → goes_on q j ≡ true → AreFound q j found → IsUnderWay (done ++ found) (rest ++ filter (goes_on q) found)
+  pub goes_on_under_way : (done rest found : List Joined) (j : Joined) → IsUnderWay q done (j ∷ rest) → Stands q j → goes_on q j ≡ true → AreFound q j found → IsUnderWay q (done ++ found) (rest ++ filter (goes_on q) found)
   goes_on_under_way done rest found j w s goes f =
       let whole : (done ++ found) ++ flat_map (ahead q) (rest ++ filter (goes_on q) found) ≡ after_it done rest found =
       ap (λ (xs : List Joined). (done ++ found) ++ xs) (flat_map-append (ahead q) rest (filter (goes_on q) found)) in

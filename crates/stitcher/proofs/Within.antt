@@ -19,7 +19,7 @@ use Rattle.partial_path.specs.Cutting.{edge_count, heights, path_edges}
 use Rattle.stitcher.specs.declared.tally.Tally.{Tally}
 use Rattle.stitcher.specs.declared.trail.Level.{Level}
 use Rattle.stitcher.specs.Joins.{Asked, Joined, joined, with_path, origin, is_at_cut, is_at_result, is_bounded, keeps_straight, landed, joined_by, goes_on}
-use Rattle.stitcher.specs.Opens.{kept_edges, those, IsNoted}
+use Rattle.stitcher.specs.Opens.{kept_runs, those, IsNoted}
 use Rattle.stitcher.specs.Trail.{Moves, paths_of, IsHere, IsOffered}
 use Rattle.stitcher.proofs.Members.{at_member, IsIn-from_Contains}
 use Rattle.stitcher.proofs.Offered.{source_at}
@@ -62,7 +62,7 @@ and_false false = refl
 pub none_noted : (q : Asked) (t : Tally) → IsNoted q [] t t
 none_noted q t = record {
   counted = omega arith;
-  complete = sym (append-nil (kept_edges t.complete.items));
+  complete = sym (append-nil (kept_runs t.complete.items));
   limit = by t.limit;
 }
   where
@@ -79,7 +79,7 @@ module _ (q : Asked) (trail : List Level) (at : Config) (p : ℕ × Rule) where
   one_past next t limit f =
       let lands : Bool = is_at_cut q next || is_at_result q next in
       noted q (paths_of trail) p next (is_at_cut q next) (is_at_result q next) false refl refl (sym f) t t
-      (counted (and_false lands)) (kept (is_at_result q next && false) (path_edges (with_path (paths_of trail) p)) (kept_edges t.complete.items) (and_false (is_at_result q next))) (limited (lands && true))
+      (counted (and_false lands)) (kept (is_at_result q next && false) (path_edges (with_path (paths_of trail) p), next.spot) (kept_runs t.complete.items) (and_false (is_at_result q next))) (limited (lands && true))
     where
       counted : {b : Bool} → b ≡ false → t.counted ≡ t.counted + (if b then 1 else 0)
       counted {b} e = subst (λ (x : Bool). t.counted ≡ t.counted + (if x then 1 else 0)) (sym e) (omega arith)

@@ -7,6 +7,7 @@ use Rattle.partial_path.specs.Runs.{IsApart}
 use Rattle.partial_path.specs.Counted.{IsBoundedComplete, IsCrowded, HasLimit}
 use Rattle.partial_path.specs.Sources.{IsSourceFile, graphs_of}
 use Rattle.partial_path.specs.Cutting.{path_edges}
+use Rattle.partial_path.specs.Laws.{AppliedRulesAreOffered, BeginningsAreCut, CountedRunsAreCut, CutsAreUnique, PathsAreRuns, JoinedBounds, LandingsTell}
 use Rattle.stitcher.specs.Joins.{Asked, Joined, complete_met, counted_met, meets_past}
 
 -- the edges of the joined paths
@@ -25,3 +26,13 @@ pub record IsToldByMet (q : Asked) : Type 0 where
 -- what is met from a reference of a source tells of its runs
 abbrev pub MetPathsTell : Type 0
 MetPathsTell = (q : Asked) → All IsSourceFile q.files → start (graphs_of q.files) q.node ≡ Some q.start → IsToldByMet q
+
+-- the laws of cut runs that this rests on
+pub record CutLaws : Type 0 where
+  pub offered : AppliedRulesAreOffered
+  pub beginnings : BeginningsAreCut
+  pub cut : CountedRunsAreCut
+  pub unique : CutsAreUnique
+  pub runs : PathsAreRuns
+  pub bounds : JoinedBounds
+  pub tell : LandingsTell

@@ -1,4 +1,5 @@
 pub mod Joins
 pub mod Laws
+pub mod Answers
 pub mod Trail
 pub mod Opens

@@ -1,16 +1,23 @@
 -- The joined paths that are still to be gone on from, as the program keeps them, and what it notes of one. No public
 -- clause cites this.
-use Rattle.std.specs.Prelude.{◌≡◌, ◌+◌, ◌++◌, List, [], ◌∷◌, map, length, take, Bool, ◌||◌, filter, ℕ, IsPermutation, if◌then◌else◌}
-use Rattle.std.specs.List.{list_any, flat_map}
+use Rattle.std.specs.Prelude.{◌≡◌, ◌+◌, ◌++◌, List, [], ◌∷◌, map, length, take, Bool, ◌||◌, filter, ℕ, IsPermutation, All, IsTrue, ◌↔◌, true, ◌≤◌, ◌<◌, if◌then◌else◌}
+use Rattle.std.specs.List.{AllByRecursion, list_any, flat_map}
 use Rattle.partial_path.specs.Rules.{Rule}
 use Rattle.partial_path.specs.declared.config.EdgeAt.{EdgeAt}
+use Rattle.partial_path.specs.declared.config.Spot.{Spot}
+use Rattle.partial_path.specs.declared.config.Spot.TheVariants.{At}
+use Rattle.partial_path.specs.Limits.{max_runs}
+use Rattle.partial_path.specs.Cutting.{edge_count}
+use Rattle.partial_path.specs.Counted.{IsCrowded, HasLimit}
+use Rattle.partial_path.specs.Sources.{graphs_of}
+use Rattle.stitcher.specs.Answers.{AreCompleteRuns}
 use Rattle.stitcher.specs.declared.found.EdgePath.{EdgePath}
 use Rattle.stitcher.specs.declared.open.Open.{Open}
 use Rattle.stitcher.specs.declared.tally.Tally.{Tally}
 use Rattle.stitcher.specs.declared.trail.Level.{Level}
 use Rattle.stitcher.specs.Joins.{Asked, Joined, joined, with_path, is_bounded_complete, is_bounded_counted, is_past_bounds, joined_by, goes_on, offered_to}
 use Rattle.stitcher.specs.Laws.{joined_edges}
-use Rattle.stitcher.specs.Trail.{paths_of, path_of}
+use Rattle.stitcher.specs.Trail.{Moves, paths_of, path_of, IsHere}
 
 -- the joined paths of an open one: those of the trail up to its depth, and its last one
 abbrev pub opened : List Level → Open → Joined
@@ -19,18 +26,29 @@ opened trail o = joined (with_path (paths_of (take o.depth trail)) (path_of o.le
 abbrev pub opens_of : List Level → List Open → List Joined
 opens_of trail opens = map (opened trail) opens
 
+-- an open one whose last path is joined to the whole trail
+abbrev pub opened_at : List Level → ℕ → Level → Open
+opened_at trail edges level = record { depth = length trail; edges = edges; level = level }
+
 -- the one, where the test passes
 abbrev pub those : {X : Type 0} → Bool → X → List X
 those passes x = if passes then x ∷ [] else []
 
--- the edges of the paths that are kept
-abbrev pub kept_edges : List EdgePath → List (List EdgeAt)
-kept_edges paths = map (λ (p : EdgePath). p.edges.items) paths
+-- the edges of a run that is kept, and where it ends
+abbrev pub kept_run : EdgePath → List EdgeAt × Spot
+kept_run p = (p.edges.items, At p.end)
+
+abbrev pub kept_runs : List EdgePath → List (List EdgeAt × Spot)
+kept_runs paths = map kept_run paths
+
+-- the edges of the joined paths, and where they end
+abbrev pub joined_run : Joined → List EdgeAt × Spot
+joined_run j = (joined_edges j, j.at.spot)
 
 -- the joined paths were noted
 pub record IsNoted (q : Asked) (xs : List Joined) (old new : Tally) : Type 0 where
   pub counted : new.counted ≡ old.counted + length (filter (is_bounded_counted q) xs)
-  pub complete : kept_edges new.complete.items ≡ kept_edges old.complete.items ++ map joined_edges (filter (is_bounded_complete q) xs)
+  pub complete : kept_runs new.complete.items ≡ kept_runs old.complete.items ++ map joined_run (filter (is_bounded_complete q) xs)
   pub limit : new.limit ≡ (old.limit || list_any (is_past_bounds q) xs)
 
 -- paths of which each was joined there, and noted and opened as it landed
@@ -42,3 +60,40 @@ pub record AreTried (q : Asked) (trail : List Level) (from : Joined) (paths : Li
 abbrev pub IsExtended : Asked → List Level → Joined → Tally → Tally → List Open → List Open → Type 0
 IsExtended q trail from old new before after =
     (paths : List (ℕ × Rule)) × IsPermutation (offered_to q from) paths × AreTried q trail from paths old new before after
+
+-- the first of the offered paths, in some order, are already too many with those that were counted before
+pub record IsOverfull (q : Asked) (from : Joined) (counted : ℕ) : Type 0 where
+  pub part : List (ℕ × Rule)
+  pub rest : List (ℕ × Rule)
+  pub offered : IsPermutation (offered_to q from) (part ++ rest)
+  pub many : max_runs < counted + length (filter (is_bounded_counted q) (flat_map (joined_by q from) part))
+
+-- the levels of an open one: those of the trail up to its depth, and its last one
+abbrev pub levels_of : List Level → Open → List Level
+levels_of trail o = take o.depth trail ++ o.level ∷ []
+
+-- levels that lead from the reference to the last one, within the bounds, and on
+pub record AreOpen (q : Asked) (levels : List Level) (o : Open) : Type 0 where
+  pub here : IsHere q levels o.level.at
+  pub goes : goes_on q (joined (paths_of levels) o.level.at) ≡ true
+  pub edges : o.edges ≡ edge_count (paths_of levels)
+  pub moves : All (λ (l : Level). Moves l.file l.path.now) levels
+
+-- an open one of the trail, and one that has one level more than the whole trail
+pub record IsOpen (q : Asked) (trail : List Level) (o : Open) : Type 0 where
+  pub depth : o.depth ≤ length trail
+  pub levels : AreOpen q (levels_of trail o) o
+
+pub record IsLast (q : Asked) (trail : List Level) (o : Open) : Type 0 where
+  pub depth : o.depth ≡ length trail
+  pub levels : AreOpen q (trail ++ o.level ∷ []) o
+
+-- such ones were added to the open ones
+abbrev pub AreAdded : Asked → List Level → List Open → List Open → Type 0
+AreAdded q trail before after = (more : List Open) × (after ≡ before ++ more) × AllByRecursion (IsLast q trail) more
+
+-- what was noted in all tells of the runs of the reference
+pub record IsEnded (q : Asked) (t : Tally) : Type 0 where
+  pub runs : AreCompleteRuns q.bounds (graphs_of q.files) q.start t.complete.items
+  pub limit : IsTrue t.limit ↔ HasLimit q.bounds (graphs_of q.files) q.start
+  pub not_crowded : ¬ IsCrowded q.bounds (graphs_of q.files) q.start

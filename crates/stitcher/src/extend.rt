@@ -5,7 +5,7 @@ ghost use Rattle.partial_path.specs.Cutting.{edge_count, heights};
 ghost use Rattle.partial_path.specs.Step.{start};
 ghost use Rattle.partial_path.specs.Sources.{IsSourceFile, graphs_of};
 ghost use Rattle.stitcher.specs.Joins.{joined, origin, next_start};
-ghost use Rattle.stitcher.specs.Opens.{IsExtended};
+ghost use Rattle.stitcher.specs.Opens.{IsExtended, AreAdded, IsOverfull};
 ghost use Rattle.stitcher.specs.Trail.{Moves, asked, paths_of, IsHere};
 
 use crate::found::StitchFault;
@@ -39,7 +39,9 @@ pub fn extend<'a, P: PathSource>(
     requires trail { All (λ l. Moves l.file l.path.now) trail.now }
     requires few { tally.old.counted ≤ max_runs }
     ensures extended { OnOk result (IsExtended (asked (P.files source.now) query) trail.now (joined (paths_of trail.now) at.now) tally.old tally.new work.old.items work.new.items) }
+    ensures added { OnOk result (AreAdded (asked (P.files source.now) query) trail.now work.old.items work.new.items) }
     ensures few { OnOk result (tally.new.counted ≤ max_runs) }
+    ensures crowded { result ≡ Err StitchFault.Crowded → IsOverfull (asked (P.files source.now) query) (joined (paths_of trail.now) at.now) tally.old.counted }
 {
     let mut next = source.offers(&begin, &at.stacks.symbols);
     while let Some(found) = source.next_offer(&at.stacks.symbols, next) {

@@ -12,7 +12,7 @@ ghost use Rattle.partial_path.specs.Walks.{is_cut_spot_of};
 ghost use Rattle.partial_path.specs.Sources.{IsSourceFile, graphs_of};
 ghost use Rattle.partial_path.specs.Laws.{IsSpotOf, IsAtStart};
 ghost use Rattle.stitcher.specs.Joins.{joined, with_path, origin, joined_by, is_bounded_counted, goes_on};
-ghost use Rattle.stitcher.specs.Opens.{opens_of, IsNoted};
+ghost use Rattle.stitcher.specs.Opens.{opens_of, IsNoted, AreAdded};
 ghost use Rattle.stitcher.specs.Trail.{Moves, paths_of, landed_at, asked, IsHere, IsOffered};
 
 use crate::found::StitchFault;
@@ -94,6 +94,7 @@ pub fn join<'a, P: PathSource>(
     requires few { tally.old.counted ≤ max_runs }
     ensures noted { OnOk result (IsNoted (asked (P.files source.now) query) (joined_by (asked (P.files source.now) query) (joined (paths_of trail.now) at.now) (file, path.now)) tally.old tally.new) }
     ensures opens { OnOk result (opens_of trail.now work.new.items ≡ opens_of trail.now work.old.items ++ filter (goes_on (asked (P.files source.now) query)) (joined_by (asked (P.files source.now) query) (joined (paths_of trail.now) at.now) (file, path.now))) }
+    ensures added { OnOk result (AreAdded (asked (P.files source.now) query) trail.now work.old.items work.new.items) }
     ensures few { OnOk result (tally.new.counted ≤ max_runs) }
     ensures full { result ≡ Err StitchFault.Crowded → tally.old.counted ≡ max_runs }
     ensures crowded { result ≡ Err StitchFault.Crowded → length (filter (is_bounded_counted (asked (P.files source.now) query)) (joined_by (asked (P.files source.now) query) (joined (paths_of trail.now) at.now) (file, path.now))) ≡ 1 }

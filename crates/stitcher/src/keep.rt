@@ -2,7 +2,7 @@ ghost use Rattle.std.specs.Prelude.{◌≡◌, ◌++◌, All, IfOk, OnOk, true};
 ghost use Rattle.partial_path.specs.declared.config.Spot.TheVariants.{Root};
 ghost use Rattle.partial_path.specs.Cutting.{path_edges};
 ghost use Rattle.stitcher.specs.Joins.{with_path};
-ghost use Rattle.stitcher.specs.Opens.{kept_edges, those};
+ghost use Rattle.stitcher.specs.Opens.{kept_runs, those};
 ghost use Rattle.stitcher.specs.Trail.{Moves, paths_of, path_of};
 
 use crate::found::EdgePath;
@@ -32,7 +32,7 @@ pub fn keep_if(
     requires trail { All (λ l. Moves l.file l.path.now) trail.now }
     requires level { Moves level.now.file level.now.path.now }
     requires node { is_complete ≡ true → level.now.at.spot ≡ Root → ⊥ }
-    ensures { OnOk result (kept_edges complete.new.items ≡ kept_edges complete.old.items ++ those is_complete (path_edges (with_path (paths_of trail.now) (path_of level.now)))) }
+    ensures { OnOk result (kept_runs complete.new.items ≡ kept_runs complete.old.items ++ those is_complete (path_edges (with_path (paths_of trail.now) (path_of level.now)), level.now.at.spot)) }
 {
     if !is_complete {
         return Ok(());

@@ -1,4 +1,4 @@
-ghost use Rattle.stitcher.specs.Laws.{MetPathsTell};
+ghost use Rattle.stitcher.specs.Laws.{CutLaws, MetPathsTell};
 
 use partial_path::{
     applied_paths_are_offered, beginnings_are_cut, counted_runs_are_cut, cuts_are_unique,
@@ -11,6 +11,13 @@ use partial_path::{
 /// bounded.
 pub fn joined_paths_tell()
     ensures { MetPathsTell }
+{
+    cutting_laws();
+}
+
+/// The laws of cut runs, together.
+pub fn cutting_laws()
+    ensures { CutLaws }
 {
     applied_paths_are_offered();
     beginnings_are_cut();

@@ -1,6 +1,8 @@
 //! Stitching: the runs of a reference over the whole graph of a list of files, found by joining stored paths.
 #![tactic(auto)]
 
+mod advance;
+mod begin;
 mod extend;
 mod found;
 mod join;
@@ -10,8 +12,10 @@ mod laws;
 mod note;
 mod open;
 mod query;
+mod stitching;
 mod tally;
 mod trail;
 
 pub use found::{EdgePath, StitchFault, Stitched};
 pub use laws::joined_paths_tell;
+pub use stitching::stitch;

@@ -1,6 +1,6 @@
 ghost use Rattle.std.specs.Prelude.{◌≡◌, ◌+◌, ◌++◌, [], ◌∷◌, length, OnOk, if◌then◌else◌};
 ghost use Rattle.stitcher.specs.Joins.{joined, with_path};
-ghost use Rattle.stitcher.specs.Opens.{opens_of, those};
+ghost use Rattle.stitcher.specs.Opens.{opened_at, opens_of, those};
 ghost use Rattle.stitcher.specs.Trail.{paths_of, path_of};
 
 use crate::trail::Level;
@@ -25,7 +25,8 @@ pub fn push_if<'a>(
     edges: usize,
     level: Level<'a>,
 ) -> Result<(), AllocError>
-    ensures { OnOk result (opens_of trail.now work.new.items ≡ opens_of trail.now work.old.items ++ those goes_on (joined (with_path (paths_of trail.now) (path_of level.entry)) level.entry.at)) }
+    ensures opens { OnOk result (opens_of trail.now work.new.items ≡ opens_of trail.now work.old.items ++ those goes_on (joined (with_path (paths_of trail.now) (path_of level.entry)) level.entry.at)) }
+    ensures added { OnOk result (work.new.items ≡ work.old.items ++ those goes_on (opened_at trail.now edges level.entry)) }
 {
     if !goes_on {
         return Ok(());

@@ -1,12 +1,16 @@
 -- What the tests before the path is applied tell.
-use Rattle.std.proofs.Common.{◌≡◌, ◌∙◌, sym, subst, Some, Option, IfSome}
+use Rattle.std.proofs.Common.{◌≡◌, ◌∙◌, ◌+◌, length, [], ◌∷◌, sym, ap, subst, Some, Option, IfSome}
+use Rattle.std.specs.Option.{option_map_or}
 use Rattle.partial_path.specs.declared.config.Config.{Config}
 use Rattle.partial_path.specs.Apply.{apply}
 use Rattle.partial_path.specs.Moved.{moved, moved_start}
 use Rattle.partial_path.specs.Rules.{start_spot}
 use Rattle.partial_path.specs.Same.{spot_eq}
+use Rattle.stitcher.specs.Joins.{joined, with_path}
 use Rattle.stitcher.specs.Opens.{opens_of}
-use Rattle.stitcher.specs.Trail.{asked}
+use Rattle.stitcher.specs.Trail.{asked, paths_of}
+use Rattle.stitcher.proofs.Heights.{edge_count-with}
+use Rattle.stitcher.proofs.Opening.{here_next}
 use Rattle.stitcher.proofs.Within.{met_asks, stored_moves, within_is, past_noted, past_opens}
 use Rattle.stitcher.proofs.join.join.Goals as goal
 
@@ -37,3 +41,15 @@ note-requires-clause-bounded g c =
 pub note-requires-clause-level : goal.note-requires-clause-level
 note-requires-clause-level g c =
     stored_moves c.file_zero_moves.ensures (asked (g.P.PathSource.files c.args.source.now) c.args.query) c.args.trail.now c.args.at.now (c.args.file, c.args.path.now) c.requires.sources c.ranges.file.fits c.requires.offered
+
+pub note-requires-clause-here : goal.note-requires-clause-here
+note-requires-clause-here g c =
+    here_next (asked (g.P.PathSource.files c.args.source.now) c.args.query) c.args.trail.now c.args.at.now _ c.requires.here c.requires.offered
+    (subst (λ (o : Option Config). IfSome o (λ (next : Config). apply (moved c.args.file c.args.path.now) c.args.at.now ≡ Some next)) c.in-Some.is c.in_ok-next.ensures.applies)
+    (c.in_ok-next.ensures.joined
+    ∙ ap (λ (o : Option Config). option_map_or (λ (next : Config). joined (with_path (paths_of c.args.trail.now) (c.args.file, c.args.path.now)) next ∷ []) o []) c.in-Some.is)
+
+pub note-requires-clause-edges : goal.note-requires-clause-edges
+note-requires-clause-edges g c =
+    (λ i. c.requires.edges i + length (c.edges-more.ensures.value i))
+    ∙ sym (edge_count-with (paths_of c.args.trail.now) (c.args.file, c.args.path.now))

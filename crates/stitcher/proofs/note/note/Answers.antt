@@ -1,0 +1,11 @@
+-- What is added to the open runs.
+use Rattle.std.proofs.Common.{◌&&◌}
+use Rattle.stitcher.specs.Opens.{opened_at}
+use Rattle.stitcher.specs.Trail.{asked}
+use Rattle.stitcher.proofs.Opening.{added_one, last_of}
+use Rattle.stitcher.proofs.note.note.Goals as goal
+
+pub returns-clause-added : goal.returns-clause-added
+returns-clause-added g c =
+    added_one (asked (g.P.PathSource.files c.args.source.now) c.args.query) c.args.trail.now c.args.work.now.items c.push_if.new.work.items (c.is_at_cut-cut.result && c.args.bounded) (opened_at c.args.trail.now c.args.edges c.args.level) c.in_ok-push_if.ensures.added
+    (last_of (asked (g.P.PathSource.files c.args.source.now) c.args.query) c.args.trail.now c.args.edges c.args.level c.is_at_cut-cut.result c.args.bounded c.is_at_cut-cut.ensures c.requires.bounded c.requires.here c.requires.edges c.requires.trail c.requires.level)

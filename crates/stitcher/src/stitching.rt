@@ -1,0 +1,78 @@
+ghost use Rattle.std.specs.Prelude.{◌≡◌, ◌≤◌, ◌↔◌, All, IfOk, OnOk, IsTrue, IsSomeAnd, Some};
+ghost use Rattle.graph_nodes.specs.Whole.{is_reference_of};
+ghost use Rattle.partial_path.specs.Spots.{node_at};
+ghost use Rattle.partial_path.specs.Step.{start};
+ghost use Rattle.partial_path.specs.Counted.{IsCrowded, HasLimit};
+ghost use Rattle.partial_path.specs.Sources.{IsSourceFile, graphs_of};
+ghost use Rattle.stitcher.specs.Answers.{AreCompleteRuns};
+ghost use Rattle.stitcher.specs.Opens.{IsEnded};
+ghost use Rattle.stitcher.specs.Trail.{asked};
+
+use crate::advance::advance;
+use crate::begin::begin;
+use crate::found::{StitchFault, Stitched};
+use crate::laws::cutting_laws;
+use crate::query::Query;
+use crate::tally::Tally;
+use partial_path::{Bounds, PathSource, Start};
+use stacks_vars::NodeAt;
+use std::alloc::Global;
+
+/// The bounded complete runs of a reference of the source's files, each once, in no order that is told, and whether
+/// a counted run was left out for its length or depth. It is `Crowded` exactly where more than 8,192 bounded counted
+/// runs start at the reference, and else `NoMemory` where memory is refused. The rule of paths is told in
+/// `docs/DEFINITIONS.md`.
+///
+/// No edge is followed: stored paths are joined. A path that is offered is matched against the stacks where it would
+/// be joined; only one that applies within the bounds copies them, and once a run past the bounds is known none
+/// beyond them is applied. The memory follows the runs that are still to be gone on from, and the kept ones.
+pub fn stitch<P: PathSource>(
+    alloc: Global,
+    source: &P,
+    file: u32,
+    node: u32,
+    bounds: Bounds,
+) -> Result<Stitched, StitchFault>
+    requires reference { IsTrue (is_reference_of (graphs_of (P.files source.now)) file node) }
+    ensures complete { IfOk result (λ found. IsSomeAnd (start (graphs_of (P.files source.now)) (node_at file node)) (λ c. AreCompleteRuns bounds (graphs_of (P.files source.now)) c found.complete.items)) }
+    ensures limit { IfOk result (λ found. IsSomeAnd (start (graphs_of (P.files source.now)) (node_at file node)) (λ c. IsTrue found.limit ↔ HasLimit bounds (graphs_of (P.files source.now)) c)) }
+    ensures crowded { result ≡ Err StitchFault.Crowded → IsSomeAnd (start (graphs_of (P.files source.now)) (node_at file node)) (IsCrowded bounds (graphs_of (P.files source.now))) }
+    ensures not_crowded { OnOk result (IsSomeAnd (start (graphs_of (P.files source.now)) (node_at file node)) (λ c. ¬ IsCrowded bounds (graphs_of (P.files source.now)) c)) }
+{
+    let query = Query {
+        node: NodeAt { file, node },
+        bounds,
+    };
+    let tally = join_all(alloc, source, query)?;
+    Ok(Stitched {
+        complete: tally.complete,
+        limit: tally.limit,
+    })
+}
+
+/// Joins paths to the reference until none is left to be joined, and tells what was found.
+fn join_all<P: PathSource>(alloc: Global, source: &P, query: Query) -> Result<Tally, StitchFault>
+    requires begins { start (graphs_of (P.files source.now)) query.node ≡ Some (asked (P.files source.now) query).start }
+    ensures ended { IfOk result (λ tally. IsEnded (asked (P.files source.now) query) tally) }
+    ensures crowded { result ≡ Err StitchFault.Crowded → IsCrowded query.bounds (graphs_of (P.files source.now)) (asked (P.files source.now) query).start }
+{
+    cutting_laws();
+    are_sources(source, query.node);
+    let mut tally = Tally::new(alloc);
+    let mut trail = Vec::new(alloc);
+    let mut work = Vec::new(alloc);
+    begin(alloc, source, query, &mut work, &mut tally)?;
+    while let Some(open) = work.pop() {
+        advance(
+            alloc, source, query, open, &mut trail, &mut work, &mut tally,
+        )?;
+    }
+    Ok(tally)
+}
+
+/// Tells that the source has checked graphs with their path sets, which each look-up says.
+fn are_sources<P: PathSource>(source: &P, node: NodeAt)
+    ensures { All IsSourceFile (P.files source.now) }
+{
+    source.path_from(&Start::Before(node), None, 0);
+}
