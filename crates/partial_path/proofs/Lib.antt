@@ -10,6 +10,7 @@ pub mod Reordered
 pub mod Halved
 pub mod KeyOrders
 pub mod Asking
+pub mod Standing
 pub mod Offered
 pub mod Listing
 pub mod Edgeless

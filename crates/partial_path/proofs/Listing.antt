@@ -29,7 +29,7 @@ use Rattle.partial_path.specs.Sources.{IsSourceFile, numbered, stand_first, is_o
 use Rattle.partial_path.specs.Offers.{offers_left, is_shared, offers_here, offers_behind, list_offers_left}
 use Rattle.partial_path.specs.Laws.{AreOwnOffers}
 use Rattle.partial_path.proofs.Halved.{filter_same}
-use Rattle.partial_path.proofs.Offered.{and_assoc}
+use Rattle.partial_path.proofs.Standing.{and_assoc}
 
 -- the offer of the file with that number, where there is one
 abbrev pub offered_of : ℕ → Start → List SymbolItem → Option FileRules → List (ℕ × Rule)

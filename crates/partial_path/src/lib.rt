@@ -39,7 +39,7 @@ pub use path::PartialPath;
 pub use places::{edge_at, is_at_definition, is_definition_spot, node_at};
 pub use rule::{End, Start};
 pub use shared::SharedPaths;
-pub use slots::KEY_SIZE;
+pub use slots::{KEY_SIZE, key_side, keys_cmp};
 pub use source::PathSource;
 pub use stepping::{is_cut_edge, start, step, symbol_of};
 

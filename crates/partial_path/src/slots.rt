@@ -28,7 +28,7 @@ pub fn slots_cmp(a: &PartialPath, b: &PartialPath) -> Ordering
 }
 
 /// How the keys of two paths stand to one another.
-fn keys_cmp(a: &PartialPath, b: &PartialPath) -> Ordering
+pub fn keys_cmp(a: &PartialPath, b: &PartialPath) -> Ordering
     ensures { result ≡ key_cmp (key a.now) (key b.now) }
 {
     for i in 0..KEY_SIZE {
@@ -76,7 +76,7 @@ fn slot_side(path: &PartialPath, start: Start, symbols: &SymbolStack, count: usi
 }
 
 /// How the path's key stands to the texts of the stack's first symbols, so many of them.
-fn key_side(path: &PartialPath, symbols: &SymbolStack, count: usize) -> Ordering
+pub fn key_side(path: &PartialPath, symbols: &SymbolStack, count: usize) -> Ordering
     requires { count ≤ key_size }
     ensures { result ≡ key_cmp (key path.now) (take count (texts symbols.now)) }
 {

@@ -1,6 +1,5 @@
 mod Amended
 mod Gathered
-mod Halved
 mod KeyOrders
 mod Runs
 mod Seen

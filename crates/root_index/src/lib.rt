@@ -3,7 +3,6 @@
 
 mod file_handle;
 mod index;
-mod keys;
 mod laws;
 mod offers;
 mod slot;

@@ -8,9 +8,8 @@ ghost use Rattle.root_index.specs.Roots.{AreByRank, root_key};
 ghost use Rattle.root_index.specs.Offers.{asks, next_paths, paths_left, offers_at};
 ghost use Rattle.root_index.specs.Inside.{key_order, is_before_key, is_at_key};
 
-use crate::keys::key_side;
 use crate::slot::Slot;
-use partial_path::KEY_SIZE;
+use partial_path::{KEY_SIZE, key_side};
 use stacks_vars::SymbolStack;
 use std::cmp::Ordering;
 

@@ -1,6 +1,5 @@
 use crate::file_handle::FileHandle;
-use crate::keys::keys_cmp;
-use partial_path::PartialPath;
+use partial_path::{PartialPath, keys_cmp};
 use std::alloc::AllocError;
 use std::cmp::Ordering;
 use std::marker::Model;

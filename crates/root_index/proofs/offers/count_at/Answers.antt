@@ -2,7 +2,7 @@ use Rattle.std.proofs.Common.{rules, take}
 use Rattle.std.proofs.lemmas.List.Sorted.{IsPartitionPoint-from_clause}
 use Rattle.partial_path.specs.Keys.{texts}
 use Rattle.root_index.specs.Inside.{is_at_key}
-use Rattle.root_index.proofs.Halved.{prefix_from_point}
+use Rattle.partial_path.proofs.Halved.{prefix_from_point}
 use Rattle.root_index.proofs.offers.count_at.Goals as goal
 
 pub returns-clause-value : goal.returns-clause-value

@@ -2,7 +2,7 @@ use Rattle.std.proofs.Common.{rules, take}
 use Rattle.std.proofs.lemmas.List.Sorted.{IsPartitionPoint-from_clause}
 use Rattle.partial_path.specs.Keys.{texts}
 use Rattle.root_index.specs.Inside.{key_order, is_before_key}
-use Rattle.root_index.proofs.Halved.{prefix_from_point, parted_before}
+use Rattle.partial_path.proofs.Halved.{prefix_from_point, parted_before}
 use Rattle.root_index.proofs.KeyOrders.{keys_rise}
 use Rattle.root_index.proofs.offers.count_before.Goals as goal
 

@@ -5,7 +5,7 @@ use Rattle.std.specs.List.Sorted.{IsPartitionedBy}
 use Rattle.partial_path.specs.Keys.{texts}
 use Rattle.root_index.specs.Roots.{RootPath}
 use Rattle.root_index.specs.Inside.{key_order, is_before_key, is_at_key}
-use Rattle.root_index.proofs.Halved.{parted_there, there_is}
+use Rattle.partial_path.proofs.Halved.{parted_there, there_is}
 use Rattle.root_index.proofs.KeyOrders.{keys_rise}
 use Rattle.root_index.proofs.offers.run_asking.Goals as goal
 
