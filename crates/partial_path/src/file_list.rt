@@ -101,6 +101,13 @@ impl PathSource for FileList {
         offer_of(self.files.as_slice(), symbols, at)
     }
 
+    fn is_reference(&self, at: &NodeAt) -> bool {
+        match self.files.get(at.file as usize) {
+            Some(file) => file.is_reference(at.node),
+            None => false,
+        }
+    }
+
     fn is_cut(&self, at: &NodeAt) -> bool {
         self.files[at.file as usize].is_cut(at.node)
     }

@@ -30,7 +30,7 @@ impl Model for FilePaths {
 
 impl FilePaths {
     ghost use Rattle.std.specs.Prelude.{◌≡◌, ◌≤◌, ◌<◌, [], ◌∷◌, length, take, slice_get, option_map, Some, IfSome, MatchOption, IsPermutation};
-    ghost use Rattle.graph_nodes.specs.Graph.{is_definition};
+    ghost use Rattle.graph_nodes.specs.Graph.{is_definition, is_reference};
     ghost use Rattle.graph_nodes.specs.Checked.{IsChecked};
     ghost use Rattle.graph_nodes.specs.Cut.{is_cut};
     ghost use Rattle.partial_path.specs.PathSets.{AreFileRules, IsPathSet};
@@ -134,6 +134,16 @@ impl FilePaths {
         ensures { result ≡ is_cut self.now.graph (Place.At n) }
     {
         self.graph.is_cut(Place::At(n))
+    }
+
+    /// Whether there is a reference at the position. It takes constant time.
+    pub fn is_reference(&self, n: u32) -> bool
+        ensures { result ≡ is_reference self.now.graph.nodes n }
+    {
+        match self.graph.nodes().get(n as usize) {
+            Some(node) => node.kind.is_reference(),
+            None => false,
+        }
     }
 
     /// Whether the node at the position is a definition. It takes constant time.

@@ -1,7 +1,7 @@
 //! Where a search takes its partial paths from.
 ghost use Rattle.std.specs.Prelude.{◌≡◌, [], ◌∷◌, ℕ, List, Option, MatchOption, All, IsSome, IsPermutation, option_map, option_copied, slice_get};
 ghost use Rattle.graph_nodes.specs.declared.node.Place.TheVariants.{At};
-ghost use Rattle.graph_nodes.specs.Whole.{node_of, is_cut_of, is_definition_of};
+ghost use Rattle.graph_nodes.specs.Whole.{node_of, is_cut_of, is_definition_of, is_reference_of};
 ghost use Rattle.stacks_vars.specs.declared.items.SymbolItem.{SymbolItem};
 ghost use Rattle.partial_path.specs.declared.rule.Start.{Start};
 ghost use Rattle.partial_path.specs.Rules.{Rule};
@@ -58,6 +58,10 @@ pub trait PathSource {
         at: Self::Offers,
     ) -> Option<(u32, &PartialPath, Self::Offers)>
         ensures { MatchOption result (offered self.now symbols.now at ≡ []) (λ found. offered self.now symbols.now at ≡ (found.0, found.1.now) ∷ offered self.now symbols.now found.2) };
+
+    /// Whether the node is a reference of its file; false where there is no such file or node.
+    fn is_reference(&self, at: &NodeAt) -> bool
+        ensures { result ≡ is_reference_of (graphs_of (files self.now)) at.now.file at.now.node };
 
     /// Whether the node is a cut node of its file.
     fn is_cut(&self, at: &NodeAt) -> bool
