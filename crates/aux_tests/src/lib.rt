@@ -2,6 +2,10 @@
 #![tactic(auto)]
 
 #[cfg(test)]
+mod paths;
+#[cfg(test)]
 mod python;
+#[cfg(test)]
+mod stitched;
 #[cfg(test)]
 mod versions;

@@ -1,13 +1,9 @@
 //! What no clause says: files that are put into a version, as its users see them.
-ghost use Rattle.std.specs.Prelude.{◌≡◌, ◌<◌};
-
+use crate::paths::paths_of;
 use aux_graph_text::files_of;
-use file_paths::{PathsFault, enumerate};
-use graph_nodes::{FileGraph, Steps};
-use partial_path::{Bounds, FilePaths, SharedPaths};
+use graph_nodes::FileGraph;
+use partial_path::{Bounds, SharedPaths};
 use std::alloc::Global;
-use std::marker::Brand;
-use std::sync::ledger::{Blank, Ledger};
 use std::test::Fail;
 use version_tree::{Edit, EditFault, PathText, UserText, Version, View};
 use whole_search::{is_reference, search};
@@ -20,30 +16,6 @@ fn graph_at(path: &str) -> &'static str {
         "lib/use.sg.json" => "push x R; push a | 0>1, 1>root",
         _ => "scope",
     }
-}
-
-/// All paths of a graph, counted on a ledger of its own.
-fn paths_on<L: Ledger>(
-    alloc: Global,
-    graph: FileGraph,
-    blank: Blank,
-) -> Result<FilePaths, PathsFault>
-    requires name { blank.name ≡ L.name }
-    requires parts { blank.parts ≡ L.parts }
-    requires some { 0 < blank.parts }
-{
-    let mut steps = Steps::<L>::new(blank);
-    enumerate(alloc, graph, &mut steps)
-}
-
-/// All paths of the graph that a text stands for.
-fn paths_of(alloc: Global, text: &str) -> Result<SharedPaths, Fail> {
-    let mut files = files_of(alloc, text)?;
-    let Some(graph) = files.pop() else {
-        return Err(Fail::new("there is no file"));
-    };
-    let paths = paths_on::<Brand>(alloc, graph, Blank::new(1))?;
-    Ok(SharedPaths::of(alloc, paths)?)
 }
 
 /// The version with the files at these paths, a space between two, in which ann is granted `lib`.

@@ -1,4 +1,4 @@
-use Rattle.aux_tests.proofs.versions.paths_of.Given as goal
+use Rattle.aux_tests.proofs.paths.paths_in.Given as goal
 
 -- the ledger is the one that was opened here
 abbrev pub ghosts-paths_on : goal.ghosts-paths_on
