@@ -13,7 +13,7 @@ use std::marker::Brand;
 use std::sync::ledger::{Blank, Ledger};
 
 /// Reads the text as a graph file.
-fn graph(alloc: Global, text: &[u8]) -> Option<FileGraph> {
+pub fn graph(alloc: Global, text: &[u8]) -> Option<FileGraph> {
     if text.len() > u32::MAX as usize {
         return None;
     }

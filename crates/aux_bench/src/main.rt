@@ -7,14 +7,18 @@
 //! many nodes and edges that has, or the fault. `read N` reads the rest as a graph file N times; `walk N`
 //! also finds its paths each time, and prints its weight and how many paths it has. `index N` makes N
 //! documents of the rest and indexes them; `again N` then does so ten times more, when all are kept. Both
-//! print how many files that gave.
+//! print how many files that gave. `stitch N` reads each line of the rest as a graph file, finds its paths, and
+//! asks node 0 of the first file N times by joining them; `search N` asks it N times by following the edges of
+//! the whole graph. They print how many runs, or rows, that gave.
 #![tactic(auto)]
 
 mod graphs;
 mod modules;
+mod queries;
 
 use graphs::{index, walk};
 use modules::{parsed, translated};
+use queries::{Asked, searched, stitched};
 use std::io::{Read, Result as IoResult};
 use std::str;
 
@@ -36,6 +40,16 @@ fn print_indexed(rt: &HostRuntime, files: Option<usize>) -> IoResult<()> {
     match files {
         Some(files) => println!(rt; "files: {files}"),
         None => println!(rt; "not indexed"),
+    }
+}
+
+/// Prints what a reference was answered.
+fn print_asked(rt: &HostRuntime, asked: Option<Asked>) -> IoResult<()> {
+    match asked {
+        Some(Asked::Found(count)) => println!(rt; "found: {count}"),
+        Some(Asked::Crowded) => println!(rt; "crowded"),
+        Some(Asked::NoReference) => println!(rt; "no reference"),
+        None => println!(rt; "not asked"),
     }
 }
 
@@ -69,6 +83,14 @@ fn run_case(rt: &HostRuntime, case: &[u8], text: &[u8]) -> IoResult<()> {
     if let Some(count) = times(case, "again ") {
         let files = index(alloc, text, count, 10);
         return print_indexed(rt, files);
+    }
+    if let Some(times) = times(case, "stitch ") {
+        let asked = stitched(alloc, text, times);
+        return print_asked(rt, asked);
+    }
+    if let Some(times) = times(case, "search ") {
+        let asked = searched(alloc, text, times);
+        return print_asked(rt, asked);
     }
     println!(rt; "no such case")
 }
