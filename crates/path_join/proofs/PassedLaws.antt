@@ -11,9 +11,6 @@ use Rattle.stacks_vars.specs.declared.patterns.Pre.{Pre}
 use Rattle.stacks_vars.specs.declared.patterns.Tail.{Tail}
 use Rattle.stacks_vars.specs.declared.patterns.Tail.TheVariants.{Nil, Front, Item}
 use Rattle.stacks_vars.specs.Enter.{stacks_of, item_of}
-use Rattle.stacks_vars.proofs.SameLaws.{node_eq-Decides}
-use Rattle.partial_path.specs.declared.config.Spot.{Spot}
-use Rattle.partial_path.specs.declared.config.Spot.TheVariants as spot
 use Rattle.partial_path.specs.declared.config.Config.{Config}
 use Rattle.partial_path.specs.declared.rule.End.{End}
 use Rattle.partial_path.specs.declared.rule.End.TheVariants.{At, ByStack}
