@@ -8,14 +8,13 @@ use Rattle.std.proofs.lemmas.Option.{none-some, same_Some}
 use Rattle.graph_nodes.specs.Graph.{Graph, is_exported, has_place}
 use Rattle.graph_nodes.specs.Checked.{IsChecked}
 use Rattle.graph_nodes.specs.Cut.{turns_between, turns_at, is_turning, is_cut}
-use Rattle.graph_nodes.specs.Out.{place_eq, where_passes, positions_from, edges_from}
+use Rattle.graph_nodes.specs.Out.{place_eq, edges_from}
 use Rattle.graph_nodes.specs.declared.node.Edge.{Edge}
 use Rattle.graph_nodes.specs.declared.node.Place.{Place}
 use Rattle.graph_nodes.specs.declared.node.Place.TheVariants as place
 use Rattle.partial_path.proofs.Edges.{has_sink}
 use Rattle.whole_search.specs.Leads.{is_landing, LeadsBy, CanLand, mark_at, leads_on, leads_by}
-use Rattle.list_facts.specs.Members.{IsIn}
-use Rattle.list_facts.proofs.Members.{IsIn-append_cases, passing_member, list_any-from_member}
+use Rattle.list_facts.proofs.Members.{passing_member, list_any-from_member}
 use Rattle.partial_path.proofs.Positions.{IsIn-edges_from, leaves_from}
 
 -- the last nodes, so many of them, have marks that say whether edges lead from them to a place to land at

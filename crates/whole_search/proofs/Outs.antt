@@ -1,10 +1,10 @@
 -- Each edge that can be followed from a spot is among those that leave it, and these differ.
-use Rattle.std.proofs.Common.{◌≡◌, ℕ, zero, suc, ◌+◌, ◌≤◌, Bool, true, false, List, [], ◌∷◌, Option, Some, None, ◌⊎◌, inl, inr, sym, refl, ap, ◌∙◌, subst, eqb, eqb-true, eq-eqb, arith, slice_get, if◌then◌else◌}
+use Rattle.std.proofs.Common.{◌≡◌, ℕ, zero, suc, ◌+◌, ◌≤◌, true, List, [], ◌∷◌, Option, Some, None, ◌⊎◌, inl, inr, sym, refl, ap, ◌∙◌, subst, eqb, eqb-true, eq-eqb, arith, slice_get}
 use Rattle.std.specs.Option.{option_map_or}
 use Rattle.std.proofs.lemmas.Bool.{false≢true, and_parts}
 use Rattle.std.proofs.lemmas.Option.{none-some, same_Some, option_and_then_some}
 use Rattle.graph_nodes.specs.Graph.{Graph}
-use Rattle.graph_nodes.specs.Out.{place_eq, where_passes, positions_from, edges_from}
+use Rattle.graph_nodes.specs.Out.{place_eq, edges_from}
 use Rattle.graph_nodes.specs.Whole.{edge_of}
 use Rattle.graph_nodes.specs.declared.node.Edge.{Edge}
 use Rattle.graph_nodes.specs.declared.node.Place.{Place}

@@ -1,12 +1,11 @@
 -- Between two cuts a run rises through the positions of one file, so it can't be long.
 use Rattle.std.proofs.Common.{◌≡◌, ◌≢◌, ℕ, zero, suc, ◌+◌, ◌<◌, ◌≤◌, min, Bool, true, false, not, ◌||◌, List, [], ◌∷◌, ◌++◌, length, Option, Some, None, IsSome, is_some, sym, refl, ap, ◌∙◌, subst, leb, ltb, eqb, eq-eqb, eqb-true, leb-true, leb-false, ltb-false, arith, slice_get, option_and_then, option_map, if◌then◌else◌, append_assoc, append-nil, length-append, inl, inr, ◌⊎◌, All}
-use Rattle.std.specs.Option.{option_map_or}
 use Rattle.std.specs.List.{list_any, AllByRecursion}
 use Rattle.std.proofs.lemmas.Bool.{false≢true, and_parts, and_cases, or_parts, both_ways, cases_Bool}
 use Rattle.std.proofs.lemmas.Option.{none-some, same_Some, option_and_then_some, slice_get_within, get_or_from_slice_get}
 use Rattle.graph_nodes.specs.Graph.{Graph, is_exported}
 use Rattle.graph_nodes.specs.Cut.{turns_between, turns_at, is_turning, is_cut}
-use Rattle.graph_nodes.specs.Whole.{node_of, is_cut_of}
+use Rattle.graph_nodes.specs.Whole.{node_of}
 use Rattle.graph_nodes.specs.Checked.{IsChecked, first_of}
 use Rattle.graph_nodes.specs.declared.fault.GraphFault.{GraphFault}
 use Rattle.graph_nodes.specs.declared.fault.GraphFault.TheVariants.{TooManyNodes}
