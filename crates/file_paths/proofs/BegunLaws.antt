@@ -6,8 +6,11 @@ use Rattle.partial_path.specs.declared.config.EdgeAt.{EdgeAt}
 use Rattle.partial_path.specs.declared.rule.Start.{Start}
 use Rattle.partial_path.specs.Walks.{starts_walks, IsWalk, AreWalks, Walk, walk_of}
 use Rattle.file_paths.specs.Walking.{GoesOn, AreFirst, IsUnderWay}
-use Rattle.file_paths.proofs.MembersLaws.{IsIn, IsIn-swap, at_member, each_member, in_rest, IsIn-from_Contains, Contains-from_IsIn}
-use Rattle.file_paths.proofs.PairsLaws.{Pairs, Differ, AreAside, Pairs-from_IsApart, free-from_Pairs, free-swap, IsApart-swap}
+use Rattle.list_facts.specs.Members.{IsIn}
+use Rattle.list_facts.specs.Apart.{Pairs}
+use Rattle.list_facts.proofs.Members.{IsIn-swap, at_member, each_member, in_rest, IsIn-from_Contains, Contains-from_IsIn}
+use Rattle.list_facts.proofs.Apart.{Differ, IsApart-swap}
+use Rattle.file_paths.proofs.PairsLaws.{AreAside, free-swap}
 use Rattle.file_paths.proofs.PrefixLaws.{IsWalk-prefix, cons≢nil, walk_same}
 
 -- the walk has this one edge
@@ -57,7 +60,7 @@ begins_under_way g starts first are all = record {
   are = each_member (λ (w : Walk). IsWalk g w.start w.edges) first (λ w h. (at_member (IsFirst g starts) w first are.each h).2);
   once = tt;
   past = tt;
-  apart = free-from_Pairs first (free_of_one first (each_member HasOneEdge first (λ w h. (at_member (IsFirst g starts) w first are.each h).0)) (Pairs-from_IsApart first are.once));
+  apart = free_of_one first (each_member HasOneEdge first (λ w h. (at_member (IsFirst g starts) w first are.each h).0)) are.once;
   reached = λ (w : Walk) walk. inr (from_first g starts first are all w.start w.edges walk);
 }
 

@@ -20,8 +20,9 @@ use Rattle.partial_path.specs.Spots.{node_at}
 use Rattle.partial_path.specs.Walks.{starts_walks}
 use Rattle.partial_path.proofs.Edges.{has_sink}
 use Rattle.file_paths.specs.Finding.{after_node, before_node, start_if, starts_at, starts_below}
-use Rattle.file_paths.proofs.MembersLaws.{IsIn, IsIn-append_left, IsIn-append_right, IsIn-append_cases, Contains-from_IsIn, IsIn-from_Contains}
-use Rattle.file_paths.proofs.PairsLaws.{either}
+use Rattle.list_facts.specs.Members.{IsIn}
+use Rattle.list_facts.proofs.Members.{IsIn-append_left, IsIn-append_right, IsIn-append_cases, Contains-from_IsIn, IsIn-from_Contains}
+use Rattle.list_facts.proofs.Pairs.{either}
 
 pub starts_below-more : (g : Graph) (n : ℕ) → starts_below g (n + 1) ≡ starts_below g n ++ starts_at g n
 starts_below-more g n = ap (starts_below g) (add-one n)

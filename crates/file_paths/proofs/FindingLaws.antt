@@ -12,14 +12,15 @@ use Rattle.partial_path.specs.Walks.{alone, ends_landing, starts_walks, IsWalk, 
 use Rattle.partial_path.specs.PathSets.{IsRuleOf, walk_of_rule, IsPathSet}
 use Rattle.file_paths.specs.Walking.{AreFirst, AreLonger, IsUnderWay}
 use Rattle.file_paths.specs.Finding.{IsFinding}
-use Rattle.file_paths.proofs.MembersLaws.{IsIn, at_member, each_member, IsIn-append_left, IsIn-append_right}
+use Rattle.list_facts.specs.Members.{IsIn}
+use Rattle.list_facts.proofs.Each.{all_push, all-append, all-left}
+use Rattle.list_facts.proofs.Members.{at_member, IsIn-append_right}
+use Rattle.list_facts.proofs.Apart.{IsApart-append}
 use Rattle.file_paths.proofs.PrefixLaws.{goes_on_itself}
 use Rattle.file_paths.proofs.BegunLaws.{Past, begins_under_way, noted_walks, noted_all, swap_begun}
 use Rattle.file_paths.proofs.StepLaws.{notes_last}
 use Rattle.file_paths.proofs.SumsLaws.{walks_few, weight_holds}
 use Rattle.file_paths.proofs.SetLaws.{AreAll, is_landing, is_weight, is_heavier, is_path_set}
-use Rattle.file_paths.proofs.GatherLaws.{IsApart-append}
-use Rattle.file_paths.proofs.GrowingLaws.{all_push}
 
 pub finding_begins : (g : Graph) (starts : List Start) (begun : List Rule) → AreFirst g starts (map walk_of_rule begun)
     → ((start : Start) → IsTrue (starts_walks g start) → Contains starts start) → AllByRecursion (IsRuleOf g) begun → IsFinding g [] begun 0 0
@@ -53,13 +54,6 @@ mapped_push begun p = map-append walk_of_rule begun (p ∷ [])
 
 filtered_push : {X : Type 0} (p : X → Bool) (xs : List X) (x : X) → filter p (xs ++ x ∷ []) ≡ filter p xs ++ cond (p x) (x ∷ []) []
 filtered_push p xs x = filter-append p xs (x ∷ [])
-
-pub all_front : {X : Type 0} (P : X → Type 0) (xs ys : List X) → AllByRecursion P (xs ++ ys) → AllByRecursion P xs
-all_front P xs ys h = each_member P xs (λ x k. at_member P x (xs ++ ys) h (IsIn-append_left x xs ys k))
-
-pub all_append : {X : Type 0} (P : X → Type 0) (xs ys : List X) → AllByRecursion P xs → AllByRecursion P ys → AllByRecursion P (xs ++ ys)
-all_append P [] ys h k = k
-all_append P (x ∷ xs) ys h k = (h.0, all_append P xs ys h.1 k)
 
 module _ (g : Graph) (rules begun : List Rule) (p : Rule) (weight count : ℕ) (h : IsFinding g rules (begun ++ p ∷ []) weight count) where
   next_way : IsUnderWay g h.noted (map walk_of_rule begun ++ walk_of_rule p ∷ [])
@@ -120,7 +114,7 @@ module _ (g : Graph) (rules begun : List Rule) (p : Rule) (weight count : ℕ) (
     way = next_under_way longer are;
     landed = mapped_push rules p ∙ sym (next_landed true lands);
     exact = all_push (IsRuleOf g) rules p h.exact next_is_rule;
-    ahead = all_append (IsRuleOf g) begun longer (all_front (IsRuleOf g) begun (p ∷ []) h.ahead) exact;
+    ahead = all-append (IsRuleOf g) begun longer (all-left (IsRuleOf g) begun (p ∷ []) h.ahead) exact;
     weighs = next_weighs;
     counts = next_counts;
   }
@@ -133,7 +127,7 @@ module _ (g : Graph) (rules begun : List Rule) (p : Rule) (weight count : ℕ) (
     way = next_under_way longer are;
     landed = sym (append-nil (map walk_of_rule rules)) ∙ sym (next_landed false passes);
     exact = h.exact;
-    ahead = all_append (IsRuleOf g) begun longer (all_front (IsRuleOf g) begun (p ∷ []) h.ahead) exact;
+    ahead = all-append (IsRuleOf g) begun longer (all-left (IsRuleOf g) begun (p ∷ []) h.ahead) exact;
     weighs = next_weighs;
     counts = next_counts;
   }

@@ -15,10 +15,11 @@ use Rattle.partial_path.specs.Walks.{walk_of}
 use Rattle.partial_path.specs.PathSets.{IsRuleOf, walk_of_rule}
 use Rattle.file_paths.specs.Walking.{no_edges, AreFirst, AreLonger}
 use Rattle.file_paths.specs.Finding.{AreFirstRules, IsFinding, after_node, before_node, start_if, starts_below}
-use Rattle.file_paths.proofs.MembersLaws.{IsIn-from_Contains}
+use Rattle.list_facts.proofs.Each.{all-append}
+use Rattle.list_facts.proofs.Members.{IsIn-from_Contains}
 use Rattle.file_paths.proofs.StartsLaws.{no_first, first_more}
 use Rattle.file_paths.proofs.EachStartLaws.{starts_below-more, starts_below-all}
-use Rattle.file_paths.proofs.FindingLaws.{finding_begins, all_append}
+use Rattle.file_paths.proofs.FindingLaws.{finding_begins}
 
 -- a rule without edges stands for its start
 pub start_walk : (p : Rule) (start : Start) → p.start ≡ start → p.edges ≡ [] → walk_of_rule p ≡ no_edges start
@@ -30,7 +31,7 @@ first_start : (g : Graph) (starts : List Start) (first : List Rule) (start : Sta
 first_start g starts first start longer are new more exact = record {
   walks = subst (AreFirst g (starts ++ start ∷ [])) (sym (map-append walk_of_rule first longer))
       (first_more g starts (map walk_of_rule first) start (map walk_of_rule longer) are.walks new more);
-  exact = all_append (IsRuleOf g) first longer are.exact exact;
+  exact = all-append (IsRuleOf g) first longer are.exact exact;
 }
 
 -- the root's

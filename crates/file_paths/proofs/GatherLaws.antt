@@ -7,24 +7,11 @@ use Rattle.partial_path.specs.declared.config.EdgeAt.{EdgeAt}
 use Rattle.partial_path.specs.Runs.{IsApart}
 use Rattle.partial_path.specs.Walks.{IsWalk, Walk}
 use Rattle.file_paths.specs.Walking.{one_more, AreLonger}
-use Rattle.file_paths.proofs.MembersLaws.{IsIn, IsIn-append_left, IsIn-append_right, IsIn-append_cases, at_member, each_member, IsIn-from_Contains, Contains-from_IsIn}
-use Rattle.file_paths.proofs.PairsLaws.{either, Differ, Pairs-append, Pairs-from_IsApart, IsApart-from_Pairs}
+use Rattle.list_facts.specs.Members.{IsIn}
+use Rattle.list_facts.proofs.Members.{IsIn-append_left, IsIn-append_right, IsIn-append_cases, at_member, each_member, IsIn-from_Contains, Contains-from_IsIn}
+use Rattle.list_facts.proofs.Pairs.{either}
+use Rattle.list_facts.proofs.Apart.{IsApart-append}
 use Rattle.file_paths.proofs.UnitLaws.{edge_in}
-
-pub IsApart-append : {X : Type 0} (xs ys : List X) → IsApart xs → IsApart ys → ((x : X) → IsIn x xs → IsIn x ys → ⊥) → IsApart (xs ++ ys)
-IsApart-append {X} xs ys one two none =
-    IsApart-from_Pairs (xs ++ ys)
-    (Pairs-append Differ xs ys (Pairs-from_IsApart xs one) (Pairs-from_IsApart ys two)
-    (λ x y h k e. none y (subst (λ (z : X). IsIn z xs) e h) k))
-
-last_apart : {X : Type 0} (xs : List X) (y : X) → IsApart (xs ++ y ∷ []) → IsIn y xs → ⊥
-last_apart [] y h k = k
-last_apart {X} (x ∷ xs) y h (inl e) = at_member (Differ x) y (xs ++ y ∷ []) h.0 (IsIn-append_right y xs (y ∷ []) (inl refl)) (sym e)
-last_apart (x ∷ xs) y h (inr k) = last_apart xs y h.1 k
-
--- the last of elements that differ isn't one before
-pub IsApart-last : {X : Type 0} (xs : List X) (y : X) → IsApart (xs ++ y ∷ []) → ¬ Contains xs y
-IsApart-last xs y h k = last_apart xs y h (IsIn-from_Contains xs y k)
 
 -- the walk with one edge more, where that edge is one of these
 abbrev pub IsLongerBy : Graph → Walk → List ℕ → Walk → Type 0

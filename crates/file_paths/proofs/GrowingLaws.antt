@@ -13,14 +13,17 @@ use Rattle.partial_path.specs.Rules.{Rule}
 use Rattle.partial_path.specs.Runs.{IsApart}
 use Rattle.partial_path.specs.Walks.{alone, starts_walks, is_cut_spot, IsUncut, IsWalk, Walk, walk_of}
 use Rattle.partial_path.specs.PathSets.{IsRuleOf, walk_of_rule}
-use Rattle.partial_path.proofs.Prefixes.{IsApart-prefix}
 use Rattle.path_join.specs.Joins.{IsJoin, NonePasses}
 use Rattle.file_paths.specs.Walking.{ends_cut, one_more, no_edges, AreLonger}
 use Rattle.file_paths.specs.Finding.{MayGoOn, GoesOnFrom, IsLongerRule, AreLongerRules}
-use Rattle.file_paths.proofs.GatherLaws.{AreLongerSoFar, IsApart-last, none_tried, tried_none, tried_more, all_tried}
-use Rattle.file_paths.proofs.MembersLaws.{IsIn, IsIn-append_right, Contains-from_IsIn}
+use Rattle.list_facts.specs.Members.{IsIn}
+use Rattle.list_facts.proofs.Members.{IsIn-append_right, Contains-from_IsIn, IsIn-from_Contains}
+use Rattle.list_facts.proofs.Each.{all_push}
+use Rattle.list_facts.proofs.Apart.{IsApart-last, IsApart-append_left}
+use Rattle.file_paths.proofs.GatherLaws.{AreLongerSoFar, none_tried, tried_none, tried_more, all_tried}
 use Rattle.file_paths.proofs.UnitLaws.{edge_in, IsUnitOf}
-use Rattle.file_paths.proofs.EdgesLaws.{edges_from-apart, edges_from-there}
+use Rattle.partial_path.proofs.Positions.{IsApart-edges_from}
+use Rattle.file_paths.proofs.EdgesLaws.{edges_from-there}
 use Rattle.file_paths.proofs.PassableLaws.{unit_walk}
 use Rattle.file_paths.proofs.JoinedLaws.{joined_walk_of, joined_is_rule, joined_is_walk, no_walk}
 
@@ -44,10 +47,6 @@ pub record AreRulesSoFar (g : Graph) (w : Walk) (tried : List ℕ) (longer : Lis
 
 pub grown_none : (g : Graph) (w : Walk) → AreRulesSoFar g w [] []
 grown_none g w = record { walks = none_tried g w; exact = tt }
-
-pub all_push : {X : Type 0} (P : X → Type 0) (xs : List X) (y : X) → AllByRecursion P xs → P y → AllByRecursion P (xs ++ y ∷ [])
-all_push P [] y all one = (one, tt)
-all_push P (x ∷ xs) y all one = (all.0, all_push P xs y all.1 one)
 
 -- one rule more, for the walk with the edge more
 pub grown_by : (g : Graph) (w : Walk) (i : ℕ) (j : Rule) (tried : List ℕ) (longer : List Rule) → AreRulesSoFar g w tried longer
@@ -95,7 +94,7 @@ grown_all g w tried longer so all = all_tried g w tried (map walk_of_rule longer
 -- an edge of a list of edges that differ isn't among those before
 pub untried : (tried rest : List ℕ) (i : ℕ) → IsApart (tried ++ i ∷ rest) → ¬ Contains tried i
 untried tried rest i h =
-    IsApart-last tried i (IsApart-prefix (tried ++ i ∷ []) rest (subst (λ (xs : List ℕ). IsApart xs) (sym (append_assoc tried (i ∷ []) rest)) h))
+    λ k. IsApart-last tried i (IsApart-append_left (tried ++ i ∷ []) rest (subst (λ (xs : List ℕ). IsApart xs) (sym (append_assoc tried (i ∷ []) rest)) h)) (IsIn-from_Contains tried i k)
 
 -- the edges from a place, of which some were tried and these are left; so far these are rules for the longer
 -- walks
@@ -130,7 +129,7 @@ growing_more g w from left rest i longer j h is one = record {
   whole = next_left h.tried rest left (edges_from g from) i is h.whole;
   so = grown_by g w i j h.tried longer h.so
       (untried h.tried rest i
-      (subst (λ (xs : List ℕ). IsApart xs) (sym (ap (λ (xs : List ℕ). h.tried ++ xs) (sym is) ∙ h.whole)) (edges_from-apart g from)))
+      (subst (λ (xs : List ℕ). IsApart xs) (sym (ap (λ (xs : List ℕ). h.tried ++ xs) (sym is) ∙ h.whole)) (IsApart-edges_from g from)))
       one.same one.walk one.exact;
 }
 

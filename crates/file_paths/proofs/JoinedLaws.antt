@@ -16,7 +16,7 @@ use Rattle.partial_path.specs.PathSets.{IsRuleOf, walk_of_rule}
 use Rattle.path_join.specs.Joins.{IsJoin, NonePasses, apply_both}
 use Rattle.file_paths.specs.Walking.{ends_cut, one_more}
 use Rattle.file_paths.proofs.PrefixLaws.{IsUncut_push, push≢nil}
-use Rattle.file_paths.proofs.RunLaws.{run_from-append, run_one, highest_from-append}
+use Rattle.partial_path.proofs.RunsOn.{run_from-append, run_one, highest_from-append}
 use Rattle.file_paths.proofs.UnitLaws.{edge_in, IsUnitOf, unit_applies, unit_height}
 
 same_then : (f h : Config → Option Config) → ((d : Config) → f d ≡ h d) → (o : Option Config) → option_and_then f o ≡ option_and_then h o

@@ -1,8 +1,7 @@
 -- What the last edge of a walk tells: where it leads, and how the walk goes on.
-use Rattle.std.proofs.Common.{◌≡◌, ℕ, ◌+◌, ◌-◌, ◌<◌, List, [], ◌∷◌, ◌++◌, length, Some, Bool, true, false, if◌then◌else◌, ◌||◌, append-nil, IsTrue, refl, sym, ap, ◌∙◌, subst, arith, length-append, slice_get, slice_index_or}
+use Rattle.std.proofs.Common.{◌≡◌, ℕ, ◌+◌, ◌-◌, ◌<◌, List, [], ◌∷◌, ◌++◌, length, Some, Bool, true, false, if◌then◌else◌, ◌||◌, append-nil, refl, sym, ap, ◌∙◌, subst, arith, length-append, slice_get, slice_index_or}
 use Rattle.std.proofs.lemmas.Option.{slice_get_within}
-use Rattle.graph_nodes.specs.Graph.{Graph, has_place}
-use Rattle.graph_nodes.specs.Checked.{IsChecked}
+use Rattle.graph_nodes.specs.Graph.{Graph}
 use Rattle.graph_nodes.specs.Cut.{is_cut}
 use Rattle.graph_nodes.specs.declared.node.Edge.{Edge}
 use Rattle.graph_nodes.specs.declared.node.Place.{Place}
@@ -11,7 +10,6 @@ use Rattle.partial_path.specs.declared.rule.Start.{Start}
 use Rattle.partial_path.specs.Rules.{Rule}
 use Rattle.partial_path.specs.Walks.{alone, is_definition_place, IsWalk}
 use Rattle.partial_path.specs.PathSets.{IsRuleOf, walk_of_rule}
-use Rattle.partial_path.proofs.Edges.{has_sink}
 use Rattle.path_join.specs.Units.{edge_alone}
 use Rattle.file_paths.specs.Walking.{ends_cut}
 use Rattle.file_paths.specs.Finding.{LeadsTo, MayGoOn, GoesOnFrom, AreLongerRules, if_landing}
@@ -58,9 +56,6 @@ last_leads g start es there d edge walk same found =
       },
       refl,
     )
-
-pub last_place : (g : Graph) (k : ℕ) (edge : Edge) → IsChecked g → slice_get g.edges k ≡ Some edge → IsTrue (has_place (length g.nodes) edge.sink)
-last_place g k edge checked found = has_sink g k edge checked found
 
 cut_at : (g : Graph) (es : List EdgeAt) (sink : Place) (leads : LeadsTo g es sink) → ends_cut (alone g) es ≡ is_cut g sink
 cut_at g es sink leads = ends_cut-sink g es leads.0 ∙ ap (is_cut g) leads.1

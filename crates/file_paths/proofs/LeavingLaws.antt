@@ -26,17 +26,14 @@ use Rattle.partial_path.specs.Rules.{Rule, start_spot}
 use Rattle.partial_path.specs.Apply.{apply, rewrite, end_at}
 use Rattle.partial_path.specs.Walks.{alone, run_from, IsWalk}
 use Rattle.partial_path.specs.PathSets.{IsRuleOf}
-use Rattle.file_paths.proofs.RunLaws.{run_from-append, run_one}
+use Rattle.partial_path.proofs.Followed.{if_some}
+use Rattle.partial_path.proofs.RunsOn.{run_from-append, run_one}
 use Rattle.file_paths.proofs.UnitLaws.{edge_in, IsSpotOf, Leaves}
 
 -- an edge of the file alone
 in_alone : (g : Graph) (file k : ℕ) (edge : Edge) → edge_of (alone g) file k ≡ Some edge → (file ≡ 0) × (slice_get g.edges k ≡ Some edge)
 in_alone g zero k edge h = (refl, h)
 in_alone g (suc n) k edge h = absurd (none-some edge h)
-
-pub if_some : {X : Type 0} (b : Bool) (o : Option X) (y : X) → (if b then o else None) ≡ Some y → (b ≡ true) × (o ≡ Some y)
-if_some true o y h = (refl, h)
-if_some false o y h = absurd (none-some y h)
 
 node_same : (a : NodeAt) (n : ℕ) → a.file ≡ 0 → a.node ≡ n → spot.At a ≡ spot.At (node_at 0 n)
 node_same a n h k = λ i. spot.At (record { file = h i; node = k i })

@@ -1,11 +1,9 @@
-pub mod MembersLaws
 pub mod PairsLaws
 pub mod PrefixLaws
 pub mod BegunLaws
 pub mod StepLaws
 pub mod SumsLaws
 pub mod SetLaws
-pub mod RunLaws
 pub mod UnitLaws
 pub mod JoinedLaws
 pub mod LeavingLaws

@@ -19,7 +19,8 @@ use Rattle.partial_path.proofs.Edges.{is_cut_edge-found}
 use Rattle.file_paths.specs.Walking.{ends_cut, no_edges, AreLonger}
 use Rattle.file_paths.specs.Finding.{EndsWith}
 use Rattle.file_paths.proofs.UnitLaws.{edge_in, IsSpotOf}
-use Rattle.file_paths.proofs.SinkLaws.{sink_leaves, reference_leaves, cut_leaves, ends_cut-last, ends_landing-last, uncut_no_jump}
+use Rattle.partial_path.proofs.CutRuns.{landing_push}
+use Rattle.file_paths.proofs.SinkLaws.{sink_leaves, reference_leaves, cut_leaves, ends_cut-last, uncut_no_jump}
 use Rattle.file_paths.proofs.GrowingLaws.{AreRulesSoFar, grown_all}
 
 -- whether edges end with a cut edge, told by the last one's sink
@@ -33,7 +34,7 @@ pub ends_landing-sink : (g : Graph) (es : List EdgeAt) (last : EndsWith g es)
     → ends_landing (alone g) es ≡ (is_cut g last.edge.sink || is_definition_place (alone g) 0 last.edge.sink)
 ends_landing-sink g es last =
     ap (ends_landing (alone g)) last.is
-    ∙ (ends_landing-last (alone g) last.before (edge_in last.last)
+    ∙ (landing_push (alone g) last.before (edge_in last.last)
     ∙ ap (λ (o : Option Edge). option_map_or (λ (edge : Edge). is_cut g edge.sink) o false || option_map_or (λ (edge : Edge). is_definition_place (alone g) 0 edge.sink) o false) last.there)
 
 -- the rules of one edge more than a walk that doesn't end with a cut edge

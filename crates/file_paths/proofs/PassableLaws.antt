@@ -15,15 +15,13 @@ use Rattle.graph_nodes.specs.declared.node.Node.{Node}
 use Rattle.graph_nodes.specs.declared.node.Place.{Place}
 use Rattle.graph_nodes.specs.declared.node.Place.TheVariants as place
 use Rattle.partial_path.specs.declared.config.Spot.{Spot}
-use Rattle.partial_path.specs.declared.config.Spot.TheVariants as spot
 use Rattle.partial_path.specs.declared.config.Config.{Config}
 use Rattle.partial_path.specs.declared.rule.Start.TheVariants.{After}
 use Rattle.partial_path.specs.Spots.{node_at, at_node}
-use Rattle.partial_path.specs.Same.{spot_eq}
 use Rattle.partial_path.specs.Step.{step, action_of, enter_place, enter_node}
 use Rattle.partial_path.specs.Walks.{alone, is_cut_spot, IsWalk}
 use Rattle.partial_path.proofs.Edges.{has_sink}
-use Rattle.stacks_vars.proofs.SameLaws.{node_eq-Decides}
+use Rattle.partial_path.proofs.Equals.{spot_eq-refl}
 use Rattle.file_paths.proofs.PrefixLaws.{cons≢nil}
 use Rattle.file_paths.proofs.UnitLaws.{edge_in, Leaves, steps_where, unit_steps}
 
@@ -73,16 +71,12 @@ place_enters g (place.At n) there = node_enters (node_there g.nodes n (ltb-true 
           (mapped_some (at_node (node_at 0 n)) (enter (action_of 0 h.0.kind) (suited (action_of 0 h.0.kind))) (suited_enters (action_of 0 h.0.kind))),
     )
 
-spot_itself : (s : Spot) → spot_eq s s ≡ true
-spot_itself spot.Root = refl
-spot_itself (spot.At a) = (node_eq-Decides a a).1 refl
-
 -- some configuration at the spot follows the edge
 pub edge_passed : (g : Graph) (i : ℕ) (s : Spot) → IsChecked g → Leaves g i s → (d : Config) × IsSome (step (alone g) d (edge_in i))
 edge_passed g i s checked leaves = (
   record { spot = s; stacks = enters.0 },
   subst (λ (o : Option Config). IsSome o) (sym (steps_where g i s leaves (record { spot = s; stacks = enters.0 })))
-      (subst (λ (b : Bool). IsSome (if b then enter_place (alone g) 0 leaves.edge.sink enters.0 else None)) (sym (spot_itself s)) enters.1),
+      (subst (λ (b : Bool). IsSome (if b then enter_place (alone g) 0 leaves.edge.sink enters.0 else None)) (sym (spot_eq-refl s)) enters.1),
 )
   where
     enters : Enters g leaves.edge.sink

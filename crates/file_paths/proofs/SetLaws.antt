@@ -8,8 +8,9 @@ use Rattle.partial_path.specs.Runs.{IsApart}
 use Rattle.partial_path.specs.Rules.{Rule}
 use Rattle.partial_path.specs.Walks.{alone, ends_landing, IsWalk, IsLandingWalk, AreWalks, Walk, walk_of, edges_of, IsWeight, IsHeavier}
 use Rattle.partial_path.specs.PathSets.{IsRuleOf, IsLandingRule, walk_of_rule, IsPathSet}
-use Rattle.file_paths.proofs.MembersLaws.{IsIn-filter, IsIn-filter_from, at_member, each_member, each_mapped, both_each, IsIn-from_Contains, Contains-from_IsIn}
-use Rattle.file_paths.proofs.PairsLaws.{IsApart-filter}
+use Rattle.list_facts.proofs.Each.{each_mapped, both_each}
+use Rattle.list_facts.proofs.Members.{IsIn-filter, IsIn-filter_from, at_member, each_member, IsIn-from_Contains, Contains-from_IsIn}
+use Rattle.list_facts.proofs.Apart.{IsApart-filter}
 
 -- all walks of the file
 abbrev pub AreAll : Graph → List Walk → Type 0

@@ -23,13 +23,14 @@ use Rattle.partial_path.specs.Spots.{node_at, at_node, at_root}
 use Rattle.partial_path.specs.Same.{spot_eq}
 use Rattle.partial_path.specs.Step.{step, follow, stands_at, action_of, enter_place, enter_node, is_cut_edge}
 use Rattle.partial_path.specs.Runs.{run}
-use Rattle.partial_path.specs.Walks.{alone, run_from, lands_after, ends_landing, IsWalk}
+use Rattle.partial_path.specs.Walks.{alone, run_from, IsWalk}
 use Rattle.file_paths.specs.Walking.{ends_cut}
 use Rattle.file_paths.specs.Finding.{EndsWith}
 use Rattle.file_paths.proofs.PrefixLaws.{IsEnded, ended}
-use Rattle.file_paths.proofs.RunLaws.{run_from-append, run_one}
+use Rattle.partial_path.proofs.Followed.{if_some}
+use Rattle.partial_path.proofs.RunsOn.{run_from-append, run_one}
 use Rattle.file_paths.proofs.UnitLaws.{edge_in, IsSpotOf}
-use Rattle.file_paths.proofs.LeavingLaws.{if_some, walk_leaves, first_leaves}
+use Rattle.file_paths.proofs.LeavingLaws.{walk_leaves, first_leaves}
 use Rattle.file_paths.proofs.EdgesLaws.{LeavesBy-in}
 
 mapped : {X Y : Type 0} (f : X → Y) (o : Option X) (y : Y) → option_map f o ≡ Some y → (x : X) × (f x ≡ y)
@@ -104,16 +105,11 @@ pub cut_leaves : (g : Graph) (p : Place) (s : Spot) (e : EdgeAt) → IsSpotOf p 
     → (i : ℕ) × (e ≡ edge_in i) × Contains (edges_from g p) i
 cut_leaves g p s e is walk = LeavesBy-in g p s e is (first_leaves g s e walk)
 
--- whether the last edge is a cut edge, and whether a path may land after it, told by the last edge
+-- whether the last edge is a cut edge, told by the last edge
 pub ends_cut-last : (files : List Graph) (before : List EdgeAt) (e : EdgeAt) → ends_cut files (before ++ e ∷ []) ≡ is_cut_edge files e
 ends_cut-last files [] e = refl
 ends_cut-last files (x ∷ []) e = refl
 ends_cut-last files (x ∷ y ∷ before) e = ends_cut-last files (y ∷ before) e
-
-pub ends_landing-last : (files : List Graph) (before : List EdgeAt) (e : EdgeAt) → ends_landing files (before ++ e ∷ []) ≡ lands_after files e
-ends_landing-last files [] e = refl
-ends_landing-last files (x ∷ []) e = refl
-ends_landing-last files (x ∷ y ∷ before) e = ends_landing-last files (y ∷ before) e
 
 -- a place that isn't cut isn't the jump
 pub uncut_no_jump : (g : Graph) (p : Place) → is_cut g p ≡ false → is_jump p ≡ false

@@ -5,11 +5,12 @@ use Rattle.partial_path.specs.declared.config.EdgeAt.{EdgeAt}
 use Rattle.partial_path.specs.declared.rule.Start.{Start}
 use Rattle.partial_path.specs.Walks.{IsWalk, Walk, walk_of}
 use Rattle.file_paths.specs.Walking.{no_edges, AreLonger, AreFirst}
-use Rattle.file_paths.proofs.MembersLaws.{IsIn, IsIn-append_left, IsIn-append_right, IsIn-append_cases, at_member, each_member, IsIn-from_Contains, Contains-from_IsIn}
-use Rattle.file_paths.proofs.PairsLaws.{either}
+use Rattle.list_facts.specs.Members.{IsIn}
+use Rattle.list_facts.proofs.Members.{IsIn-append_left, IsIn-append_right, IsIn-append_cases, at_member, each_member, IsIn-from_Contains, Contains-from_IsIn}
+use Rattle.list_facts.proofs.Pairs.{either}
+use Rattle.list_facts.proofs.Apart.{IsApart-append}
 use Rattle.file_paths.proofs.BegunLaws.{IsFirst}
 use Rattle.file_paths.proofs.StepLaws.{IsLonger}
-use Rattle.file_paths.proofs.GatherLaws.{IsApart-append}
 
 pub no_first : (g : Graph) → AreFirst g [] []
 no_first g = record { each = tt; once = tt; all = λ (start : Start) (e : EdgeAt) h walk. absurd (IsIn-from_Contains [] start h) }

@@ -6,8 +6,12 @@ use Rattle.partial_path.specs.declared.config.EdgeAt.{EdgeAt}
 use Rattle.partial_path.specs.declared.rule.Start.{Start}
 use Rattle.partial_path.specs.Walks.{alone, IsWalk, Walk}
 use Rattle.file_paths.specs.Walking.{ends_cut, one_more, GoesOn, AreLonger, ArePrefixFree, IsUnderWay}
-use Rattle.file_paths.proofs.MembersLaws.{IsIn, IsIn-append_left, IsIn-append_right, IsIn-append_cases, at_member, each_member, in_rest, IsIn-from_Contains, Contains-from_IsIn}
-use Rattle.file_paths.proofs.PairsLaws.{Pairs, Pairs-append, either, Differ, AreAside, Pairs-from_IsApart, Pairs-from_free, free-from_Pairs, all_differ}
+use Rattle.list_facts.specs.Members.{IsIn}
+use Rattle.list_facts.specs.Apart.{Pairs}
+use Rattle.list_facts.proofs.Members.{IsIn-append_left, IsIn-append_right, IsIn-append_cases, at_member, each_member, in_rest, IsIn-from_Contains, Contains-from_IsIn}
+use Rattle.list_facts.proofs.Pairs.{Pairs-append, either}
+use Rattle.list_facts.proofs.Apart.{Differ, all_differ}
+use Rattle.file_paths.proofs.PairsLaws.{AreAside}
 use Rattle.file_paths.proofs.PrefixLaws.{IsWalk-one_more, ends_cut-no_more, walk_same, goes_on_itself, goes_on_on, one_more-goes_on, one_more-from, no_way_back}
 use Rattle.file_paths.proofs.BegunLaws.{Past, From, swap_begun, swap_noted}
 
@@ -82,9 +86,8 @@ module _ (g : Graph) (noted begun : List Walk) (w : Walk) (longer : List Walk) (
 
   free : ArePrefixFree (longer ++ begun)
   free =
-      free-from_Pairs (longer ++ begun)
-      (Pairs-append AreAside longer begun (longer_free g w longer are.each (Pairs-from_IsApart longer are.once)) (Pairs-from_free begun h.apart.1)
-      (λ l o k b. longer_aside w l o (each_longer l k).0.0 (each_longer l k).0.1 (at_member (AreAside w) o begun h.apart.0 b)))
+      Pairs-append AreAside longer begun (longer_free g w longer are.each are.once) h.apart.1
+      (λ l o k b. longer_aside w l o (each_longer l k).0.0 (each_longer l k).0.1 (at_member (AreAside w) o begun h.apart.0 b))
 
   from_w : (v : Walk) → IsWalk g v.start v.edges → v.start ≡ w.start → (more : List EdgeAt) → v.edges ≡ w.edges ++ more
       → Contains (w ∷ noted) v ⊎ From (longer ++ begun) v

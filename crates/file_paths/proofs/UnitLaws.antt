@@ -23,7 +23,7 @@ use Rattle.partial_path.specs.Apply.{apply, height}
 use Rattle.partial_path.specs.Walks.{alone, run_from, highest, highest_from}
 use Rattle.partial_path.specs.PathSets.{IsRuleOf}
 use Rattle.path_join.specs.Units.{edge_alone}
-use Rattle.file_paths.proofs.RunLaws.{run_one}
+use Rattle.partial_path.proofs.RunsOn.{run_one}
 
 -- the edge of the file alone
 abbrev pub edge_in : ℕ → EdgeAt

@@ -1,7 +1,4 @@
 pub mod Order
-pub mod Rising
-pub mod Sets
-pub mod Place
 pub mod Found
 pub mod Reach
 pub mod Members

@@ -22,7 +22,8 @@ impl Model for RuleSet {
 impl RuleSet {
     ghost use Rattle.std.specs.Prelude.{◌≡◌, [], false, IfOk, IfErr, OnOk, OnErr};
     ghost use Rattle.grants.specs.Pairs.{pair, has_pair, with_pair, without_pair};
-    ghost use Rattle.grants.specs.Places.{IsAt, IsGapFor};
+    ghost use Rattle.grants.specs.Places.{beside};
+    ghost use Rattle.list_facts.specs.Places.{IsAt, IsGapFor};
 
     /// The empty set. It takes no memory.
     pub(crate) fn new(alloc: Global) -> RuleSet
@@ -82,16 +83,16 @@ impl RuleSet {
 
     // Where the rule is, or where it would go.
     fn find(&self, user: &str, prefix: &str) -> Result<usize, usize>
-        ensures found { IfOk result (IsAt (pair user.now prefix.now) self.now) }
-        ensures absent { IfErr result (IsGapFor (pair user.now prefix.now) self.now) }
+        ensures found { IfOk result (IsAt (beside (pair user.now prefix.now)) self.now) }
+        ensures absent { IfErr result (IsGapFor (beside (pair user.now prefix.now)) self.now) }
     {
         self.place(user.as_bytes(), prefix.as_bytes())
     }
 
     // The same for bytes, by halving.
     fn place(&self, user: &[u8], prefix: &[u8]) -> Result<usize, usize>
-        ensures found { IfOk result (IsAt (pair user.now prefix.now) self.now) }
-        ensures absent { IfErr result (IsGapFor (pair user.now prefix.now) self.now) }
+        ensures found { IfOk result (IsAt (beside (pair user.now prefix.now)) self.now) }
+        ensures absent { IfErr result (IsGapFor (beside (pair user.now prefix.now)) self.now) }
     {
         self.rules.binary_search_by(|rule| rule.order(user, prefix))
     }

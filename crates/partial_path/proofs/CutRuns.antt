@@ -34,7 +34,9 @@ use Rattle.partial_path.proofs.Swaps.{sw_config, some_mapped}
 use Rattle.partial_path.proofs.SwappedRuns.{ran_from, moved_starts_are_starts}
 use Rattle.partial_path.proofs.Followed.{followed_by, entered_spot, uncut_file, stood_in, definition_lands, last_step, if_some}
 use Rattle.partial_path.proofs.MovedWalks.{IsFile, edge_inside, edges_there, edges_zero, start_there, start_zero, uncut_alone, landing_alone}
-use Rattle.partial_path.proofs.Joints.{IsEnded, ended, graph_there, source_there, stored_runs, run_after, run_from-append, start_entered, begin_before}
+use Rattle.list_facts.proofs.Each.{all_push}
+use Rattle.partial_path.proofs.RunsOn.{run_from-append}
+use Rattle.partial_path.proofs.Joints.{IsEnded, ended, graph_there, source_there, stored_runs, run_after, start_entered, begin_before}
 use Rattle.partial_path.proofs.Exported.{AreChecked, HasCutScopes, place_cut, step_cut, cut_spot}
 
 -- the file whose graph is there
@@ -113,11 +115,8 @@ uncut_push files [] e h = tt
 uncut_push files (x ∷ []) e h = (h.0, tt)
 uncut_push files (x ∷ y ∷ es) e h = (h.0, uncut_push files (y ∷ es) e h.1)
 
-all_push : {X : Type 0} (P : X → Type 0) (xs : List X) (x : X) → AllByRecursion P xs → P x → AllByRecursion P (xs ++ x ∷ [])
-all_push P [] x h k = (k, tt)
-all_push P (y ∷ xs) x h k = (h.0, all_push P xs x h.1 k)
-
-landing_push : (files : List Graph) (es : List EdgeAt) (e : EdgeAt) → ends_landing files (es ++ e ∷ []) ≡ lands_after files e
+-- whether a path may land after some edges is told by the last
+pub landing_push : (files : List Graph) (es : List EdgeAt) (e : EdgeAt) → ends_landing files (es ++ e ∷ []) ≡ lands_after files e
 landing_push files [] e = refl
 landing_push files (x ∷ []) e = refl
 landing_push files (x ∷ y ∷ es) e = landing_push files (y ∷ es) e

@@ -24,6 +24,7 @@ use Rattle.partial_path.specs.Runs.{run}
 use Rattle.partial_path.specs.Walks.{begin, run_from, is_cut_spot_of, is_definition_place, lands_after}
 use Rattle.partial_path.specs.FileNumbers.{SpotIn}
 use Rattle.partial_path.proofs.Edges.{is_cut_edge-found}
+use Rattle.partial_path.proofs.RunsOn.{run-append, run_one}
 
 pub if_some : {X : Type 0} (b : Bool) (o : Option X) (y : X) → (if b then o else None) ≡ Some y → (b ≡ true) × (o ≡ Some y)
 if_some true o y h = (refl, h)
@@ -123,25 +124,10 @@ definition_lands files d next e h is =
     (λ i. is_cut_edge-found files e by.graph by.edge by.in_files by.in_graph i || option_map_or (λ (edge : Edge). is_definition_place files e.file edge.sink) (by.there i) false)
     ∙ definition_place files by.graph e.file by.edge.sink d.stacks next by.enters is
 
--- runs, one behind the other
-
-ran_on : (files : List Graph) (xs ys : List EdgeAt) → ((next : Config) → run files next (xs ++ ys) ≡ option_and_then (λ (d : Config). run files d ys) (run files next xs)) → (o : Option Config)
-    → option_and_then (λ (next : Config). run files next (xs ++ ys)) o ≡ option_and_then (λ (d : Config). run files d ys) (option_and_then (λ (next : Config). run files next xs) o)
-ran_on files xs ys each None = refl
-ran_on files xs ys each (Some next) = each next
-
-pub run-append : (files : List Graph) (xs ys : List EdgeAt) (c : Config) → run files c (xs ++ ys) ≡ option_and_then (λ (d : Config). run files d ys) (run files c xs)
-run-append files [] ys c = refl
-run-append files (x ∷ xs) ys c = ran_on files xs ys (λ next. run-append files xs ys next) (step files c x)
-
 -- the last step of a run from a start
 pub last_step : (files : List Graph) (start : Start) (front : List EdgeAt) (last : EdgeAt) (c next : Config) → run_from files start (front ++ last ∷ []) c ≡ Some next
     → (d : Config) × (step files d last ≡ Some next)
 last_step files start front last c next h =
     option_and_then_some (λ (first : Config). run files first (front ++ last ∷ [])) (begin files start c) next h
     (λ first begun ran. option_and_then_some (λ (d : Config). run files d (last ∷ [])) (run files first front) next (sym (run-append files front (last ∷ []) first) ∙ ran)
-    (λ d before stepped. (d, one (step files d last) stepped)))
-  where
-    one : (o : Option Config) → option_and_then (λ (next : Config). run files next []) o ≡ Some next → o ≡ Some next
-    one None e = e
-    one (Some x) e = e
+    (λ d before stepped. (d, sym (run_one files d last) ∙ stepped)))

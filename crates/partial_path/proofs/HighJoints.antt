@@ -1,8 +1,7 @@
 -- How long and how high a run is that stored paths make, one after the other.
-use Rattle.std.proofs.Common.{◌≡◌, ◌≢◌, ◌≤◌, refl, sym, ap, ◌∙◌, subst, ℕ, ◌+◌, max, List, [], ◌∷◌, ◌++◌, length, Option, Some, None, arith, length-append}
+use Rattle.std.proofs.Common.{◌≡◌, ◌≢◌, ◌≤◌, refl, sym, ap, ◌∙◌, subst, ℕ, ◌+◌, max, List, [], ◌∷◌, length, Option, Some, None, arith, length-append}
 use Rattle.std.specs.Prelude.{All, ⊤, MatchOption}
-use Rattle.std.specs.Option.{option_and_then, option_map_or, is_some}
-use Rattle.std.proofs.lemmas.Option.{none-some, same_Some}
+use Rattle.std.specs.Option.{option_map_or, is_some}
 use Rattle.std.proofs.lemmas.List.{length-map}
 use Rattle.graph_nodes.specs.Graph.{Graph}
 use Rattle.stacks_vars.specs.declared.scopes.NodeAt.{NodeAt}
@@ -13,54 +12,18 @@ use Rattle.partial_path.specs.declared.rule.Start.{Start}
 use Rattle.partial_path.specs.declared.rule.Start.TheVariants.{Before, After}
 use Rattle.partial_path.specs.Spots.{at_node}
 use Rattle.partial_path.specs.Step.{step, start}
-use Rattle.partial_path.specs.Runs.{run, IsShallow}
+use Rattle.partial_path.specs.Runs.{IsShallow}
 use Rattle.partial_path.specs.Rules.{Rule}
 use Rattle.partial_path.specs.Apply.{apply, height}
-use Rattle.partial_path.specs.Walks.{begin, run_from, highest, highest_from}
+use Rattle.partial_path.specs.Walks.{run_from, highest, highest_from}
 use Rattle.partial_path.specs.Moved.{moved_edge, moved_start, moved}
 use Rattle.partial_path.specs.PathSets.{FileRules}
 use Rattle.partial_path.specs.Sources.{IsSourceFile, graphs_of}
 use Rattle.partial_path.specs.Cutting.{IsStoredIn, edges_in, path_edges, PathsLead, LeadFrom, edge_count, heights}
 use Rattle.partial_path.specs.Laws.{JoinedBounds}
 use Rattle.partial_path.proofs.SwappedRuns.{moved_rules_are_runs}
+use Rattle.partial_path.proofs.RunsOn.{highest-begins, highest_from-append}
 use Rattle.partial_path.proofs.Joints.{graph_there, stored_lands, stored_runs, begin_after, begin_before}
-
--- a run that goes on is as high as the higher of its parts
-
-twice : (n m : ℕ) → max n m ≡ max n (max n m)
-twice n m = omega arith
-
-once : (n : ℕ) → n ≡ max n n
-once n = omega arith
-
-regroup : (a b c d : ℕ) → d ≡ max b c → max a d ≡ max (max a b) c
-regroup a b c d h = omega arith
-
-highest-begins : (files : List Graph) (c : Config) (es : List EdgeAt) → highest files c es ≡ max (length c.stacks.symbols) (highest files c es)
-highest-begins files c [] = once (length c.stacks.symbols)
-highest-begins files c (e ∷ es) = twice (length c.stacks.symbols) (option_map_or (λ (next : Config). highest files next es) (step files c e) 0)
-
-highest-stepped : (files : List Graph) (n : ℕ) (es more : List EdgeAt) (d : Config)
-    → ((next : Config) → run files next es ≡ Some d → highest files next (es ++ more) ≡ max (highest files next es) (highest files d more))
-    → (o : Option Config) → option_and_then (λ (next : Config). run files next es) o ≡ Some d
-    → max n (option_map_or (λ (next : Config). highest files next (es ++ more)) o 0)
-    ≡ max (max n (option_map_or (λ (next : Config). highest files next es) o 0)) (highest files d more)
-highest-stepped files n es more d each None h = absurd (none-some d h)
-highest-stepped files n es more d each (Some next) h =
-    regroup n (highest files next es) (highest files d more) (highest files next (es ++ more)) (each next h)
-
-highest-append : (files : List Graph) (es more : List EdgeAt) (c d : Config) → run files c es ≡ Some d
-    → highest files c (es ++ more) ≡ max (highest files c es) (highest files d more)
-highest-append files [] more c d h =
-    highest-begins files c more
-    ∙ ap (λ (x : Config). max (length c.stacks.symbols) (highest files x more)) (same_Some c d h)
-highest-append files (e ∷ es) more c d h =
-    highest-stepped files (length c.stacks.symbols) es more d (λ next k. highest-append files es more next d k) (step files c e) h
-
-highest_from-append : (files : List Graph) (s : Start) (es more : List EdgeAt) (c d : Config) → run_from files s es c ≡ Some d
-    → highest_from files s (es ++ more) c ≡ max (highest_from files s es c) (highest files d more)
-highest_from-append files s es more c d h =
-    highest-stepped files (length c.stacks.symbols) es more d (λ first k. highest-append files es more first d k) (begin files s c) h
 
 -- the paths are as high as their run
 

@@ -1,9 +1,8 @@
 -- Stored paths that apply one after the other: they are a run, and each but the last ends with a cut edge.
-use Rattle.std.proofs.Common.{◌≡◌, ◌≢◌, refl, sym, ap, ◌∙◌, subst, ℕ, List, [], ◌∷◌, ◌++◌, map, Bool, true, false, Option, Some, None, if◌then◌else◌, arith}
+use Rattle.std.proofs.Common.{◌≡◌, ◌≢◌, refl, sym, ap, ◌∙◌, subst, ℕ, List, [], ◌∷◌, ◌++◌, map, Bool, true, false, Option, Some, None, if◌then◌else◌}
 use Rattle.std.specs.Prelude.{slice_get, All}
 use Rattle.std.specs.Option.{option_map, option_and_then}
 use Rattle.std.proofs.lemmas.Bool.{both_ways}
-use Rattle.std.proofs.lemmas.Bool.Decides.{nat_tests}
 use Rattle.std.proofs.lemmas.Option.{none-some, slice_get-map, slice_get_within, get_or_from_slice_get}
 use Rattle.std.proofs.lemmas.List.Elements.{All-from_recursion, All-contains}
 use Rattle.graph_nodes.specs.declared.node.Node.{Node}
@@ -12,8 +11,6 @@ use Rattle.graph_nodes.specs.Graph.{Graph, is_reference_kind}
 use Rattle.graph_nodes.specs.Whole.{node_of}
 use Rattle.stacks_vars.specs.declared.scopes.NodeAt.{NodeAt}
 use Rattle.stacks_vars.specs.Enter.{no_stacks}
-use Rattle.stacks_vars.specs.Same.{node_eq}
-use Rattle.partial_path.specs.declared.config.Spot.{Spot}
 use Rattle.partial_path.specs.declared.config.Spot.TheVariants as spot
 use Rattle.partial_path.specs.declared.config.Config.{Config}
 use Rattle.partial_path.specs.declared.config.EdgeAt.{EdgeAt}
@@ -21,7 +18,6 @@ use Rattle.partial_path.specs.declared.rule.Start.{Start}
 use Rattle.partial_path.specs.declared.rule.Start.TheVariants.{Before, After}
 use Rattle.partial_path.specs.Spots.{at_node}
 use Rattle.partial_path.specs.Step.{start, start_at, enter_node, enter_place, is_cut_edge}
-use Rattle.partial_path.specs.Same.{spot_eq}
 use Rattle.partial_path.specs.Runs.{run, IsClosed}
 use Rattle.partial_path.specs.Rules.{Rule}
 use Rattle.partial_path.specs.Apply.{apply}
@@ -32,7 +28,9 @@ use Rattle.partial_path.specs.Sources.{IsSourceFile, graphs_of}
 use Rattle.partial_path.specs.Cutting.{IsStoredIn, edges_in, path_edges, PathsLead}
 use Rattle.partial_path.specs.Laws.{PathsAreRuns}
 use Rattle.partial_path.proofs.SwappedRuns.{moved_rules_are_runs, moved_starts_are_starts}
-use Rattle.partial_path.proofs.Followed.{run-append, last_step, uncut_spot}
+use Rattle.partial_path.proofs.Equals.{spot_eq-refl}
+use Rattle.partial_path.proofs.RunsOn.{run_from-append}
+use Rattle.partial_path.proofs.Followed.{last_step, uncut_spot}
 
 -- the file at a place, its graph, and that it is a file of a source
 
@@ -98,27 +96,12 @@ joints_are_cut files s c end p q paths sources (stored, is, next, applied, other
 
 -- the paths are a run
 
-same_node : (a : NodeAt) → node_eq a a ≡ true
-same_node a = grind (arith, nat_tests)
-
-same_spot : (at : Spot) → spot_eq at at ≡ true
-same_spot spot.Root = refl
-same_spot (spot.At node) = same_node node
-
 -- after the spot where it stands, a configuration is the first one
 pub begin_after : (g : List Graph) (c : Config) → begin g (After c.spot) c ≡ Some c
-begin_after g c = ap (λ b. if b then Some c else None) (same_spot c.spot)
+begin_after g c = ap (λ b. if b then Some c else None) (spot_eq-refl c.spot)
 
 pub run_after : (g : List Graph) (es : List EdgeAt) (c : Config) → run_from g (After c.spot) es c ≡ run g c es
 run_after g es c = ap (option_and_then (λ (first : Config). run g first es)) (begin_after g c)
-
-pub run_from-append : (g : List Graph) (s : Start) (xs ys : List EdgeAt) (c : Config) → run_from g s (xs ++ ys) c ≡ option_and_then (λ (d : Config). run g d ys) (run_from g s xs c)
-run_from-append g s xs ys c = after (begin g s c)
-  where
-    after : (o : Option Config)
-        → option_and_then (λ (first : Config). run g first (xs ++ ys)) o ≡ option_and_then (λ (d : Config). run g d ys) (option_and_then (λ (first : Config). run g first xs) o)
-    after None = refl
-    after (Some first) = run-append g xs ys first
 
 -- a path that applies, and a run from where it landed
 longer_run : (files : List FileRules) (s : Start) (c next end : Config) (p : ℕ × Rule) (es : List EdgeAt) → All IsSourceFile files → IsStoredIn files p
@@ -156,7 +139,7 @@ pub start_entered : (g : List Graph) (r : NodeAt) (c : Config) → start g r ≡
 start_entered g r c h = started r (node_of g r.file r.node) c h
 
 pub begin_before : (g : List Graph) (r : NodeAt) (c : Config) → start g r ≡ Some c → begin g (Before r) (at_node r no_stacks) ≡ Some c
-begin_before g r c h = ap (λ b. if b then enter_place g r.file (place.At r.node) no_stacks else None) (same_node r) ∙ start_entered g r c h
+begin_before g r c h = ap (λ b. if b then enter_place g r.file (place.At r.node) no_stacks else None) (spot_eq-refl (spot.At r)) ∙ start_entered g r c h
 
 nil_left : (xs ys : List EdgeAt) → xs ++ ys ≡ [] → xs ≡ []
 nil_left [] ys h = refl

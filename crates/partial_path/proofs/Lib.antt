@@ -1,4 +1,7 @@
 pub mod Edges
+pub mod Positions
+pub mod Equals
+pub mod RunsOn
 pub mod Prefixes
 pub mod Cycles
 pub mod Firsts

@@ -1,5 +1,5 @@
 -- A run is cut into stored paths in one way alone.
-use Rattle.std.proofs.Common.{◌≡◌, ◌≢◌, refl, sym, ap, ◌∙◌, subst, ℕ, zero, suc, ◌+◌, ◌<◌, List, [], ◌∷◌, ◌++◌, map, length, get_or, arith, append_assoc, append-nil, ◌⊎◌, inl, inr}
+use Rattle.std.proofs.Common.{◌≡◌, ◌≢◌, refl, sym, ap, ◌∙◌, subst, ℕ, ◌+◌, List, [], ◌∷◌, ◌++◌, map, arith, append_assoc, append-nil, ◌⊎◌, inl, inr}
 use Rattle.std.specs.Prelude.{slice_get, All, Contains}
 use Rattle.std.specs.List.{AllByRecursion}
 use Rattle.std.proofs.lemmas.Bool.{both_ways}
@@ -13,7 +13,7 @@ use Rattle.partial_path.specs.declared.rule.Start.TheVariants.{Before, After}
 use Rattle.stacks_vars.specs.Enter.{no_stacks}
 use Rattle.partial_path.specs.Spots.{at_node}
 use Rattle.partial_path.specs.Step.{is_cut_edge}
-use Rattle.partial_path.specs.Runs.{IsApart, IsClosed}
+use Rattle.partial_path.specs.Runs.{IsClosed}
 use Rattle.partial_path.specs.Rules.{Rule}
 use Rattle.partial_path.specs.Apply.{apply}
 use Rattle.partial_path.specs.Walks.{IsUncut}
@@ -24,6 +24,8 @@ use Rattle.partial_path.specs.PathSets.{FileRules, walk_of_rule}
 use Rattle.partial_path.specs.Sources.{IsSourceFile, graphs_of}
 use Rattle.partial_path.specs.Cutting.{IsStoredIn, edges_in, path_edges, PathsLead}
 use Rattle.partial_path.specs.Laws.{CutsAreUnique, BeginningsAreCut}
+use Rattle.list_facts.proofs.Members.{IsIn-from_Contains}
+use Rattle.list_facts.proofs.Apart.{same_image}
 use Rattle.partial_path.proofs.Swaps.{IsZero}
 use Rattle.partial_path.proofs.MovedWalks.{edge_inside, edges_back, start_back, uncut_moved, inner_uncut}
 use Rattle.partial_path.proofs.Joints.{graph_there, source_there, stored_lands, joints_are_cut, edges_some}
@@ -57,29 +59,6 @@ split [] (y ∷ ys) more others h = inr (inl (y, ys, refl, h))
 split (x ∷ xs) [] more others h = inr (inr (x, xs, refl, sym h))
 split (x ∷ xs) (y ∷ ys) more others h = split_more x y xs ys more others (ap (first_or x) h) (split xs ys more others (ap rest h))
 
--- the element is one of the list
-abbrev IsIn : {X : Type 0} → X → List X → Type 0
-IsIn x [] = ⊥
-IsIn x (y ∷ ys) = (x ≡ y) ⊎ IsIn x ys
-
-is_in : {X : Type 0} (xs : List X) (x : X) (k : ℕ) → k < length xs → get_or xs k x ≡ x → IsIn x xs
-is_in [] x k lt is = absurd (omega (arith, lt))
-is_in (y ∷ xs) x zero lt is = inl (sym is)
-is_in (y ∷ xs) x (suc k) lt is = inr (is_in xs x k (omega (arith, lt)) is)
-
-apart_from : {X Y : Type 0} (f : X → Y) (x y : X) (xs : List X) → AllByRecursion (λ (z : Y). f x ≢ z) (map f xs) → IsIn y xs → f x ≡ f y → ⊥
-apart_from f x y [] apart h e = h
-apart_from f x y (z ∷ xs) apart (inl h) e = apart.0 (e ∙ ap f h)
-apart_from f x y (z ∷ xs) apart (inr h) e = apart_from f x y xs apart.1 h e
-
--- of a list that has each image once, elements with the same image are the same
-apart_same : {X Y : Type 0} (f : X → Y) (xs : List X) (x y : X) → IsApart (map f xs) → IsIn x xs → IsIn y xs → f x ≡ f y → x ≡ y
-apart_same f [] x y apart h k e = absurd h
-apart_same f (z ∷ xs) x y apart (inl h) (inl k) e = h ∙ sym k
-apart_same f (z ∷ xs) x y apart (inl h) (inr k) e = absurd (apart_from f z y xs apart.0 k (sym (ap f h) ∙ e))
-apart_same f (z ∷ xs) x y apart (inr h) (inl k) e = absurd (apart_from f z x xs apart.0 h (sym (ap f k) ∙ sym e))
-apart_same f (z ∷ xs) x y apart (inr h) (inr k) e = apart_same f xs x y apart.1 h k e
-
 -- two stored paths that begin at one start
 
 -- whose edges begin the same list are of one file
@@ -107,8 +86,8 @@ same_path files s p q sources ps qs is_p is_q file edges =
     let walked : p.1.edges ≡ q.1.edges =
     sym (edges_back p.0 p.1.edges (zeros_of files p sources ps)) ∙ ap (map edge_inside) edges ∙ edges_back q.0 q.1.edges (zeros_of files q sources qs) in
     let rules : p.1 ≡ q.1 =
-    apart_same walk_of_rule f.rules p.1 q.1 (source_there files p.0 f sources ps.1).sets.rules.once
-    (is_in f.rules p.1 ps.2.0 ps.2.1 ps.2.2) (is_in f.rules q.1 there.0 there.1 there.2) (λ i. record { start = starts i; edges = walked i }) in
+    same_image walk_of_rule f.rules p.1 q.1 (source_there files p.0 f sources ps.1).sets.rules.once
+    (IsIn-from_Contains f.rules p.1 ps.2) (IsIn-from_Contains f.rules q.1 there) (λ i. record { start = starts i; edges = walked i }) in
     λ i. (file i, rules i)
 
 -- the edges of a path that applies, with a path behind it, are not the first edges of a longer one

@@ -1,21 +1,13 @@
 -- A prefix of a counted run that ends with a cut edge is a closed and straight run.
-use Rattle.std.proofs.Common.{◌≡◌, ◌≢◌, List, [], ◌∷◌, ◌++◌, Option, Some, None, refl, ap, sym, ◌∙◌, IsSome, append_assoc}
-use Rattle.std.specs.List.{AllByRecursion}
+use Rattle.std.proofs.Common.{◌≡◌, List, [], ◌∷◌, ◌++◌, Option, Some, None, refl, ap, sym, ◌∙◌, IsSome, append_assoc}
 use Rattle.std.specs.Option.{option_map_or, option_and_then}
 use Rattle.graph_nodes.specs.Graph.{Graph}
 use Rattle.partial_path.specs.declared.config.Config.{Config}
 use Rattle.partial_path.specs.declared.config.EdgeAt.{EdgeAt}
 use Rattle.partial_path.specs.Step.{step}
-use Rattle.partial_path.specs.Runs.{run, after_cuts, where_cut, IsApart, IsStraight}
+use Rattle.partial_path.specs.Runs.{run, after_cuts, where_cut, IsStraight}
 use Rattle.partial_path.specs.Laws.{CutPrefixesAreClosed}
-
-all-prefix : {X : Type 0} (P : X → Type 0) (xs ys : List X) → AllByRecursion P (xs ++ ys) → AllByRecursion P xs
-all-prefix P [] ys h = tt
-all-prefix P (x ∷ xs) ys h = (h.0, all-prefix P xs ys h.1)
-
-pub IsApart-prefix : {X : Type 0} (xs ys : List X) → IsApart (xs ++ ys) → IsApart xs
-IsApart-prefix [] ys h = tt
-IsApart-prefix (x ∷ xs) ys h = (all-prefix (λ y. x ≢ y) xs ys h.0, IsApart-prefix xs ys h.1)
+use Rattle.list_facts.proofs.Apart.{IsApart-append_left}
 
 -- where a run goes on from a step, a prefix of it does
 run-prefix-at : (files : List Graph) (xs ys : List EdgeAt)
@@ -53,7 +45,7 @@ after_cuts-prefix files c (x ∷ xs) ys =
 pub IsStraight-prefix : (files : List Graph) (c : Config) (xs ys : List EdgeAt) → IsStraight files c (xs ++ ys) → IsStraight files c xs
 IsStraight-prefix files c xs ys h =
     let more = after_cuts-prefix files c xs ys in
-    IsApart-prefix (c ∷ after_cuts files c xs) more.0 (rw more.1 at h)
+    IsApart-append_left (c ∷ after_cuts files c xs) more.0 (rw more.1 at h)
 
 pub cut_prefixes : CutPrefixesAreClosed
 cut_prefixes files c before last after counted is_cut = record {

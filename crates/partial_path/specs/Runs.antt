@@ -1,7 +1,8 @@
--- Runs: lists of edges that can be followed one after the other, and what may be said of one.
-use Rattle.std.specs.Prelude.{◌≡◌, ◌≢◌, ℕ, ◌≤◌, List, [], ◌∷◌, ◌++◌, length, Option, Some, if◌then◌else◌, MatchOption, IsTrue, ⊤}
+-- Runs: lists of edges that can be followed one after the other, and what may be said of one. `IsApart` says of a
+-- list that no two of its elements are equal.
+use Rattle.std.specs.Prelude.{◌≡◌, ℕ, ◌≤◌, List, [], ◌∷◌, ◌++◌, length, Option, Some, if◌then◌else◌, MatchOption, IsTrue, ⊤}
 use Rattle.std.specs.Option.{option_and_then, option_map_or}
-use Rattle.std.specs.List.{AllByRecursion}
+pub use Rattle.list_facts.specs.Apart.{IsApart}
 use Rattle.graph_nodes.specs.Graph.{Graph}
 use Rattle.partial_path.specs.declared.config.Config.{Config}
 use Rattle.partial_path.specs.declared.config.EdgeAt.{EdgeAt}
@@ -23,11 +24,6 @@ abbrev pub after_cuts : List Graph → Config → List EdgeAt → List Config
 after_cuts files c [] = []
 after_cuts files c (e ∷ es) =
     option_map_or (λ (next : Config). where_cut files e next ++ after_cuts files next es) (step files c e) []
-
--- no two elements are equal
-abbrev pub IsApart : {X : Type 0} → List X → Type 0
-IsApart [] = ⊤
-IsApart {X} (x ∷ xs) = AllByRecursion (λ (y : X). x ≢ y) xs × IsApart xs
 
 -- straight: among the start and the configurations after the run's cut edges no two are equal
 abbrev pub IsStraight : List Graph → Config → List EdgeAt → Type 0

@@ -1,4 +1,4 @@
-ghost use Rattle.std.specs.Prelude.{◌≡◌, map, All, IfOk};
+ghost use Rattle.std.specs.Prelude.{◌≡◌, ℕ, map, option_map, All, IfOk, IfSome};
 ghost use Rattle.partial_path.specs.Moved.{moved, moved_node, moved_edge, moved_start, moved_end, moved_scopes, moved_symbol, moved_pre, moved_scopes_out, moved_symbol_out, moved_post, Fits, FitsNode, FitsEnd};
 ghost use Rattle.partial_path.specs.FileNumbers.{FitsFile, EdgeIn, StartIn, AskedIn, MadeIn, CanMove, FileZeroMoves};
 
@@ -25,9 +25,9 @@ impl PartialPath {
     {
         let start = moved_start(base, self.start());
         let end = moved_end(base, self.end());
-        let pre = moved_pre(alloc, base, self.pre())?;
-        let post = moved_post(alloc, base, self.post())?;
-        let edges = moved_edges(alloc, base, self.edges())?;
+        let pre = self.pre().moved(alloc, base)?;
+        let post = self.post().moved(alloc, base)?;
+        let edges = moved_list(alloc, base, self.edges())?.into_items();
         Ok(PartialPath::of(start, end, pre, post, self.peak(), edges))
     }
 }
@@ -54,112 +54,143 @@ fn moved_end(base: u32, end: End) -> End
     }
 }
 
-/// The edges with `base` added to their file's numbers.
-fn moved_edges(alloc: Global, base: u32, edges: &[EdgeAt]) -> Result<Vec<EdgeAt>, AllocError>
-    requires { All (EdgeIn (FitsFile base)) edges.now }
-    ensures { IfOk result (λ moved. moved.items ≡ map (moved_edge base) edges.now) }
-{
-    let mut moved = Vec::with_capacity(alloc, edges.len())?;
-    for edge in edges {
-        moved.push(EdgeAt {
-            file: base + edge.file,
-            edge: edge.edge,
-        })?;
-    }
-    Ok(moved)
+/// What names files, and can be moved to another place in a list of them.
+trait Moves: Drop {
+    ghost moved_by: { ℕ → Self → Self };
+
+    ghost fits: { ℕ → Self → Type 0 };
+
+    /// The same with `base` added to each file number. The one error is want of memory.
+    fn moved(&self, alloc: Global, base: u32) -> Result<Self, AllocError>
+        requires { fits base self.now }
+        ensures { IfOk result (λ moved. moved ≡ moved_by base self.now) };
 }
 
-/// The scopes with `base` added to their file's numbers.
-fn moved_nodes(alloc: Global, base: u32, nodes: &[NodeAt]) -> Result<Listed<NodeAt>, AllocError>
-    requires { All (FitsNode base) nodes.now }
-    ensures { IfOk result (λ moved. moved ≡ map (moved_node base) nodes.now) }
+/// Each of the items moved, in their order.
+fn moved_list<T: Moves>(alloc: Global, base: u32, items: &[T]) -> Result<Listed<T>, AllocError>
+    requires { All (T.fits base) items.now }
+    ensures { IfOk result (λ moved. moved ≡ map (T.moved_by base) items.now) }
 {
-    let mut moved = Vec::with_capacity(alloc, nodes.len())?;
-    for node in nodes {
-        moved.push(moved_node(base, *node))?;
+    let mut moved = Vec::with_capacity(alloc, items.len())?;
+    for item in items {
+        moved.push(item.moved(alloc, base)?)?;
     }
     Ok(Listed::of(moved))
 }
 
-/// What a moved path asks of the stacks.
-fn moved_pre(alloc: Global, base: u32, pre: &Pre) -> Result<Pre, AllocError>
-    requires symbols { All (AskedIn (FitsFile base)) pre.now.symbols }
-    requires scopes { All (FitsNode base) pre.now.scopes.fixed }
-    ensures { IfOk result (λ moved. moved ≡ moved_pre base pre.now) }
+/// The item moved, where there is one.
+fn moved_some<T: Moves>(alloc: Global, base: u32, item: &Option<T>) -> Result<Option<T>, AllocError>
+    requires { IfSome item.now (T.fits base) }
+    ensures { IfOk result (λ moved. moved ≡ option_map (T.moved_by base) item.now) }
 {
-    let mut symbols = Vec::with_capacity(alloc, pre.symbols.len())?;
-    for pat in pre.symbols.items() {
-        symbols.push(moved_symbol(alloc, base, pat)?)?;
+    match item {
+        Some(item) => Ok(Some(item.moved(alloc, base)?)),
+        None => Ok(None),
     }
-    Ok(Pre {
-        symbols: Listed::of(symbols),
-        scopes: moved_scopes(alloc, base, &pre.scopes)?,
-    })
+}
+
+impl Moves for NodeAt {
+    ghost moved_by = { moved_node };
+
+    ghost fits = { FitsNode };
+
+    fn moved(&self, _alloc: Global, base: u32) -> Result<NodeAt, AllocError> {
+        Ok(moved_node(base, *self))
+    }
+}
+
+impl Moves for EdgeAt {
+    ghost moved_by = { moved_edge };
+
+    ghost fits = { λ base. EdgeIn (FitsFile base) };
+
+    fn moved(&self, _alloc: Global, base: u32) -> Result<EdgeAt, AllocError> {
+        Ok(EdgeAt {
+            file: base + self.file,
+            edge: self.edge,
+        })
+    }
+}
+
+/// What a moved path asks of the stacks.
+impl Moves for Pre {
+    ghost moved_by = { moved_pre };
+
+    ghost fits = { λ base pre. All (AskedIn (FitsFile base)) pre.symbols × All (FitsNode base) pre.scopes.fixed };
+
+    fn moved(&self, alloc: Global, base: u32) -> Result<Pre, AllocError> {
+        Ok(Pre {
+            symbols: moved_list(alloc, base, self.symbols.items())?,
+            scopes: self.scopes.moved(alloc, base)?,
+        })
+    }
 }
 
 /// A symbol that a moved path asks for.
-fn moved_symbol(alloc: Global, base: u32, pat: &SymPat) -> Result<SymPat, AllocError>
-    requires { AskedIn (FitsFile base) pat.now }
-    ensures { IfOk result (λ moved. moved ≡ moved_symbol base pat.now) }
-{
-    let scopes = match &pat.scopes {
-        Some(scopes) => Some(moved_scopes(alloc, base, scopes)?),
-        None => None,
-    };
-    Ok(SymPat {
-        symbol: pat.symbol.copy()?,
-        scopes,
-    })
+impl Moves for SymPat {
+    ghost moved_by = { moved_symbol };
+
+    ghost fits = { λ base. AskedIn (FitsFile base) };
+
+    fn moved(&self, alloc: Global, base: u32) -> Result<SymPat, AllocError> {
+        Ok(SymPat {
+            symbol: self.symbol.copy()?,
+            scopes: moved_some(alloc, base, &self.scopes)?,
+        })
+    }
 }
 
 /// Scopes that a moved path asks for.
-fn moved_scopes(alloc: Global, base: u32, pat: &ScopePat) -> Result<ScopePat, AllocError>
-    requires { All (FitsNode base) pat.now.fixed }
-    ensures { IfOk result (λ moved. moved ≡ moved_scopes base pat.now) }
-{
-    Ok(ScopePat {
-        fixed: moved_nodes(alloc, base, pat.fixed.items())?,
-    })
+impl Moves for ScopePat {
+    ghost moved_by = { moved_scopes };
+
+    ghost fits = { λ base pat. All (FitsNode base) pat.fixed };
+
+    fn moved(&self, alloc: Global, base: u32) -> Result<ScopePat, AllocError> {
+        Ok(ScopePat {
+            fixed: moved_list(alloc, base, self.fixed.items())?,
+        })
+    }
 }
 
 /// What a moved path makes of the stacks.
-fn moved_post(alloc: Global, base: u32, post: &Post) -> Result<Post, AllocError>
-    requires symbols { All (MadeIn (FitsFile base)) post.now.symbols }
-    requires scopes { All (FitsNode base) post.now.scopes.scopes }
-    ensures { IfOk result (λ moved. moved ≡ moved_post base post.now) }
-{
-    let mut symbols = Vec::with_capacity(alloc, post.symbols.len())?;
-    for out in post.symbols.items() {
-        symbols.push(moved_symbol_out(alloc, base, out)?)?;
+impl Moves for Post {
+    ghost moved_by = { moved_post };
+
+    ghost fits = { λ base post. All (MadeIn (FitsFile base)) post.symbols × All (FitsNode base) post.scopes.scopes };
+
+    fn moved(&self, alloc: Global, base: u32) -> Result<Post, AllocError> {
+        Ok(Post {
+            symbols: moved_list(alloc, base, self.symbols.items())?,
+            scopes: self.scopes.moved(alloc, base)?,
+        })
     }
-    Ok(Post {
-        symbols: Listed::of(symbols),
-        scopes: moved_scopes_out(alloc, base, &post.scopes)?,
-    })
 }
 
 /// A symbol that a moved path makes.
-fn moved_symbol_out(alloc: Global, base: u32, out: &SymOut) -> Result<SymOut, AllocError>
-    requires { MadeIn (FitsFile base) out.now }
-    ensures { IfOk result (λ moved. moved ≡ moved_symbol_out base out.now) }
-{
-    let scopes = match &out.scopes {
-        Some(scopes) => Some(moved_scopes_out(alloc, base, scopes)?),
-        None => None,
-    };
-    Ok(SymOut {
-        symbol: out.symbol.copy()?,
-        scopes,
-    })
+impl Moves for SymOut {
+    ghost moved_by = { moved_symbol_out };
+
+    ghost fits = { λ base. MadeIn (FitsFile base) };
+
+    fn moved(&self, alloc: Global, base: u32) -> Result<SymOut, AllocError> {
+        Ok(SymOut {
+            symbol: self.symbol.copy()?,
+            scopes: moved_some(alloc, base, &self.scopes)?,
+        })
+    }
 }
 
 /// Scopes that a moved path makes.
-fn moved_scopes_out(alloc: Global, base: u32, out: &ScopeOut) -> Result<ScopeOut, AllocError>
-    requires { All (FitsNode base) out.now.scopes }
-    ensures { IfOk result (λ moved. moved ≡ moved_scopes_out base out.now) }
-{
-    Ok(ScopeOut {
-        scopes: moved_nodes(alloc, base, out.scopes.items())?,
-        tail: out.tail,
-    })
+impl Moves for ScopeOut {
+    ghost moved_by = { moved_scopes_out };
+
+    ghost fits = { λ base out. All (FitsNode base) out.scopes };
+
+    fn moved(&self, alloc: Global, base: u32) -> Result<ScopeOut, AllocError> {
+        Ok(ScopeOut {
+            scopes: moved_list(alloc, base, self.scopes.items())?,
+            tail: self.tail,
+        })
+    }
 }

@@ -2,8 +2,6 @@
 use Rattle.std.proofs.Common.{◌≡◌, ◌≤◌, refl, ap, ◌∙◌, sym, ℕ, suc, ◌+◌, ◌-◌, List, [], ◌∷◌, length, max, Bool, true, false, Option, Some, None, cond, arith}
 use Rattle.std.specs.Option.{option_and_then, option_map}
 use Rattle.std.specs.Str.{bytes_eq}
-use Rattle.std.proofs.lemmas.Bool.Decides.{same_from_decides, Decides-like}
-use Rattle.std.proofs.lemmas.Slice.Eq.{bytes_eq-Decides}
 use Rattle.stacks_vars.specs.declared.scopes.NodeAt.{NodeAt}
 use Rattle.stacks_vars.specs.declared.items.SymbolItem.{SymbolItem}
 use Rattle.stacks_vars.specs.declared.stacks.Stacks.{Stacks}
@@ -16,6 +14,7 @@ use Rattle.partial_path.specs.declared.rule.Start.{Start}
 use Rattle.partial_path.specs.declared.rule.End.{End}
 use Rattle.partial_path.specs.Rules.{IsRule}
 use Rattle.partial_path.specs.Apply.{Rests, rests_of, fill, rewrite}
+use Rattle.list_facts.proofs.Orders.{bytes_eq-sym}
 use Rattle.path_join.specs.Units.{asked_by, made_by, peak_by, entry_rule}
 
 pub entry-ruled : (start : Start) (end : End) (action : Action) (edges : List EdgeAt) → IsRule (entry_rule start end action edges)
@@ -36,10 +35,6 @@ peak-low (PushScoped symbol scope) = omega arith
 peak-low (Pop symbol) = omega arith
 peak-low (PopScoped symbol) = omega arith
 peak-low Drops = omega arith
-
--- a test of two symbols doesn't ask which comes first
-bytes_eq-sym : (a b : List ℕ) → bytes_eq a b ≡ bytes_eq b a
-bytes_eq-sym a b = same_from_decides (bytes_eq a b) (bytes_eq b a) (bytes_eq-Decides a b) (Decides-like (bytes_eq b a) (λ e. sym e) (λ e. sym e) (bytes_eq-Decides b a))
 
 -- the symbols of stacks that are there
 same_symbols : (s t : Stacks) → Some s ≡ Some t → s.symbols ≡ t.symbols

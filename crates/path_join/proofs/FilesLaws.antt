@@ -45,29 +45,44 @@ then_in : {X Y : Type 0} (P : X → Type 0) (Q : Y → Type 0) (o : Option X) (f
 then_in P Q None f h next = tt
 then_in P Q (Some x) f h next = next x h
 
+-- what there is of an option, or else what stands for nothing; and what is there of one that is mapped
+or_in : {X : Type 0} (P : X → Type 0) (nothing : X) → P nothing → (o : Option X) → IfSome o P → P (option_map_or (λ (x : X). x) o nothing)
+or_in P nothing h None k = h
+or_in P nothing h (Some x) k = k
+
+mapped_in : {X Y : Type 0} (P : X → Type 0) (Q : Y → Type 0) (f : X → Y) → ((x : X) → P x → Q (f x)) → (o : Option X) → IfSome o P → IfSome (option_map f o) Q
+mapped_in P Q f each None h = tt
+mapped_in P Q f each (Some x) h = each x h
+
 place_in_list : {X : Type 0} (P : X → Type 0) (xs : List X) (i : ℕ) → All P xs → IfSome (slice_get xs i) P
 place_in_list P [] i h = tt
 place_in_list P (x ∷ xs) zero h = All-head P x xs h
 place_in_list P (x ∷ xs) (suc i) h = place_in_list P xs i (All-tail P x xs h)
 
 module _ (F : ℕ → Type 0) where
-  -- scopes of files that meet the condition
+  -- scopes of files that meet the condition, those asked for and those made
   abbrev Scopes : List NodeAt → Type 0
   Scopes = All (NodeIn F)
+
+  abbrev PatIn : ScopePat → Type 0
+  PatIn pat = Scopes pat.fixed
+
+  abbrev OutIn : ScopeOut → Type 0
+  OutIn out = Scopes out.scopes
+
+  -- symbols that are made, each from one
+  made_all : (f : SymOut → SymOut) → ((out : SymOut) → MadeIn F out → MadeIn F (f out)) → (outs : List SymOut) → All (MadeIn F) outs → All (MadeIn F) (map f outs)
+  made_all f each outs o = All-map (MadeIn F) f outs (All-weaker (MadeIn F) (λ (out : SymOut). MadeIn F (f out)) each outs o)
 
   -- what is known of the variables
   record KnownIn (known : Rests) : Type 0 where
     front : Scopes known.front
     items : All Scopes known.items
 
-  or_none : (o : Option (List NodeAt)) → IfSome o Scopes → Scopes (option_map_or (λ (scopes : List NodeAt). scopes) o [])
-  or_none None h = All-nil (NodeIn F)
-  or_none (Some scopes) h = h
-
   tail_in : (known : Rests) → KnownIn known → (tail : Tail) → Scopes (tail_scopes known tail)
   tail_in known h Nil = All-nil (NodeIn F)
   tail_in known h Front = h.front
-  tail_in known h (Item i) = or_none (slice_get known.items i) (place_in_list Scopes known.items i h.items)
+  tail_in known h (Item i) = or_in Scopes [] (All-nil (NodeIn F)) (slice_get known.items i) (place_in_list Scopes known.items i h.items)
 
   past_in : (fixed there : List NodeAt) → Scopes fixed → IfSome (past fixed there) Scopes
   past_in [] there h = All-nil (NodeIn F)
@@ -133,34 +148,18 @@ module _ (F : ℕ → Type 0) where
   asked_in ByStack (spot.At node) fixed s f = All-cons (NodeIn F) node fixed s f
 
   -- what is handed on, and what is written with what is known
-  handed_one : (i : ℕ) (pat : Option ScopePat) → IfSome pat (λ (s : ScopePat). Scopes s.fixed)
-      → IfSome (option_map (handed_scopes i) pat) (λ (s : ScopeOut). Scopes s.scopes)
-  handed_one i None h = tt
-  handed_one i (Some pat) h = h
-
   handed_in : (i : ℕ) (pats : List SymPat) → All (AskedIn F) pats → All (MadeIn F) (handed i pats)
   handed_in i [] h = All-nil (MadeIn F)
   handed_in i (pat ∷ pats) h =
-      All-cons (MadeIn F) (handed_symbol i pat) (handed (suc i) pats) (handed_one i pat.scopes (All-head (AskedIn F) pat pats h))
+      All-cons (MadeIn F) (handed_symbol i pat) (handed (suc i) pats) (mapped_in PatIn OutIn (handed_scopes i) (λ s k. k) pat.scopes (All-head (AskedIn F) pat pats h))
       (handed_in (suc i) pats (All-tail (AskedIn F) pat pats h))
 
   grown_in : (known : Rests) → KnownIn known → (out : ScopeOut) → Scopes out.scopes → Scopes (fill_scopes known out)
   grown_in known h out o = All-append (NodeIn F) out.scopes (tail_scopes known out.tail) o (tail_in known h out.tail)
 
-  grown_one : (known : Rests) → KnownIn known → (out : Option ScopeOut) → IfSome out (λ (s : ScopeOut). Scopes s.scopes)
-      → IfSome (option_map (grown_scopes known) out) (λ (s : ScopeOut). Scopes s.scopes)
-  grown_one known h None o = tt
-  grown_one known h (Some out) o = grown_in known h out o
-
   grown_all : (known : Rests) → KnownIn known → (outs : List SymOut) → All (MadeIn F) outs → All (MadeIn F) (map (grown_symbol known) outs)
   grown_all known h outs o =
-      All-map (MadeIn F) (grown_symbol known) outs
-      (All-weaker (MadeIn F) (λ (out : SymOut). MadeIn F (grown_symbol known out)) (λ (out : SymOut). grown_one known h out.scopes) outs o)
-
-  longer_one : (more : List NodeAt) → Scopes more → (pat : Option ScopePat) → IfSome pat (λ (s : ScopePat). Scopes s.fixed)
-      → IfSome (option_map (longer_scopes more) pat) (λ (s : ScopePat). Scopes s.fixed)
-  longer_one more m None h = tt
-  longer_one more m (Some pat) h = All-append (NodeIn F) pat.fixed more h m
+      made_all (grown_symbol known) (λ (out : SymOut). mapped_in OutIn OutIn (grown_scopes known) (grown_in known h) out.scopes) outs o
 
   longer_in : (pats : List SymPat) → All (AskedIn F) pats → (lists : List (List NodeAt)) → All Scopes lists
       → All (AskedIn F) (longer_symbols pats lists)
@@ -168,13 +167,10 @@ module _ (F : ℕ → Type 0) where
   longer_in (pat ∷ pats) h [] l = All-nil (AskedIn F)
   longer_in (pat ∷ pats) h (more ∷ lists) l =
       All-cons (AskedIn F) (longer_symbol pat more) (longer_symbols pats lists)
-      (longer_one more (All-head Scopes more lists l) pat.scopes (All-head (AskedIn F) pat pats h))
+      (mapped_in PatIn PatIn (longer_scopes more) (λ s k. All-append (NodeIn F) s.fixed more k (All-head Scopes more lists l)) pat.scopes (All-head (AskedIn F) pat pats h))
       (longer_in pats (All-tail (AskedIn F) pat pats h) lists (All-tail Scopes more lists l))
 
   -- what the second path's variables stand for
-  abbrev OutIn : ScopeOut → Type 0
-  OutIn out = Scopes out.scopes
-
   record BoundIn (bound : Bound) : Type 0 where
     front : OutIn bound.front
     items : All OutIn bound.items
@@ -196,26 +192,17 @@ module _ (F : ℕ → Type 0) where
       (bound_one known h pat.scopes out.scopes (All-head (MadeIn F) out outs o))
       (bound_all known h pats outs (All-tail (MadeIn F) out outs o))
 
-  or_no_scopes : (o : Option ScopeOut) → IfSome o OutIn → OutIn (option_map_or (λ (out : ScopeOut). out) o no_scopes)
-  or_no_scopes None h = All-nil (NodeIn F)
-  or_no_scopes (Some out) h = h
-
   bound_tail_in : (bound : Bound) → BoundIn bound → (tail : Tail) → OutIn (bound_tail bound tail)
   bound_tail_in bound h Nil = All-nil (NodeIn F)
   bound_tail_in bound h Front = h.front
-  bound_tail_in bound h (Item i) = or_no_scopes (slice_get bound.items i) (place_in_list OutIn bound.items i h.items)
+  bound_tail_in bound h (Item i) = or_in OutIn no_scopes (All-nil (NodeIn F)) (slice_get bound.items i) (place_in_list OutIn bound.items i h.items)
 
   put_in : (bound : Bound) → BoundIn bound → (out : ScopeOut) → OutIn out → OutIn (put_scopes bound out)
   put_in bound h out o = All-append (NodeIn F) out.scopes (bound_tail bound out.tail).scopes o (bound_tail_in bound h out.tail)
 
-  put_one : (bound : Bound) → BoundIn bound → (out : Option ScopeOut) → IfSome out OutIn → IfSome (option_map (put_scopes bound) out) OutIn
-  put_one bound h None o = tt
-  put_one bound h (Some out) o = put_in bound h out o
-
   put_all : (bound : Bound) → BoundIn bound → (outs : List SymOut) → All (MadeIn F) outs → All (MadeIn F) (map (put_symbol bound) outs)
   put_all bound h outs o =
-      All-map (MadeIn F) (put_symbol bound) outs
-      (All-weaker (MadeIn F) (λ (out : SymOut). MadeIn F (put_symbol bound out)) (λ (out : SymOut). put_one bound h out.scopes) outs o)
+      made_all (put_symbol bound) (λ (out : SymOut). mapped_in OutIn OutIn (put_scopes bound) (put_in bound h) out.scopes) outs o
 
   wide_pre_in : (p q : Rule) → RuleIn F p → RuleIn F q → All (AskedIn F) (wide_pre p q)
   wide_pre_in p q h k =

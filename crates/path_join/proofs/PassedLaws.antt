@@ -11,9 +11,6 @@ use Rattle.stacks_vars.specs.declared.patterns.Pre.{Pre}
 use Rattle.stacks_vars.specs.declared.patterns.Tail.{Tail}
 use Rattle.stacks_vars.specs.declared.patterns.Tail.TheVariants.{Nil, Front, Item}
 use Rattle.stacks_vars.specs.Enter.{stacks_of, item_of}
-use Rattle.stacks_vars.proofs.SameLaws.{node_eq-Decides}
-use Rattle.partial_path.specs.declared.config.Spot.{Spot}
-use Rattle.partial_path.specs.declared.config.Spot.TheVariants as spot
 use Rattle.partial_path.specs.declared.config.Config.{Config}
 use Rattle.partial_path.specs.declared.rule.End.{End}
 use Rattle.partial_path.specs.declared.rule.End.TheVariants.{At, ByStack}
@@ -21,6 +18,7 @@ use Rattle.partial_path.specs.Spots.{node_at}
 use Rattle.partial_path.specs.Same.{spot_eq}
 use Rattle.partial_path.specs.Rules.{Rule, has_scopes, start_spot}
 use Rattle.partial_path.specs.Apply.{tail_scopes, end_at, apply}
+use Rattle.partial_path.proofs.Equals.{spot_eq-refl}
 use Rattle.path_join.specs.Joining.{can_end}
 use Rattle.path_join.proofs.AndLaws.{and_both, and_second}
 use Rattle.path_join.proofs.BeginsLaws.{begins, begins_itself}
@@ -55,10 +53,6 @@ example-items (pat ∷ pats) =
     (and_both (bytes_eq pat.symbol pat.symbol) (meets_attached pat.scopes (option_map with_one pat.scopes))
     ((bytes_eq-Decides pat.symbol pat.symbol).1 refl) (example-attached pat.scopes))
     (example-items pats)
-
-spot_eq-refl : (a : Spot) → spot_eq a a ≡ true
-spot_eq-refl spot.Root = refl
-spot_eq-refl (spot.At a) = (node_eq-Decides a a).1 refl
 
 example-passes : (rule : Rule) → passes rule (example rule) ≡ true
 example-passes rule =

@@ -1,17 +1,13 @@
 -- Pairs of which no two have the same document, and one more.
-use Rattle.std.specs.Prelude.{◌≡◌, ℕ, cond, true, false, Bool, refl, List, [], ◌∷◌, ◌++◌, ◌&&◌, Option, None, Some}
+use Rattle.std.specs.Prelude.{◌≡◌, cond, true, false, Bool, refl, List, [], ◌∷◌, ◌++◌, ◌&&◌, Option, None, Some}
 use Rattle.std.specs.Str.{bytes_eq}
-use Rattle.std.proofs.Common.{ap, sym, ◌∙◌}
-use Rattle.std.proofs.lemmas.Bool.Decides.{same_from_decides, Decides-like}
-use Rattle.std.proofs.lemmas.Slice.Eq.{bytes_eq-Decides}
+use Rattle.std.proofs.Common.{ap, ◌∙◌}
+use Rattle.list_facts.proofs.Orders.{bytes_eq-sym}
 use Rattle.path_store.specs.Documents.{Doc, same_doc}
 use Rattle.path_store.specs.Store.{Kept, find_doc, AreDistinct}
 
-bytes_eq_flips : (xs ys : List ℕ) → bytes_eq xs ys ≡ bytes_eq ys xs
-bytes_eq_flips xs ys = same_from_decides (bytes_eq xs ys) (bytes_eq ys xs) (bytes_eq-Decides xs ys) (Decides-like (bytes_eq ys xs) sym sym (bytes_eq-Decides ys xs))
-
 pub same_doc_flips : (a b : Doc) → same_doc a b ≡ same_doc b a
-same_doc_flips a b = ap (λ p. p && bytes_eq a.bytes b.bytes) (bytes_eq_flips a.path b.path) ∙ ap (λ q. bytes_eq b.path a.path && q) (bytes_eq_flips a.bytes b.bytes)
+same_doc_flips a b = ap (λ p. p && bytes_eq a.bytes b.bytes) (bytes_eq-sym a.path b.path) ∙ ap (λ q. bytes_eq b.path a.path && q) (bytes_eq-sym a.bytes b.bytes)
 
 -- nothing is found: not the first, and none after it
 pub not_first : {X : Type 0} (s : Bool) (x : X) (o : Option X) → cond s (Some x) o ≡ None → (s ≡ false) × (o ≡ None)

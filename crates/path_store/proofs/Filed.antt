@@ -1,9 +1,10 @@
 -- The numbers of the pairs of one digest, and what is found by them.
-use Rattle.std.specs.Prelude.{◌≡◌, ℕ, ◌+◌, ◌-◌, cond, true, false, Bool, refl, List, [], ◌∷◌, ◌++◌, ◌&&◌, length, Option, None, Some}
+use Rattle.std.specs.Prelude.{◌≡◌, ℕ, ◌+◌, ◌-◌, cond, true, false, Bool, refl, List, [], ◌∷◌, ◌++◌, length, Option, None, Some}
 use Rattle.std.specs.List.{slice_get}
 use Rattle.std.specs.Option.{option_or}
 use Rattle.std.specs.Str.{bytes_eq}
 use Rattle.std.proofs.Common.{ap, sym, ◌∙◌, arith}
+use Rattle.std.proofs.lemmas.Bool.{and_parts}
 use Rattle.std.proofs.lemmas.Slice.Eq.{bytes_eq-Decides}
 use Rattle.std.proofs.lemmas.List.{append_assoc}
 use Rattle.std.proofs.lemmas.List.{length-append}
@@ -13,11 +14,8 @@ use Rattle.path_store.specs.Store.{Kept, find_doc}
 use Rattle.path_store.specs.Buckets.{numbers_of}
 use Rattle.path_store.specs.Inside.{paths_for, found_at}
 
-pub both : (a b : Bool) → (a && b) ≡ true → (a ≡ true) × (b ≡ true)
-both true b h = (refl, h)
-both false b h = search h
-
-doc_path : (a b : Doc) → a.path ≡ b.path → a.bytes ≡ b.bytes → a ≡ b
+-- documents with the same path and bytes are one
+pub doc_path : (a b : Doc) → a.path ≡ b.path → a.bytes ≡ b.bytes → a ≡ b
 doc_path a b e f = λ i. record { path = e i; bytes = f i }
 
 same_parts : (a b : Doc) → a.path ≡ b.path → a.bytes ≡ b.bytes → digest_of a ≡ digest_of b
@@ -26,7 +24,7 @@ same_parts a b e f = ap digest_of (doc_path a b e f)
 -- the same document has the same digest
 pub same_digest : (a b : Doc) → same_doc a b ≡ true → bytes_eq (digest_of a) (digest_of b) ≡ true
 same_digest a b h =
-    let parts = both (bytes_eq a.path b.path) (bytes_eq a.bytes b.bytes) h in
+    let parts = and_parts (bytes_eq a.path b.path) (bytes_eq a.bytes b.bytes) h in
     (bytes_eq-Decides (digest_of a) (digest_of b)).1 (same_parts a b ((bytes_eq-Decides a.path b.path).0 parts.0) ((bytes_eq-Decides a.bytes b.bytes).0 parts.1))
 
 -- the pair at the end of the first ones

@@ -1,32 +1,25 @@
 -- What is found is kept, and what is kept is found.
-use Rattle.std.specs.Prelude.{◌≡◌, ◌≢◌, ◌≤◌, ℕ, nat_le, cond, true, false, Bool, refl, List, [], ◌∷◌, ◌++◌, ◌&&◌, Option, None, Some}
-use Rattle.std.specs.Bool.{⊤}
-use Rattle.std.specs.Option.{MatchOption}
+use Rattle.std.specs.Prelude.{◌≡◌, ◌≢◌, ◌≤◌, ℕ, nat_le, cond, true, false, Bool, refl, List, [], ◌∷◌, ◌++◌, Option, None, Some}
 use Rattle.std.specs.List.{AllByRecursion}
 use Rattle.std.specs.Str.{bytes_eq}
 use Rattle.std.proofs.Common.{ap, sym, ◌∙◌, subst, true≢false, arith}
 use Rattle.std.proofs.lemmas.Bool.Decides.{nat_tests}
+use Rattle.std.proofs.lemmas.Bool.{and_parts, and_from}
+use Rattle.std.proofs.lemmas.Option.{none-some, same_Some}
 use Rattle.std.proofs.lemmas.Slice.Eq.{bytes_eq-Decides}
 use Rattle.partial_path.specs.PathSets.{FileRules}
 use Rattle.path_store.specs.Documents.{Doc, same_doc}
 use Rattle.path_store.specs.Store.{StandsIn, IsEndOf, Kept, kept_of, find_doc, AreDistinct, cost_of, swept}
 use Rattle.path_store.proofs.Apart.{not_first, still_none, same_doc_flips}
-use Rattle.path_store.proofs.Filed.{both}
-
-doc_path : (a b : Doc) → a.path ≡ b.path → a.bytes ≡ b.bytes → a ≡ b
-doc_path a b e f = λ i. record { path = e i; bytes = f i }
+use Rattle.path_store.proofs.Filed.{doc_path}
 
 one_doc : (a b : Doc) → same_doc a b ≡ true → a ≡ b
 one_doc a b h =
-    let parts = both (bytes_eq a.path b.path) (bytes_eq a.bytes b.bytes) h in
+    let parts = and_parts (bytes_eq a.path b.path) (bytes_eq a.bytes b.bytes) h in
     doc_path a b ((bytes_eq-Decides a.path b.path).0 parts.0) ((bytes_eq-Decides a.bytes b.bytes).0 parts.1)
 
-itself : (p q : Bool) → p ≡ true → q ≡ true → (p && q) ≡ true
-itself true q h e = e
-itself false q h e = search h
-
 pub same_itself : (a : Doc) → same_doc a a ≡ true
-same_itself a = itself (bytes_eq a.path a.path) (bytes_eq a.bytes a.bytes) ((bytes_eq-Decides a.path a.path).1 refl) ((bytes_eq-Decides a.bytes a.bytes).1 refl)
+same_itself a = and_from (bytes_eq a.path a.path) (bytes_eq a.bytes a.bytes) ((bytes_eq-Decides a.path a.path).1 refl) ((bytes_eq-Decides a.bytes a.bytes).1 refl)
 
 same_from : (a b : Doc) → a ≡ b → same_doc a b ≡ true
 same_from a b e = subst (λ (c : Doc). same_doc a c ≡ true) e (same_itself a)
@@ -46,21 +39,15 @@ pub not_found : (doc : Doc) (ks : List Kept) → AllByRecursion (λ k. k.doc ≢
 not_found doc [] h = refl
 not_found doc (k ∷ ks) h = still_none (same_doc k.doc doc) k.paths (find_doc doc ks) (apart k.doc doc h.0 (same_doc k.doc doc) (one_doc k.doc doc)) (not_found doc ks h.1)
 
-none_some : (p : FileRules) → None ≡ Some p → ⊥
-none_some p h = subst (λ (o : Option FileRules). MatchOption o ⊤ (λ _. ⊥)) h tt
-
-some_paths : (p q : FileRules) → Some p ≡ Some q → p ≡ q
-some_paths p q h = search h
-
 pair_path : (k : Kept) (doc : Doc) (paths : FileRules) → k.doc ≡ doc → k.paths ≡ paths → k ≡ kept_of doc paths
 pair_path k doc paths e f = λ i. record { doc = e i; paths = f i }
 
 found_by : (doc : Doc) (paths : FileRules) (k : Kept) (ks : List Kept) (s : Bool) → (s ≡ true → k.doc ≡ doc) → cond s (Some k.paths) (find_doc doc ks) ≡ Some paths → (find_doc doc ks ≡ Some paths → StandsIn doc paths ks) → StandsIn doc paths (k ∷ ks)
-found_by doc paths k ks true is h later = ([], ks, ap (λ (x : Kept). x ∷ ks) (pair_path k doc paths (is refl) (some_paths k.paths paths h)))
+found_by doc paths k ks true is h later = ([], ks, ap (λ (x : Kept). x ∷ ks) (pair_path k doc paths (is refl) (same_Some k.paths paths h)))
 found_by doc paths k ks false is h later = let rest = later h in (k ∷ rest.0, rest.1, ap (λ xs. k ∷ xs) rest.2)
 
 pub found : (doc : Doc) (paths : FileRules) (ks : List Kept) → find_doc doc ks ≡ Some paths → StandsIn doc paths ks
-found doc paths [] h = absurd (none_some paths h)
+found doc paths [] h = absurd (none-some paths h)
 found doc paths (k ∷ ks) h = found_by doc paths k ks (same_doc k.doc doc) (one_doc k.doc doc) h (found doc paths ks)
 
 -- none of the pairs is found, so neither is one among them

@@ -12,8 +12,10 @@ use Rattle.version_tree.specs.Contents.{FileRow, file_row, IsInOrder, HaveSets, 
 use Rattle.version_tree.specs.Verdict.{weight_of}
 use Rattle.version_tree.specs.Places.{beside, IsRowWith}
 use Rattle.version_tree.specs.Blocks.{IsBlock, all_rows, AreBlocks, IsBlockFor}
-use Rattle.version_tree.proofs.Parts.{all-left, all-right, all-append, filter-short, with-part, without-part, has-part, HasSet}
-use Rattle.version_tree.proofs.Place.{split_at}
+use Rattle.list_facts.proofs.Each.{all-left, all-right, all-append}
+use Rattle.list_facts.proofs.Tests.{filter-short}
+use Rattle.version_tree.proofs.Parts.{with-part, without-part, has-part, HasSet}
+use Rattle.list_facts.proofs.Halving.{split_at}
 use Rattle.version_tree.proofs.Weights.{weight-append}
 use Rattle.version_tree.proofs.Joined.{rows-append, rows-parts, slice_get-left, slice_get-right}
 

@@ -1,72 +1,63 @@
 -- What rows are with a row and without one, by the place that the search found.
-use Rattle.std.proofs.Common.{◌≡◌, ℕ, ◌+◌, ◌<◌, List, [], ◌∷◌, ◌++◌, take, drop, set, length, get_or, zero, suc, arith, true, false, Some, None, ap, sym, ◌∙◌, subst, add-one}
+use Rattle.std.proofs.Common.{◌≡◌, ℕ, ◌+◌, List, [], ◌∷◌, ◌++◌, take, drop, set, get_or, true, false, Some, None, ap, sym, ◌∙◌, subst}
 use Rattle.std.specs.List.{AllByRecursion, insert, remove}
-use Rattle.std.specs.declared.cmp.Ordering.TheVariants.{Less, Equal, Greater}
-use Rattle.std.proofs.lemmas.List.{take-append-drop}
+use Rattle.std.specs.List.Sorted.{IsNonDecreasingBy}
+use Rattle.std.specs.declared.cmp.Ordering.TheVariants.{Less, Equal}
 use Rattle.std.specs.Option.{option_map}
 use Rattle.std.proofs.lemmas.Option.{slice_get-get_or, slice_get_within, get_or_from_slice_get}
-use Rattle.std.specs.Ordering.{is_eq}
-use Rattle.version_tree.specs.Views.{path_at, file_at, file_with}
+use Rattle.std.specs.Ordering.{is_eq, ordering_index}
+use Rattle.list_facts.specs.Places.{IsAt, IsGapFor}
+use Rattle.list_facts.proofs.Halving.{split_at, set-parts}
+use Rattle.list_facts.proofs.Pairs.{Pairs-before}
+use Rattle.list_facts.proofs.Sets.{only-part, only-one}
+use Rattle.list_facts.proofs.SetPlaces.{set-searchable}
+use Rattle.list_facts.proofs.SetPlaces as sets
+use Rattle.list_facts.proofs.Tests.{none-kept}
 use Rattle.partial_path.specs.PathSets.{FileRules}
+use Rattle.version_tree.specs.Views.{path_at, file_at, file_with}
 use Rattle.version_tree.specs.Contents.{FileRow, file_row, path_cmp, IsInOrder, has_path, with_row, without_row}
-use Rattle.version_tree.specs.Places.{beside, IsAt, IsGapFor, IsRowWith}
-use Rattle.version_tree.proofs.Order.{less_flipped, same_path, tied}
-use Rattle.version_tree.proofs.Parts.{each, all-right, none-kept, IsLow, IsHigh, with-part, without-part, has-part, only-part, with-one, without-one, has-one, only-one}
-use Rattle.version_tree.proofs.Place.{split_at}
+use Rattle.version_tree.specs.Places.{beside, IsRowWith}
+use Rattle.version_tree.proofs.Order.{path_total, same_path, tied}
+use Rattle.version_tree.proofs.Parts.{Comes, IsLow, IsHigh}
 
-pub set-parts : {X : Type 0} (xs : List X) (i : ℕ) (x : X) → i < length xs → set xs i x ≡ take i xs ++ x ∷ drop (i + 1) xs
-set-parts [] i x lt = absurd (omega arith)
-set-parts (y ∷ ys) zero x lt = cc
-set-parts (y ∷ ys) (suc i) x lt = let e : suc i + 1 ≡ suc (i + 1) = omega arith in rw e (ap (λ r. y ∷ r) (set-parts ys i x (omega arith)))
+-- rows in order can be searched by halving
+pub searchable : (path : List ℕ) (rows : List FileRow) → IsInOrder rows → IsNonDecreasingBy (λ (row : FileRow). ordering_index (beside path row)) rows
+searchable path rows up = set-searchable path_total (λ (row : FileRow). row.path) path rows up
 
--- what stands before a row and after it, in order
+-- what stands before a row, in order
 pub before-row : (f b : List FileRow) (row : FileRow) → IsInOrder (f ++ row ∷ b) → AllByRecursion (λ (early : FileRow). path_cmp early.path row.path ≡ Less) f
-before-row [] b row up = tt
-before-row (early ∷ f) b row up = ((all-right (λ (later : FileRow). path_cmp early.path later.path ≡ Less) f (row ∷ b) up.0).0, before-row f b row up.1)
-
-pub after-row : (f b : List FileRow) (row : FileRow) → IsInOrder (f ++ row ∷ b) → AllByRecursion (λ (later : FileRow). path_cmp row.path later.path ≡ Less) b
-after-row [] b row up = up.0
-after-row (early ∷ f) b row up = after-row f b row up.1
+before-row f b row up = Pairs-before Comes row f b up
 
 module _ (path : List ℕ) (f b : List FileRow) (row : FileRow) (tie : beside path row ≡ Equal) where
   pub low-before : IsInOrder (f ++ row ∷ b) → IsLow path f
-  low-before up = subst (λ (p : List ℕ). AllByRecursion (λ (early : FileRow). path_cmp early.path p ≡ Less) f) (same_path row.path path tie) (before-row f b row up)
+  low-before up = sets.low-before path_total (λ (row : FileRow). row.path) path row f b tie up
 
   pub high-after : IsInOrder (f ++ row ∷ b) → IsHigh path b
-  high-after up = each (λ (later : FileRow). path_cmp row.path later.path ≡ Less) (λ (later : FileRow). beside path later ≡ Greater)
-      (λ later e. less_flipped path later.path (ap (λ p. path_cmp p later.path) (sym (same_path row.path path tie)) ∙ e)) b (after-row f b row up)
+  high-after up = sets.high-after path_total (λ (row : FileRow). row.path) path row f b tie up
 
 module _ (path : List ℕ) (rows : List FileRow) (i : ℕ) where
+  pub at-has : IsAt (beside path) rows i → has_path path rows ≡ true
+  at-has place = sets.at-has path_total (λ (row : FileRow). row.path) path rows i place
+
   module _ (place : IsAt (beside path) rows i) (up : IsInOrder rows) where
-    low : IsLow path (take i rows)
-    low = low-before path (take i rows) (drop (i + 1) rows) place.item place.tie (subst IsInOrder place.split up)
-
-    high : IsHigh path (drop (i + 1) rows)
-    high = high-after path (take i rows) (drop (i + 1) rows) place.item place.tie (subst IsInOrder place.split up)
-
-    pub at-has : has_path path rows ≡ true
-    at-has = ap (has_path path) place.split ∙ has-part path (take i rows) (place.item ∷ []) (drop (i + 1) rows) low high ∙ has-one path place.item place.tie
-
     pub at-with : (file : FileRules) → with_row path file rows ≡ take i rows ++ file_row path file ∷ drop (i + 1) rows
-    at-with file = ap (with_row path file) place.split ∙ with-part path (take i rows) (place.item ∷ []) (drop (i + 1) rows) low high file
-        ∙ ap (λ r. take i rows ++ (r ++ drop (i + 1) rows)) (with-one path file place.item place.tie)
+    at-with file = sets.at-with path_total (λ (row : FileRow). row.path) path rows i place up (file_row path file)
 
     pub at-parts : without_row path rows ≡ take i rows ++ drop (i + 1) rows
-    at-parts = ap (without_row path) place.split ∙ without-part path (take i rows) (place.item ∷ []) (drop (i + 1) rows) low high
-        ∙ ap (λ r. take i rows ++ (r ++ drop (i + 1) rows)) (without-one path place.item place.tie)
+    at-parts = sets.at-parts path_total (λ (row : FileRow). row.path) path rows i place up
 
     pub at-without : without_row path rows ≡ remove rows i
-    at-without = at-parts ∙ (λ j. take i rows ++ drop (add-one i j) rows)
+    at-without = sets.at-without path_total (λ (row : FileRow). row.path) path rows i place up
 
   module _ (gap : IsGapFor (beside path) rows i) where
     pub gap-has : has_path path rows ≡ false
-    gap-has = ap (has_path path) (sym (take-append-drop i rows)) ∙ has-part path (take i rows) [] (drop i rows) gap.before gap.after
+    gap-has = sets.gap-has path_total (λ (row : FileRow). row.path) path rows i gap
 
     pub gap-with : (file : FileRules) → with_row path file rows ≡ insert rows i (file_row path file)
-    gap-with file = ap (with_row path file) (sym (take-append-drop i rows)) ∙ with-part path (take i rows) [] (drop i rows) gap.before gap.after file
+    gap-with file = sets.gap-with path_total (λ (row : FileRow). row.path) path rows i gap (file_row path file)
 
     pub gap-without : without_row path rows ≡ rows
-    gap-without = ap (without_row path) (sym (take-append-drop i rows)) ∙ without-part path (take i rows) [] (drop i rows) gap.before gap.after ∙ take-append-drop i rows
+    gap-without = sets.gap-without path_total (λ (row : FileRow). row.path) path rows i gap
 
 -- a row in place of one with its path, and a row that goes where there is none
 pub put-at : (row : FileRow) (path : List ℕ) (rows : List FileRow) (i : ℕ) → path ≡ row.path → IsAt (beside path) rows i → IsInOrder rows → set rows i row ≡ with_row row.path row.file rows
@@ -101,8 +92,8 @@ file-found path rows row up found =
     let up-split = subst IsInOrder split up in
     ap (file_with path) split
     ∙ ap (λ (rs : List FileRow). file_at rs 0)
-    (only-part path (take i rows) (row ∷ []) (drop (i + 1) rows) (low-before path (take i rows) (drop (i + 1) rows) row tie up-split) (high-after path (take i rows) (drop (i + 1) rows) row tie up-split)
-    ∙ only-one path row tie)
+    (only-part (beside path) (take i rows) (row ∷ []) (drop (i + 1) rows) (low-before path (take i rows) (drop (i + 1) rows) row tie up-split) (high-after path (take i rows) (drop (i + 1) rows) row tie up-split)
+    ∙ only-one (beside path) row tie)
 
 pub file-absent : (path : List ℕ) (rows : List FileRow) → has_path path rows ≡ false → file_with path rows ≡ None
 file-absent path rows e = ap (λ (rs : List FileRow). file_at rs 0) (none-kept (λ (row : FileRow). is_eq (path_cmp row.path path)) rows e)

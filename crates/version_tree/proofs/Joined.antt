@@ -1,19 +1,21 @@
 -- Rows in blocks: the block that a path goes to, and what all rows are with a row and without one, by that block.
 use Rattle.std.proofs.Common.{◌≡◌, ℕ, zero, suc, ◌+◌, ◌-◌, ◌<◌, ◌≤◌, List, [], ◌∷◌, ◌++◌, length, get_or, take, drop, arith, ap, sym, ◌∙◌, subst, add-one, nat_eq, false, slice_get, Some, None, inl, inr, length-append}
 use Rattle.std.specs.List.{AllByRecursion}
-use Rattle.std.specs.Ordering.{is_lt, ordering_index}
+use Rattle.std.specs.Ordering.{ordering_index}
 use Rattle.std.specs.List.Sorted.{IsNonDecreasingBy}
 use Rattle.std.specs.declared.cmp.Ordering.TheVariants.{Less, Equal, Greater}
 use Rattle.std.proofs.lemmas.List.{take_more, take-append-drop, at_drop_more, drop_all, get_or_append_left, get_or-append-add}
 use Rattle.std.proofs.lemmas.Option.{slice_get_within, slice_get-get_or, get_or_from_slice_get, slice_get_cases, slice_get_past}
 use Rattle.std.proofs.lemmas.List.Concat.{flat_map-append}
-use Rattle.std.proofs.lemmas.List.Sorted.{searchable_from_sorted}
 use Rattle.version_tree.specs.Contents.{FileRow, path_cmp, IsInOrder, HaveSets, AreRows}
-use Rattle.version_tree.specs.Places.{beside, IsAt, IsGapFor}
+use Rattle.list_facts.specs.Places.{IsAt, IsGapFor}
+use Rattle.version_tree.specs.Places.{beside}
 use Rattle.version_tree.specs.Blocks.{IsBlock, all_rows, AreBlocks, first_path, first_beside, IsBlockFor}
 use Rattle.version_tree.proofs.Order.{path_total, less_flipped, greater_flipped}
-use Rattle.version_tree.proofs.Parts.{each, all-left, all-right, IsLow, IsHigh, HasSet}
-use Rattle.version_tree.proofs.Place.{split_at}
+use Rattle.list_facts.proofs.Each.{each, all-left, all-right}
+use Rattle.list_facts.proofs.Pairs.{Pairs-right, Pairs-take, Pairs-drop}
+use Rattle.version_tree.proofs.Parts.{Comes, IsLow, IsHigh, HasSet}
+use Rattle.list_facts.proofs.Halving.{split_at, searchable}
 use Rattle.version_tree.proofs.Found.{before-row, low-before, high-after}
 
 -- the rows of blocks in parts
@@ -23,16 +25,11 @@ rows-append f b = flat_map-append (λ (block : List FileRow). block) f b
 pub rows-parts : (f m b : List (List FileRow)) → all_rows (f ++ (m ++ b)) ≡ all_rows f ++ (all_rows m ++ all_rows b)
 rows-parts f m b = rows-append f (m ++ b) ∙ ap (λ r. all_rows f ++ r) (rows-append m b)
 
-pub order-left : (f b : List FileRow) → IsInOrder (f ++ b) → IsInOrder f
-order-left [] b up = tt
-order-left (row ∷ f) b up = (all-left (λ (later : FileRow). path_cmp row.path later.path ≡ Less) f b up.0, order-left f b up.1)
-
 pub order-right : (f b : List FileRow) → IsInOrder (f ++ b) → IsInOrder b
-order-right [] b up = up
-order-right (row ∷ f) b up = order-right f b up.1
+order-right f b up = Pairs-right Comes f b up
 
 pub order-take : (n : ℕ) (rows : List FileRow) → IsInOrder rows → IsInOrder (take n rows)
-order-take n rows up = order-left (take n rows) (drop n rows) (subst IsInOrder (sym (take-append-drop n rows)) up)
+order-take n rows up = Pairs-take Comes n rows up
 
 pub sets-take : (n : ℕ) (rows : List FileRow) → HaveSets rows → HaveSets (take n rows)
 sets-take n rows sets = all-left HasSet (take n rows) (drop n rows) (subst HaveSets (sym (take-append-drop n rows)) sets)
@@ -41,7 +38,7 @@ pub sets-drop : (n : ℕ) (rows : List FileRow) → HaveSets rows → HaveSets (
 sets-drop n rows sets = all-right HasSet (take n rows) (drop n rows) (subst HaveSets (sym (take-append-drop n rows)) sets)
 
 pub order-drop : (n : ℕ) (rows : List FileRow) → IsInOrder rows → IsInOrder (drop n rows)
-order-drop n rows up = order-right (take n rows) (drop n rows) (subst IsInOrder (sym (take-append-drop n rows)) up)
+order-drop n rows up = Pairs-drop Comes n rows up
 
 pub rows-take : (n : ℕ) (rows : List FileRow) → AreRows rows → AreRows (take n rows)
 rows-take n rows kept = record { order = order-take n rows kept.order; sets = sets-take n rows kept.sets }
@@ -93,8 +90,7 @@ rising ((r ∷ rs) ∷ (q ∷ qs) ∷ blocks) sizes up (suc k) d lt =
     rw e (rising ((q ∷ qs) ∷ blocks) sizes.1 (order-right rs (q ∷ (qs ++ all_rows blocks)) up.1) k d (omega arith))
 
 pub blocks-searchable : (path : List ℕ) (blocks : List (List FileRow)) → AreBlocks blocks → IsNonDecreasingBy (λ (b : List FileRow). ordering_index (first_beside path b)) blocks
-blocks-searchable path blocks sound = searchable_from_sorted path_total first_path blocks path
-    (λ k d low lt. ap is_lt (less_flipped (first_path (get_or blocks k d)) (first_path (get_or blocks (k + 1) d)) (rising blocks sound.sizes sound.order k d lt)))
+blocks-searchable path blocks sound = searchable path_total first_path blocks path (rising blocks sound.sizes sound.order)
 
 -- before a row at or below the path all are lower, and from one above it on all are higher
 low-under : (path : List ℕ) (f b : List FileRow) (row : FileRow) → beside path row ≡ Less → IsInOrder (f ++ row ∷ b) → IsLow path f

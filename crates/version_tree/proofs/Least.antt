@@ -5,10 +5,12 @@ use Rattle.std.specs.List.Sorted.{IsPermutation}
 use Rattle.std.specs.Ordering.{is_lt, is_eq}
 use Rattle.std.specs.declared.cmp.Ordering.{Ordering}
 use Rattle.std.specs.declared.cmp.Ordering.TheVariants.{Less, Equal, Greater}
-use Rattle.std.proofs.lemmas.Bool.{or_cases, or_left, or_right, cond-false}
+use Rattle.std.proofs.lemmas.Bool.{or_cases, or_left, or_right}
 use Rattle.std.proofs.lemmas.List.Sorted.{list_any-IsPermutation}
 use Rattle.version_tree.specs.Contents.{path_cmp}
 use Rattle.version_tree.specs.Verdict.{lesser, least}
+use Rattle.list_facts.proofs.Orders.{is_tie, is_less}
+use Rattle.list_facts.proofs.Tests.{none-kept}
 use Rattle.version_tree.proofs.Order.{path_total, tied, less_flipped, greater_flipped, same_path}
 
 pub or-false : (a b : Bool) → a || b ≡ false → (a ≡ false) × (b ≡ false)
@@ -25,21 +27,11 @@ has m zs = list_any (λ (z : List ℕ). is_eq (path_cmp z m)) zs
 abbrev pub low : List ℕ → List (List ℕ) → Bool
 low m zs = list_any (λ (z : List ℕ). is_lt (path_cmp z m)) zs
 
-tie : (o : Ordering) → is_eq o ≡ true → o ≡ Equal
-tie Less e = cc
-tie Equal e = refl
-tie Greater e = cc
-
-pub lt-less : (o : Ordering) → is_lt o ≡ true → o ≡ Less
-lt-less Less e = refl
-lt-less Equal e = cc
-lt-less Greater e = cc
-
 -- a test that a member passes, some one passes
 pub any-at : (u : List ℕ → Bool) (m : List ℕ) (zs : List (List ℕ)) → has m zs ≡ true → u m ≡ true → list_any u zs ≡ true
 any-at u m [] h e = cc
 any-at u m (z ∷ zs) h e = elim (or_cases (is_eq (path_cmp z m)) (has m zs) h) as (λ _. list_any u (z ∷ zs) ≡ true) [
-  | inl here ↦ or_left _ _ (ap u (same_path z m (tie (path_cmp z m) here)) ∙ e)
+  | inl here ↦ or_left _ _ (ap u (same_path z m (is_tie (path_cmp z m) here)) ∙ e)
   | inr there ↦ or_right _ _ (any-at u m zs there e)
 ]
 
@@ -56,7 +48,7 @@ below : (o z y : List ℕ) → is_lt (path_cmp o z) ≡ false → is_lt (path_cm
 below o z y e l = by (path_cmp z o) refl
   where
     by : (c : Ordering) → path_cmp z o ≡ c → is_lt (path_cmp y o) ≡ true
-    by Less is = ap is_lt (path_total.trans y z o (lt-less (path_cmp y z) l) is)
+    by Less is = ap is_lt (path_total.trans y z o (is_less (path_cmp y z) l) is)
     by Equal is = subst (λ (p : List ℕ). is_lt (path_cmp y p) ≡ true) (same_path z o is) l
     by Greater is = let f : is_lt (path_cmp o z) ≡ true = ap is_lt (greater_flipped z o is) in cc
 
@@ -77,7 +69,7 @@ abbrev Facts : List ℕ → List (List ℕ) → Type 0
 Facts m zs = (has m zs ≡ true) × (low m zs ≡ false)
 
 step : (z o : List ℕ) (zs : List (List ℕ)) → Facts o zs → (b : Bool) → is_lt (path_cmp o z) ≡ b → Facts (cond b o z) (z ∷ zs)
-step z o zs f true e = (or_right _ _ f.0, or-falses _ _ (unlow o z (lt-less (path_cmp o z) e)) f.1)
+step z o zs f true e = (or_right _ _ f.0, or-falses _ _ (unlow o z (is_less (path_cmp o z) e)) f.1)
 step z o zs f false e = (self-has z zs, self-low z zs (any-weaker (λ (y : List ℕ). is_lt (path_cmp y z)) (λ (y : List ℕ). is_lt (path_cmp y o)) (λ y l. below o z y e l) zs f.1))
 
 -- the facts of the least, where there is one
@@ -123,10 +115,6 @@ pub any-filter : (t u : List ℕ → Bool) (xs : List (List ℕ)) → list_any u
 any-filter t u [] = refl
 any-filter t u (x ∷ xs) = one-filter u x (filter t xs) (t x) _ (any-filter t u xs)
 
-none-empty : (t : List ℕ → Bool) (xs : List (List ℕ)) → list_any t xs ≡ false → filter t xs ≡ []
-none-empty t [] e = refl
-none-empty t (x ∷ xs) e = let parts = or-false (t x) (list_any t xs) e in cond-false (t x) _ _ parts.0 ∙ none-empty t xs parts.1
-
 one-empty : (x : List ℕ) (rest : List (List ℕ)) (b : Bool) → cond b (x ∷ rest) rest ≡ [] → (b ≡ false) × (rest ≡ [])
 one-empty x rest true e = (cc, cc)
 one-empty x rest false e = (refl, e)
@@ -142,6 +130,6 @@ least-permutation t xs ys moved = by (least (filter t ys)) refl
     alike u = any-filter t u xs ∙ list_any-IsPermutation (λ (x : List ℕ). t x && u x) xs ys moved ∙ sym (any-filter t u ys)
 
     by : (o : Option (List ℕ)) → least (filter t ys) ≡ o → least (filter t xs) ≡ o
-    by None e = ap least (none-empty t xs (list_any-IsPermutation t xs ys moved ∙ empty-none t ys (empty-least (filter t ys) e)))
+    by None e = ap least (none-kept t xs (list_any-IsPermutation t xs ys moved ∙ empty-none t ys (empty-least (filter t ys) e)))
     by (Some m) e = let f = some-least (filter t ys) m e in
         least-some (filter t xs) m (alike (λ (z : List ℕ). is_eq (path_cmp z m)) ∙ f.0) (alike (λ (z : List ℕ). is_lt (path_cmp z m)) ∙ f.1)

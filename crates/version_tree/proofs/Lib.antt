@@ -1,5 +1,4 @@
 pub mod Order
-pub mod Place
 pub mod Parts
 pub mod Found
 pub mod Weights

@@ -1,6 +1,6 @@
 -- What a pass over edits makes of rules, one edit after the other.
-use Rattle.std.proofs.Common.{◌≡◌, ℕ, ◌+◌, ◌<◌, List, [], ◌∷◌, length, get_or, drop, Bool, true, false, cond, not, ◌||◌, Option, None, Some, refl, ap, sym, ◌∙◌}
-use Rattle.std.specs.List.{filter, list_any}
+use Rattle.std.proofs.Common.{◌≡◌, ℕ, ◌+◌, ◌<◌, List, [], ◌∷◌, length, get_or, drop, false, Option, None, Some, refl, ap, sym, ◌∙◌}
+use Rattle.std.specs.List.{list_any}
 use Rattle.std.specs.Option.{option_map}
 use Rattle.std.specs.Ordering.{is_eq}
 use Rattle.std.proofs.lemmas.List.{at_drop_more}
@@ -11,20 +11,14 @@ use Rattle.version_tree.specs.declared.edit.Edit.TheVariants.{Put, Remove, Grant
 use Rattle.version_tree.specs.declared.edit.EditFault.{EditFault}
 use Rattle.version_tree.specs.Contents.{FileRow, ruled, rowed}
 use Rattle.version_tree.specs.Verdict.{first_of, misses_grant, misses_deny, grant_absent, deny_absent, no_grant, no_deny}
+use Rattle.list_facts.proofs.Tests.{others-kept}
+use Rattle.version_tree.proofs.Least.{or-false}
 use Rattle.version_tree.specs.Passes.{is_of_rules, ruled_all, rowed_all, rule_fault}
-
-one_other : (p q : Pair) (ps : List Pair) (b : Bool) → b || list_any (λ (r : Pair). is_eq (pair_cmp r p)) ps ≡ false → (list_any (λ (r : Pair). is_eq (pair_cmp r p)) ps ≡ false → filter (λ (r : Pair). not (is_eq (pair_cmp r p))) ps ≡ ps) → cond (not b) (q ∷ filter (λ (r : Pair). not (is_eq (pair_cmp r p))) ps) (filter (λ (r : Pair). not (is_eq (pair_cmp r p))) ps) ≡ q ∷ ps
-one_other p q ps true e rest = cc
-one_other p q ps false e rest = ap (λ r. q ∷ r) (rest e)
-
-others : (p : Pair) (ps : List Pair) → list_any (λ (q : Pair). is_eq (pair_cmp q p)) ps ≡ false → filter (λ (q : Pair). not (is_eq (pair_cmp q p))) ps ≡ ps
-others p [] e = refl
-others p (q ∷ ps) e = one_other p q ps (is_eq (pair_cmp q p)) e (others p ps)
 
 -- a set without a pair that it hasn't
 pub without-absent : (p : Pair) (ps : List Pair) → has_pair p ps ≡ false → without_pair p ps ≡ ps
 unfolding has_pair without_pair
-without-absent p ps e = others p ps e
+without-absent p ps e = others-kept (λ (q : Pair). is_eq (pair_cmp q p)) ps e
 
 pub undeny-absent : (rules : Rules) (edit : Edit) (user prefix user' prefix' : List ℕ) → edit ≡ Undeny user prefix → user' ≡ user → prefix' ≡ prefix → has_pair (pair user' prefix') rules.denied ≡ false → rules ≡ ruled edit rules
 undeny-absent rules edit user prefix user' prefix' is u p e =
@@ -74,10 +68,6 @@ unruled-edit (Grant user prefix) rules e = cc
 unruled-edit (Revoke user prefix) rules e = cc
 unruled-edit (Deny user prefix) rules e = cc
 unruled-edit (Undeny user prefix) rules e = cc
-
-or-false : (a b : Bool) → a || b ≡ false → (a ≡ false) × (b ≡ false)
-or-false true b e = cc
-or-false false b e = (refl, e)
 
 -- what edits of files alone make of rules, and what they miss
 pub record AreUnruled (edits : List Edit) (rules : Rules) : Type 0 where

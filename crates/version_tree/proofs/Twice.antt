@@ -14,7 +14,8 @@ use Rattle.version_tree.specs.Contents.{path_cmp}
 use Rattle.version_tree.specs.Verdict.{lesser, least, stands_twice}
 use Rattle.version_tree.specs.Repeats.{repeat_from}
 use Rattle.version_tree.proofs.Order.{path_total, tied, less_flipped, greater_flipped, same_path}
-use Rattle.version_tree.proofs.Parts.{each, dropped, none, all-filter}
+use Rattle.list_facts.proofs.Each.{each, all_hold, all-filter}
+use Rattle.list_facts.proofs.Tests.{dropped, none}
 use Rattle.version_tree.proofs.Least.{least-permutation, some-least, no-any}
 
 abbrev pub IsAscending : List (List ℕ) → Type 0
@@ -28,17 +29,13 @@ filter-same : (s t : List ℕ → Bool) (xs : List (List ℕ)) → AllByRecursio
 filter-same s t [] h = refl
 filter-same s t (x ∷ xs) h = λ i. cond (h.0 i) (x ∷ filter-same s t xs h.1 i) (filter-same s t xs h.1 i)
 
-all-paths : (P : List ℕ → Type 0) → ((p : List ℕ) → P p) → (xs : List (List ℕ)) → AllByRecursion P xs
-all-paths P h [] = tt
-all-paths P h (x ∷ xs) = (h x, all-paths P h xs)
-
 -- the same paths stand twice in any order
 count-same : (p : List ℕ) (xs ys : List (List ℕ)) → IsPermutation xs ys → length (filter (eqs p) xs) ≡ length (filter (eqs p) ys)
 count-same p xs ys moved = length-filter (eqs p) xs ∙ sym (sum_by-IsPermutation (λ (x : List ℕ). cond (eqs p x) 1 0) xs ys moved) ∙ sym (length-filter (eqs p) ys)
 
 pub twice-permutation : (xs ys : List (List ℕ)) → IsPermutation xs ys → least (filter (stands_twice xs) xs) ≡ least (filter (stands_twice ys) ys)
 twice-permutation xs ys moved =
-    ap least (filter-same (stands_twice xs) (stands_twice ys) xs (all-paths (λ (p : List ℕ). stands_twice xs p ≡ stands_twice ys p) (λ p. ap (λ n. nat_lt 1 n) (count-same p xs ys moved)) xs))
+    ap least (filter-same (stands_twice xs) (stands_twice ys) xs (all_hold (λ (p : List ℕ). stands_twice xs p ≡ stands_twice ys p) (λ p. ap (λ n. nat_lt 1 n) (count-same p xs ys moved)) xs))
     ∙ least-permutation (stands_twice ys) xs ys moved
 
 -- a path lower than all of these stands among them no time, and lower than each it changes no count

@@ -5,7 +5,8 @@ use Rattle.std.proofs.lemmas.List.Sums.{sum_by-append}
 use Rattle.partial_path.specs.PathSets.{FileRules}
 use Rattle.version_tree.specs.Contents.{FileRow, file_row, IsInOrder, with_row, without_row}
 use Rattle.version_tree.specs.Verdict.{weight_of}
-use Rattle.version_tree.specs.Places.{beside, IsAt, IsGapFor}
+use Rattle.list_facts.specs.Places.{IsAt, IsGapFor}
+use Rattle.version_tree.specs.Places.{beside}
 use Rattle.version_tree.proofs.Found.{at-with, at-parts, gap-with, gap-without}
 
 pub weight-append : (xs ys : List FileRow) → weight_of (xs ++ ys) ≡ weight_of xs + weight_of ys

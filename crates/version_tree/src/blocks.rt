@@ -37,7 +37,8 @@ impl Blocks {
     ghost use Rattle.partial_path.specs.PathSets.{FileRules};
     ghost use Rattle.version_tree.specs.Contents.{AreRows, IsInOrder, has_path, with_row, without_row, covered};
     ghost use Rattle.version_tree.specs.Verdict.{weight_of};
-    ghost use Rattle.version_tree.specs.Places.{IsAt, IsGapFor, IsRowWith};
+    ghost use Rattle.list_facts.specs.Places.{IsAt, IsGapFor};
+    ghost use Rattle.version_tree.specs.Places.{IsRowWith};
     ghost use Rattle.version_tree.specs.Blocks.{AreBlocks, IsBlockFor, all_rows, first_beside};
     ghost use Rattle.version_tree.specs.Limits.{block_rows};
 

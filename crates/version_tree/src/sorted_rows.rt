@@ -25,7 +25,8 @@ impl SortedRows {
     ghost use Rattle.version_tree.specs.Contents.{FileRow, AreRows, has_path, with_row, without_row, covered};
     ghost use Rattle.version_tree.specs.Verdict.{weight_of};
     ghost use Rattle.partial_path.specs.PathSets.{FileRules};
-    ghost use Rattle.version_tree.specs.Places.{beside, IsAt, IsGapFor, IsRowWith};
+    ghost use Rattle.list_facts.specs.Places.{IsAt, IsGapFor};
+    ghost use Rattle.version_tree.specs.Places.{beside, IsRowWith};
 
     /// No rows. It takes no memory.
     pub(crate) fn new(alloc: Global) -> SortedRows

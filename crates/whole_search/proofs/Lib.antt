@@ -1,6 +1,3 @@
-pub mod Apart
-pub mod Equals
-pub mod Members
 pub mod MetComplete
 pub mod MetCounted
 pub mod MetRuns

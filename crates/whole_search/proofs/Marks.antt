@@ -8,58 +8,19 @@ use Rattle.std.proofs.lemmas.Option.{none-some, same_Some}
 use Rattle.graph_nodes.specs.Graph.{Graph, is_exported, has_place}
 use Rattle.graph_nodes.specs.Checked.{IsChecked}
 use Rattle.graph_nodes.specs.Cut.{turns_between, turns_at, is_turning, is_cut}
-use Rattle.graph_nodes.specs.Out.{place_eq, where_passes, positions_from, edges_from}
+use Rattle.graph_nodes.specs.Out.{place_eq, edges_from}
 use Rattle.graph_nodes.specs.declared.node.Edge.{Edge}
 use Rattle.graph_nodes.specs.declared.node.Place.{Place}
 use Rattle.graph_nodes.specs.declared.node.Place.TheVariants as place
 use Rattle.partial_path.proofs.Edges.{has_sink}
 use Rattle.whole_search.specs.Leads.{is_landing, LeadsBy, CanLand, mark_at, leads_on, leads_by}
-use Rattle.whole_search.proofs.Members.{IsIn, IsIn-append_cases, passing_member, list_any-from_member}
-use Rattle.whole_search.proofs.Outs.{IsIn-positions_from}
+use Rattle.list_facts.proofs.Members.{passing_member, list_any-from_member}
+use Rattle.partial_path.proofs.Positions.{IsIn-edges_from, leaves_from}
 
 -- the last nodes, so many of them, have marks that say whether edges lead from them to a place to land at
 abbrev pub AreMarksFrom : Graph → List Bool → ℕ → Type 0
 AreMarksFrom g marks done =
     (n : ℕ) → length g.nodes ≤ n + done → n < length g.nodes → IsTrue (mark_at marks n) ↔ CanLand g n
-
--- an edge of that position and source, where it is among those that leave the place
-abbrev pub Leaves : Graph → Place → ℕ → Type 0
-Leaves g at k = (edge : Edge) × (slice_get g.edges k ≡ Some edge) × (place_eq edge.source at ≡ true)
-
--- the element at that position, counted from `at`, passes
-abbrev PassesAt : {X : Type 0} → (X → Bool) → ℕ → List X → ℕ → Type 0
-PassesAt {X} test at xs n = (k : ℕ) × (x : X) × (n ≡ at + k) × (slice_get xs k ≡ Some x) × (test x ≡ true)
-
-passing_here : {X : Type 0} (test : X → Bool) (at n : ℕ) (y : X) (ys : List X) (b : Bool) → test y ≡ b → IsIn n (where_passes b at) → PassesAt test at (y ∷ ys) n
-passing_here test at n y ys true t (inl e) = (0, y, omega (arith, e), refl, t)
-passing_here test at n y ys true t (inr h) = absurd h
-passing_here test at n y ys false t h = absurd h
-
-passing_later : {X : Type 0} (test : X → Bool) (at n : ℕ) (y : X) (ys : List X) → PassesAt test (at + 1) ys n → PassesAt test at (y ∷ ys) n
-passing_later test at n y ys h = let e : n ≡ (at + 1) + h.0 = h.2 in (suc h.0, h.1, omega arith, h.3, h.4)
-
-passing_either : {X : Type 0} (test : X → Bool) (at n : ℕ) (y : X) (ys : List X) → (IsIn n (positions_from test (at + 1) ys) → PassesAt test (at + 1) ys n) → IsIn n (where_passes (test y) at) ⊎ IsIn n (positions_from test (at + 1) ys) → PassesAt test at (y ∷ ys) n
-passing_either test at n y ys again (inl g) = passing_here test at n y ys (test y) refl g
-passing_either test at n y ys again (inr g) = passing_later test at n y ys (again g)
-
-passing_from : {X : Type 0} (test : X → Bool) (at : ℕ) (xs : List X) (n : ℕ) → IsIn n (positions_from test at xs) → PassesAt test at xs n
-passing_from test at [] n h = absurd h
-passing_from test at (y ∷ ys) n h =
-    passing_either test at n y ys (λ g. passing_from test (at + 1) ys n g)
-    (IsIn-append_cases n (where_passes (test y) at) (positions_from test (at + 1) ys) h)
-
--- what is among the edges that leave a place is an edge that leaves it
-pub leaves_from : (g : Graph) (at : Place) (k : ℕ) → IsIn k (edges_from g at) → Leaves g at k
-leaves_from g at k h =
-    let p = passing_from (λ (e : Edge). place_eq e.source at) 0 g.edges k h in
-    let same : p.0 ≡ k = let e : k ≡ 0 + p.0 = p.2 in omega arith in
-    (p.1, subst (λ n. slice_get g.edges n ≡ Some p.1) same p.3, p.4)
-
--- an edge that leaves a place is among those that leave it
-among : (g : Graph) (at : Place) (k : ℕ) (edge : Edge) → slice_get g.edges k ≡ Some edge → place_eq edge.source at ≡ true → IsIn k (edges_from g at)
-among g at k edge h t =
-    let e : 0 + k ≡ k = omega arith in
-    subst (λ n. IsIn n (edges_from g at)) e (IsIn-positions_from (λ (x : Edge). place_eq x.source at) 0 g.edges k edge h t)
 
 node_place : (source : Place) (n : ℕ) → place_eq source (place.At n) ≡ true → source ≡ place.At n
 node_place place.Root n t = absurd (false≢true t)
@@ -150,7 +111,7 @@ leads_tell g checked marks n right = (to, from)
     by [] h = absurd h
     by (k ∷ es) h =
         list_any-from_member (leads_by g marks) k (edges_from g (place.At n))
-        (among g (place.At n) k h.0 h.1 (ap (λ (p : Place). place_eq p (place.At n)) h.2 ∙ eq-eqb n n refl))
+        (IsIn-edges_from g (place.At n) k h.0 h.1 (ap (λ (p : Place). place_eq p (place.At n)) h.2 ∙ eq-eqb n n refl))
         (leads_by-found g marks k h.0 h.1
         ∙ sink_marked g marks n k h.0 right h.1 h.2 h.0.sink refl (has_sink g k h.0 checked h.1) (next_of h.0 es h.3))
 

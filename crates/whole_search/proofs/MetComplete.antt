@@ -13,7 +13,8 @@ use Rattle.shadowing.specs.Shadow.{shadows, is_shadowed, unshadowed}
 use Rattle.whole_search.specs.declared.found.Hit.{Hit}
 use Rattle.whole_search.specs.Answers.{path_of, EndsAt, IsUnshadowed, IsDefinitionFrom, IsRising, AreDefinitions}
 use Rattle.whole_search.specs.Walk.{is_bounded, completes, met_runs, IsLive, is_bounded_complete, ends_cut}
-use Rattle.whole_search.proofs.Members.{IsIn, IsIn-filter, IsIn-filter_from, IsIn-map, IsIn-map_from, IsIn-from_Contains, Contains-from_IsIn, passing_member, list_any-from_member}
+use Rattle.list_facts.specs.Members.{IsIn}
+use Rattle.list_facts.proofs.Members.{IsIn-filter, IsIn-filter_from, IsIn-map, IsIn-map_from, IsIn-from_Contains, Contains-from_IsIn, passing_member, list_any-from_member}
 use Rattle.whole_search.proofs.Reflect.{is_bounded_decides, counted_from, complete_from, completes_from}
 use Rattle.whole_search.proofs.Reached.{IsIn-met_runs}
 use Rattle.whole_search.proofs.MetCounted.{met_runs-sound}

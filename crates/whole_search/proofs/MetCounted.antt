@@ -11,8 +11,10 @@ use Rattle.partial_path.specs.declared.bounds.TheConstants.{MAX_RUNS}
 use Rattle.partial_path.specs.Runs.{run, IsStraight, IsApart}
 use Rattle.partial_path.specs.Counted.{IsBoundedCounted, IsCrowded, HasLimit}
 use Rattle.whole_search.specs.Walk.{is_bounded, completes, lands, longest, meets, met_runs, IsLive, is_bounded_counted, is_past_bounds, is_bounded_complete}
-use Rattle.whole_search.proofs.Members.{IsIn, IsIn-append_left, IsIn-filter, IsIn-filter_from, each_member, at_member, passing_member, list_any-from_member, filter-none}
-use Rattle.whole_search.proofs.Apart.{IsApart-append_left, IsApart-filter, length-apart_le}
+use Rattle.list_facts.specs.Members.{IsIn}
+use Rattle.list_facts.proofs.Members.{IsIn-append_left, IsIn-filter, IsIn-filter_from, each_member, at_member, passing_member, list_any-from_member, filter-none}
+use Rattle.list_facts.proofs.Apart.{IsApart-append_left, IsApart-filter}
+use Rattle.list_facts.proofs.Sums.{length-apart_le}
 use Rattle.whole_search.proofs.Prefixes.{unbounded_longer}
 use Rattle.whole_search.proofs.Reflect.{is_bounded_decides, counted_from, lands_from}
 use Rattle.whole_search.proofs.Rising.{AreSmall}

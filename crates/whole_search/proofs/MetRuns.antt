@@ -11,8 +11,9 @@ use Rattle.partial_path.specs.declared.bounds.Bounds.{Bounds}
 use Rattle.partial_path.specs.Step.{step}
 use Rattle.partial_path.specs.Runs.{run, after_cuts, IsStraight, IsApart}
 use Rattle.whole_search.specs.Walk.{lands, longest, keeps_straight, can_follow, with_edge, longer_from, longer_runs, ends_live, goes_on, next_runs, meets, IsLive, out}
-use Rattle.whole_search.proofs.Apart.{all_differ, IsApart-map, IsApart-filter, IsApart-reverse, IsApart-flat_map}
-use Rattle.whole_search.proofs.Members.{IsIn, IsIn-map, IsIn-map_from, IsIn-filter, IsIn-filter_from, IsIn-reverse, IsIn-reverse_from, IsIn-flat_map, IsIn-flat_map_from}
+use Rattle.list_facts.proofs.Apart.{all_differ, IsApart-map, IsApart-filter, IsApart-reverse, IsApart-flat_map}
+use Rattle.list_facts.specs.Members.{IsIn}
+use Rattle.list_facts.proofs.Members.{IsIn-map, IsIn-map_from, IsIn-filter, IsIn-filter_from, IsIn-reverse, IsIn-reverse_from, IsIn-flat_map, IsIn-flat_map_from}
 use Rattle.whole_search.proofs.Outs.{IsIn-out, IsApart-out}
 use Rattle.whole_search.proofs.Prefixes.{parts_of, first_step, run-with_edge, straight_front, straight_longer, keeps_from, lands_rest}
 use Rattle.whole_search.proofs.Rising.{stays, nonempty_append}

@@ -1,10 +1,10 @@
 -- Each edge that can be followed from a spot is among those that leave it, and these differ.
-use Rattle.std.proofs.Common.{◌≡◌, ℕ, zero, suc, ◌+◌, ◌≤◌, Bool, true, false, List, [], ◌∷◌, Option, Some, None, ◌⊎◌, inl, inr, sym, refl, ap, ◌∙◌, subst, eqb, eqb-true, eq-eqb, arith, slice_get, if◌then◌else◌}
+use Rattle.std.proofs.Common.{◌≡◌, ℕ, zero, suc, ◌+◌, ◌≤◌, true, List, [], ◌∷◌, Option, Some, None, ◌⊎◌, inl, inr, sym, refl, ap, ◌∙◌, subst, eqb, eqb-true, eq-eqb, arith, slice_get}
 use Rattle.std.specs.Option.{option_map_or}
 use Rattle.std.proofs.lemmas.Bool.{false≢true, and_parts}
 use Rattle.std.proofs.lemmas.Option.{none-some, same_Some, option_and_then_some}
 use Rattle.graph_nodes.specs.Graph.{Graph}
-use Rattle.graph_nodes.specs.Out.{place_eq, where_passes, positions_from, edges_from}
+use Rattle.graph_nodes.specs.Out.{place_eq, edges_from}
 use Rattle.graph_nodes.specs.Whole.{edge_of}
 use Rattle.graph_nodes.specs.declared.node.Edge.{Edge}
 use Rattle.graph_nodes.specs.declared.node.Place.{Place}
@@ -16,8 +16,11 @@ use Rattle.partial_path.specs.declared.config.EdgeAt.{EdgeAt}
 use Rattle.partial_path.specs.Step.{step, follow, stands_at, enter_place}
 use Rattle.partial_path.specs.Runs.{IsApart}
 use Rattle.whole_search.specs.Walk.{edge_at, out_of_file, out_of_root, out}
-use Rattle.whole_search.proofs.Apart.{IsApart-append, IsApart-map}
-use Rattle.whole_search.proofs.Members.{IsIn, IsIn-append_left, IsIn-append_right, IsIn-append_cases, IsIn-map, IsIn-map_from}
+use Rattle.partial_path.proofs.Followed.{if_some}
+use Rattle.partial_path.proofs.Positions.{IsIn-edges_from, IsApart-edges_from}
+use Rattle.list_facts.proofs.Apart.{IsApart-append, IsApart-map}
+use Rattle.list_facts.specs.Members.{IsIn}
+use Rattle.list_facts.proofs.Members.{IsIn-append_left, IsIn-append_right, IsIn-append_cases, IsIn-map, IsIn-map_from}
 
 -- what an edge that was followed is: its graph, that it leaves where the path stood, and what it entered
 pub record Followed (files : List Graph) (at : Config) (e : EdgeAt) (next : Config) : Type 0 where
@@ -28,10 +31,6 @@ pub record Followed (files : List Graph) (at : Config) (e : EdgeAt) (next : Conf
   pub stands : stands_at e.file edge.source at.spot ≡ true
   pub enters : enter_place files e.file edge.sink at.stacks ≡ Some next
 
-if_some : {X : Type 0} (b : Bool) (o : Option X) (y : X) → (if b then o else None) ≡ Some y → (b ≡ true) × (o ≡ Some y)
-if_some true o y h = (refl, h)
-if_some false o y h = absurd (none-some y h)
-
 pub followed : (files : List Graph) (at : Config) (e : EdgeAt) (next : Config) → step files at e ≡ Some next → Followed files at e next
 followed files at e next h =
     option_and_then_some (λ (edge : Edge). follow files e.file edge at) (edge_of files e.file e.edge) next h
@@ -41,54 +40,12 @@ followed files at e next h =
     let parts = if_some (stands_at e.file edge.source at.spot) (enter_place files e.file edge.sink at.stacks) next follows in
     record { graph = g; edge = edge; graph_is = graph_is; edge_is = there; stands = parts.0; enters = parts.1 }))
 
-in_passing : (n at : ℕ) (passes : Bool) → passes ≡ true → n ≡ at → IsIn n (where_passes passes at)
-in_passing n at true t e = inl e
-in_passing n at false t e = absurd (false≢true t)
-
-pub IsIn-positions_from : {X : Type 0} (test : X → Bool) (at : ℕ) (xs : List X) (k : ℕ) (x : X) → slice_get xs k ≡ Some x → test x ≡ true → IsIn (at + k) (positions_from test at xs)
-IsIn-positions_from test at [] k x h t = absurd (none-some x h)
-IsIn-positions_from test at (y ∷ xs) zero x h t =
-    IsIn-append_left (at + 0) (where_passes (test y) at) (positions_from test (at + 1) xs)
-    (in_passing (at + 0) at (test y) (ap test (same_Some y x h) ∙ t) (omega arith))
-IsIn-positions_from test at (y ∷ xs) (suc k) x h t =
-    let e : (at + 1) + k ≡ at + suc k = omega arith in
-    IsIn-append_right (at + suc k) (where_passes (test y) at) (positions_from test (at + 1) xs)
-    (subst (λ n. IsIn n (positions_from test (at + 1) xs)) e (IsIn-positions_from test (at + 1) xs k x h t))
-
-passing_is : (n at : ℕ) (passes : Bool) → IsIn n (where_passes passes at) → n ≡ at
-passing_is n at true (inl e) = e
-passing_is n at true (inr h) = absurd h
-passing_is n at false h = absurd h
-
 least_of : (n at : ℕ) (P Q : Type 0) → (P → n ≡ at) → (Q → at + 1 ≤ n) → P ⊎ Q → at ≤ n
 least_of n at P Q f g (inl p) = let e : n ≡ at = f p in omega arith
 least_of n at P Q f g (inr q) = let l : at + 1 ≤ n = g q in omega arith
 
-positions_from_least : {X : Type 0} (test : X → Bool) (at : ℕ) (xs : List X) (n : ℕ) → IsIn n (positions_from test at xs) → at ≤ n
-positions_from_least test at [] n h = absurd h
-positions_from_least test at (y ∷ xs) n h =
-    least_of n at (IsIn n (where_passes (test y) at)) (IsIn n (positions_from test (at + 1) xs))
-    (passing_is n at (test y)) (λ g. positions_from_least test (at + 1) xs n g)
-    (IsIn-append_cases n (where_passes (test y) at) (positions_from test (at + 1) xs) h)
-
-apart_passing : (at : ℕ) (passes : Bool) → IsApart (where_passes passes at)
-apart_passing at true = (tt, tt)
-apart_passing at false = tt
-
 not_both : (n at : ℕ) → n ≡ at → at + 1 ≤ n → ⊥
 not_both n at e l = omega arith
-
-IsApart-positions_from : {X : Type 0} (test : X → Bool) (at : ℕ) (xs : List X) → IsApart (positions_from test at xs)
-IsApart-positions_from test at [] = tt
-IsApart-positions_from test at (y ∷ xs) =
-    IsApart-append (where_passes (test y) at) (positions_from test (at + 1) xs)
-    (apart_passing at (test y)) (IsApart-positions_from test (at + 1) xs)
-    (λ n h g. not_both n at (passing_is n at (test y) h) (positions_from_least test (at + 1) xs n g))
-
-IsIn-edges_from : (g : Graph) (at : Place) (k : ℕ) (edge : Edge) → slice_get g.edges k ≡ Some edge → place_eq edge.source at ≡ true → IsIn k (edges_from g at)
-IsIn-edges_from g at k edge h t =
-    let e : 0 + k ≡ k = omega arith in
-    subst (λ n. IsIn n (edges_from g at)) e (IsIn-positions_from (λ (x : Edge). place_eq x.source at) 0 g.edges k edge h t)
 
 IsIn-out_of_root : (file : ℕ) (files : List Graph) (k : ℕ) (g : Graph) (n : ℕ) → slice_get files k ≡ Some g → IsIn n (edges_from g place.Root) → IsIn (edge_at (file + k) n) (out_of_root file files)
 IsIn-out_of_root file [] k g n h there = absurd (none-some g h)
@@ -117,7 +74,7 @@ out_of_root_least file (f ∷ files) e h =
 IsApart-out_of_file : (file : ℕ) (at : Place) (g : Graph) → IsApart (out_of_file file at g)
 IsApart-out_of_file file at g =
     IsApart-map (edge_at file) (λ a b e i. (e i).edge) (edges_from g at)
-    (IsApart-positions_from (λ (x : Edge). place_eq x.source at) 0 g.edges)
+    (IsApart-edges_from g at)
 
 IsApart-out_of_root : (file : ℕ) (files : List Graph) → IsApart (out_of_root file files)
 IsApart-out_of_root file [] = tt

@@ -20,7 +20,8 @@ use Rattle.whole_search.specs.declared.found.Hit.{Hit}
 use Rattle.whole_search.specs.Answers.{path_of, IsRising, AreDefinitions}
 use Rattle.whole_search.specs.Ends.{hit_at, edges_of, path_end, path_ends}
 use Rattle.whole_search.specs.Walk.{met_runs, is_bounded_complete, IsLive}
-use Rattle.whole_search.proofs.Members.{IsIn, IsIn-filter_from, IsIn-map_from, IsIn-from_Contains, Contains-from_IsIn}
+use Rattle.list_facts.specs.Members.{IsIn}
+use Rattle.list_facts.proofs.Members.{IsIn-filter_from, IsIn-map_from, IsIn-from_Contains, Contains-from_IsIn}
 use Rattle.whole_search.proofs.MetComplete.{EndsKept, rows}
 
 -- the node at which one more path ends comes after the others

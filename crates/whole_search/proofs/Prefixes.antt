@@ -12,9 +12,9 @@ use Rattle.partial_path.specs.Step.{step, is_cut_edge}
 use Rattle.partial_path.specs.Same.{config_eq}
 use Rattle.partial_path.specs.Runs.{run, where_cut, after_cuts, IsStraight, IsApart}
 use Rattle.whole_search.specs.Walk.{ends_cut, is_shallow, is_bounded, is_empty, is_at_definition, completes, lands, keeps_straight, with_edge}
-use Rattle.whole_search.proofs.Equals.{config_eq_decides}
-use Rattle.whole_search.proofs.Apart.{IsApart-append_left, IsApart-last, IsApart_push}
-use Rattle.whole_search.proofs.Members.{IsIn}
+use Rattle.partial_path.proofs.Equals.{config_eq-Decides}
+use Rattle.list_facts.proofs.Apart.{IsApart-append_left, IsApart-last, IsApart_push}
+use Rattle.list_facts.specs.Members.{IsIn}
 use Rattle.whole_search.proofs.Reflect.{ends_cut-append}
 
 run_on : (files : List Graph) (p r : List EdgeAt) (at : Config) (o : Option Config) → ((next : Config) → run files next p ≡ Some at → run files next (p ++ r) ≡ run files at r) → option_and_then (λ (next : Config). run files next p) o ≡ Some at → option_and_then (λ (next : Config). run files next (p ++ r)) o ≡ run files at r
@@ -79,7 +79,7 @@ straight_front files c p r at h g =
     (subst (λ (xs : List Config). IsApart (c ∷ xs)) (after_cuts-append files c p r at h) g)
 
 any_cases : (x y : Config) (ys : List Config) → (list_any (config_eq x) ys ≡ true → IsIn x ys) → (config_eq x y ≡ true) ⊎ (list_any (config_eq x) ys ≡ true) → IsIn x (y ∷ ys)
-any_cases x y ys rest (inl h) = inl ((config_eq_decides x y).0 h)
+any_cases x y ys rest (inl h) = inl ((config_eq-Decides x y).0 h)
 any_cases x y ys rest (inr h) = inr (rest h)
 
 in_from_any : (x : Config) (met : List Config) → list_any (config_eq x) met ≡ true → IsIn x met
@@ -88,7 +88,7 @@ in_from_any x (y ∷ ys) t = any_cases x y ys (λ h. in_from_any x ys h) (or_cas
 
 any_from_in : (x : Config) (met : List Config) → IsIn x met → list_any (config_eq x) met ≡ true
 any_from_in x [] h = absurd h
-any_from_in x (y ∷ ys) (inl e) = or_left (config_eq x y) (list_any (config_eq x) ys) ((config_eq_decides x y).1 e)
+any_from_in x (y ∷ ys) (inl e) = or_left (config_eq x y) (list_any (config_eq x) ys) ((config_eq-Decides x y).1 e)
 any_from_in x (y ∷ ys) (inr h) = or_right (config_eq x y) (list_any (config_eq x) ys) (any_from_in x ys h)
 
 apart_where : (met : List Config) (next : Config) (cut : Bool) → IsApart met → not (cut && list_any (config_eq next) met) ≡ true → IsApart (met ++ (if cut then next ∷ [] else []))

@@ -10,7 +10,7 @@ use Rattle.partial_path.specs.declared.bounds.Bounds.{Bounds}
 use Rattle.partial_path.specs.Runs.{run, IsStraight, IsBounded}
 use Rattle.partial_path.specs.Counted.{IsCounted}
 use Rattle.whole_search.specs.Walk.{ends_cut, is_bounded, completes, lands, longest, with_edge, goes_on, met_runs, IsLive, is_past_bounds}
-use Rattle.whole_search.proofs.Members.{IsIn}
+use Rattle.list_facts.specs.Members.{IsIn}
 use Rattle.whole_search.proofs.Prefixes.{parts_of, straight_front, bounded_front}
 use Rattle.whole_search.proofs.Reflect.{is_bounded_decides, lands_from, lands_nonempty}
 use Rattle.whole_search.proofs.Rising.{AreSmall, stays, FrontsStay, nonempty_append, length-front}

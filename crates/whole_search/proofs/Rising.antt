@@ -1,12 +1,11 @@
 -- Between two cuts a run rises through the positions of one file, so it can't be long.
 use Rattle.std.proofs.Common.{◌≡◌, ◌≢◌, ℕ, zero, suc, ◌+◌, ◌<◌, ◌≤◌, min, Bool, true, false, not, ◌||◌, List, [], ◌∷◌, ◌++◌, length, Option, Some, None, IsSome, is_some, sym, refl, ap, ◌∙◌, subst, leb, ltb, eqb, eq-eqb, eqb-true, leb-true, leb-false, ltb-false, arith, slice_get, option_and_then, option_map, if◌then◌else◌, append_assoc, append-nil, length-append, inl, inr, ◌⊎◌, All}
-use Rattle.std.specs.Option.{option_map_or}
 use Rattle.std.specs.List.{list_any, AllByRecursion}
 use Rattle.std.proofs.lemmas.Bool.{false≢true, and_parts, and_cases, or_parts, both_ways, cases_Bool}
 use Rattle.std.proofs.lemmas.Option.{none-some, same_Some, option_and_then_some, slice_get_within, get_or_from_slice_get}
 use Rattle.graph_nodes.specs.Graph.{Graph, is_exported}
 use Rattle.graph_nodes.specs.Cut.{turns_between, turns_at, is_turning, is_cut}
-use Rattle.graph_nodes.specs.Whole.{node_of, is_cut_of}
+use Rattle.graph_nodes.specs.Whole.{node_of}
 use Rattle.graph_nodes.specs.Checked.{IsChecked, first_of}
 use Rattle.graph_nodes.specs.declared.fault.GraphFault.{GraphFault}
 use Rattle.graph_nodes.specs.declared.fault.GraphFault.TheVariants.{TooManyNodes}
@@ -26,6 +25,7 @@ use Rattle.partial_path.specs.Spots.{node_at, at_node}
 use Rattle.partial_path.specs.Step.{step, stands_at, enter_place, enter_node, action_of, is_cut_edge}
 use Rattle.partial_path.specs.Runs.{run}
 use Rattle.whole_search.specs.Walk.{ends_cut, is_bounded, with_edge, longest}
+use Rattle.partial_path.proofs.Edges.{is_cut_edge-found}
 use Rattle.whole_search.proofs.Outs.{followed}
 use Rattle.whole_search.proofs.Prefixes.{first_step, run-with_edge, parts_of}
 use Rattle.whole_search.proofs.Reflect.{ends_cut-append}
@@ -111,17 +111,11 @@ rises_to files e at next g edge h k (place.At m) (place.At n) s t (At node) stan
         by (inl x) = absurd (both_ways (eqb n n) x (eq-eqb n n refl))
         by (inr x) = leb-false n m x
 
-cut_of_place : (files : List Graph) (e : EdgeAt) (g : Graph) (edge : Edge) → slice_get files e.file ≡ Some g → slice_get g.edges e.edge ≡ Some edge → is_cut_edge files e ≡ is_cut g edge.sink
-cut_of_place files e g edge h k =
-    ap (λ (o : Option Edge). option_map_or (λ (x : Edge). is_cut_of files e.file x.sink) o false)
-    (ap (λ (o : Option Graph). option_and_then (λ (x : Graph). slice_get x.edges e.edge) o) h ∙ k)
-    ∙ ap (λ (o : Option Graph). option_map_or (λ (x : Graph). is_cut x edge.sink) o false) h
-
 pub rank-step : (files : List Graph) → AreSmall files → (at next : Config) (e : EdgeAt) → step files at e ≡ Some next → is_cut_edge files e ≡ false → (rank at.spot < rank next.spot) × (rank next.spot ≤ max_nodes)
 rank-step files small at next e h cut =
     let f = followed files at e next h in
     rises_to files e at next f.graph f.edge f.graph_is f.edge_is f.edge.source f.edge.sink refl refl at.spot f.stands f.enters
-    (sym (cut_of_place files e f.graph f.edge f.graph_is f.edge_is) ∙ cut) (small e.file f.graph f.graph_is)
+    (sym (is_cut_edge-found files e f.graph f.edge f.graph_is f.edge_is) ∙ cut) (small e.file f.graph f.graph_is)
 
 -- the search may go on from the run: it is bounded unless it stands between cuts
 abbrev pub stays : Bounds → List Graph → Config → List EdgeAt → Bool

@@ -10,7 +10,7 @@ use Rattle.partial_path.specs.declared.bounds.Bounds.{Bounds}
 use Rattle.whole_search.specs.declared.open.Open.{Open}
 use Rattle.whole_search.specs.Walk.{with_edge, out, is_bounded}
 use Rattle.whole_search.specs.Open.{longer_by}
-use Rattle.whole_search.proofs.Members.{reverse-cons}
+use Rattle.list_facts.proofs.Members.{reverse-cons}
 
 -- the runs of one edge more, the last first
 abbrev pub behind_one : List EdgeAt → List EdgeAt → List (List EdgeAt)

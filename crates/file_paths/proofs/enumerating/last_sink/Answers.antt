@@ -1,5 +1,6 @@
 -- The last of a walk's edges is there, and so is its sink.
-use Rattle.file_paths.proofs.LastLaws.{last_is_there, last_leads, last_place}
+use Rattle.partial_path.proofs.Edges.{has_sink}
+use Rattle.file_paths.proofs.LastLaws.{last_is_there, last_leads}
 use Rattle.file_paths.proofs.enumerating.last_sink.Goals as goal
 
 pub edge-requires : goal.edge-requires
@@ -9,4 +10,4 @@ pub returns-clause-leads : goal.returns-clause-leads
 returns-clause-leads c = last_leads c.args.graph.now c.args.path.now.start c.args.path.now.edges c.edges-edges.result.now _ c.edge.result.now c.requires c.edges-edges.ensures.value c.edge.ensures
 
 pub returns-clause-place : goal.returns-clause-place
-returns-clause-place c = last_place c.args.graph.now _ c.edge.result.now c.edge_count.ensures.checked c.edge.ensures
+returns-clause-place c = has_sink c.args.graph.now _ c.edge.result.now c.edge_count.ensures.checked c.edge.ensures

@@ -5,7 +5,8 @@ use Rattle.partial_path.specs.Rules.{Rule}
 use Rattle.partial_path.specs.PathSets.{walk_of_rule}
 use Rattle.file_paths.specs.declared.fault.TheConstants.{MAX_WEIGHT}
 use Rattle.file_paths.specs.Finding.{IsShort, IsLongerRule}
-use Rattle.file_paths.proofs.GrowingLaws.{IsGrowing, growing_there, growing_more, growing_same, growing_ends, all_push}
+use Rattle.list_facts.proofs.Each.{all_push}
+use Rattle.file_paths.proofs.GrowingLaws.{IsGrowing, growing_there, growing_more, growing_same, growing_ends}
 use Rattle.file_paths.proofs.growing.longer_of.Goals as goal
 
 pub one_more-requires-clause-edge : goal.one_more-requires-clause-edge

@@ -4,7 +4,7 @@ use Rattle.std.specs.List.{AllByRecursion}
 use Rattle.partial_path.specs.Rules.{Rule}
 use Rattle.file_paths.specs.declared.fault.TheConstants.{MAX_WEIGHT}
 use Rattle.file_paths.specs.Finding.{IsShort}
-use Rattle.file_paths.proofs.GrowingLaws.{all_push}
+use Rattle.list_facts.proofs.Each.{all_push}
 use Rattle.file_paths.proofs.NextLaws.{unit_short}
 use Rattle.file_paths.proofs.BeginningLaws.{AreUnits, units_there, units_more, units_end}
 use Rattle.file_paths.proofs.starting.units_from.Goals as goal

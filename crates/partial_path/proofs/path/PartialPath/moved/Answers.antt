@@ -8,7 +8,7 @@ use Rattle.partial_path.proofs.path.PartialPath.moved.Goals as goal
 pub of-requires : goal.of-requires
 of-requires c =
     moved-ruled c.args.base c.args.self.now c.moved_start-start.result c.moved_end-end.result c.in_ok-pre.pre c.in_ok-post.post c.peak.result
-    c.in_ok-edges.edges.items c.start.ensures.rule
+    c.into_items-edges.result.items c.start.ensures.rule
     (c.in_ok-pre.ensures ∙ ap (moved_pre c.args.base) c.pre.ensures.value)
     (c.in_ok-post.ensures ∙ ap (moved_post c.args.base) c.post.ensures.value) c.peak.ensures.value
 

@@ -3,7 +3,7 @@ use Rattle.std.proofs.Common.{◌≡◌, rules}
 use Rattle.std.proofs.lemmas.Fn.{always_returns_same}
 use Rattle.version_tree.specs.Blocks.{first_beside}
 use Rattle.version_tree.proofs.blocks.Blocks.find.Goals as goal
-use Rattle.version_tree.proofs.Place.{found, absent}
+use Rattle.list_facts.proofs.Halving.{found, absent}
 use Rattle.version_tree.proofs.Joined.{blocks-searchable}
 
 pub returns-clause-found : goal.returns-clause-found

@@ -3,7 +3,8 @@ use Rattle.std.proofs.Common.{◌≡◌, rules}
 use Rattle.std.proofs.lemmas.Fn.{always_returns_same}
 use Rattle.version_tree.specs.Places.{beside}
 use Rattle.version_tree.proofs.sorted_rows.SortedRows.find.Goals as goal
-use Rattle.version_tree.proofs.Place.{found, absent, searchable}
+use Rattle.list_facts.proofs.Halving.{found, absent}
+use Rattle.version_tree.proofs.Found.{searchable}
 
 pub returns-clause-found : goal.returns-clause-found
 returns-clause-found c =

@@ -1,5 +1,6 @@
 use Rattle.std.proofs.Common.{arith}
-use Rattle.version_tree.proofs.Parts.{filter-rows, filter-short}
+use Rattle.list_facts.proofs.Tests.{filter-short}
+use Rattle.version_tree.proofs.Parts.{filter-rows}
 use Rattle.version_tree.specs.Contents.{FileRow}
 use Rattle.grants.specs.Covers.{covers}
 use Rattle.version_tree.proofs.version.Version.view.Goals as goal

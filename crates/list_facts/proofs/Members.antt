@@ -1,14 +1,12 @@
--- Members of a list, by recursion on the list.
+-- Members of a list: of two lists in one, of mapped, filtered and reversed lists, and what a test of any or of all
+-- elements tells of them.
 use Rattle.std.proofs.Common.{◌≡◌, ℕ, zero, suc, ◌<◌, Bool, true, false, cond, List, [], ◌∷◌, ◌++◌, map, reverse, length, sym, refl, ap, ◌∙◌, subst, ◌⊎◌, inl, inr, arith, filter, flat_map, Contains, get_or}
-use Rattle.std.specs.List.{AllByRecursion, list_any}
+use Rattle.std.specs.List.{AllByRecursion, list_any, list_all}
 use Rattle.std.proofs.lemmas.List.{reverse-append, reverse-reverse}
-use Rattle.std.proofs.lemmas.Bool.{false≢true, or_cases, or_left, or_right}
+use Rattle.std.proofs.lemmas.Bool.{false≢true, or_cases, or_left, or_right, and_from, and_parts}
+use Rattle.list_facts.specs.Members.{IsIn}
 
--- the element stands in the list
-abbrev pub IsIn : {X : Type 0} → X → List X → Type 0
-IsIn x [] = ⊥
-IsIn x (y ∷ ys) = (x ≡ y) ⊎ IsIn x ys
-
+-- a member of one of two lists is one of both, and the other way round
 pub IsIn-append_left : {X : Type 0} (x : X) (xs ys : List X) → IsIn x xs → IsIn x (xs ++ ys)
 IsIn-append_left x [] ys h = absurd h
 IsIn-append_left x (y ∷ xs) ys (inl e) = inl e
@@ -27,6 +25,15 @@ IsIn-append_cases x [] ys h = inr h
 IsIn-append_cases x (y ∷ xs) ys (inl e) = inl (inl e)
 IsIn-append_cases x (y ∷ xs) ys (inr h) = later_or x y xs ys (IsIn-append_cases x xs ys h)
 
+in_either : {X : Type 0} (x : X) (xs ys : List X) → IsIn x xs ⊎ IsIn x ys → IsIn x (ys ++ xs)
+in_either x xs ys (inl h) = IsIn-append_right x ys xs h
+in_either x xs ys (inr h) = IsIn-append_left x ys xs h
+
+-- two lists that change places have the same members
+pub IsIn-swap : {X : Type 0} (x : X) (xs ys : List X) → IsIn x (xs ++ ys) → IsIn x (ys ++ xs)
+IsIn-swap x xs ys h = in_either x xs ys (IsIn-append_cases x xs ys h)
+
+-- members of a mapped list are images of members
 pub IsIn-map : {X Y : Type 0} (f : X → Y) (x : X) (xs : List X) → IsIn x xs → IsIn (f x) (map f xs)
 IsIn-map f x [] h = absurd h
 IsIn-map f x (y ∷ xs) (inl e) = inl (ap f e)
@@ -45,6 +52,7 @@ in_head : {X : Type 0} (x y : X) (ys : List X) (b : Bool) → b ≡ true → x �
 in_head x y ys true t e = inl e
 in_head x y ys false t e = absurd (false≢true t)
 
+-- members that pass a test are those of the filtered list
 pub IsIn-filter : {X : Type 0} (p : X → Bool) (x : X) (xs : List X) → IsIn x xs → p x ≡ true → IsIn x (filter p xs)
 IsIn-filter p x [] h t = absurd h
 IsIn-filter p x (y ∷ xs) (inl e) t = in_head x y (filter p xs) (p y) (ap p (sym e) ∙ t) e
@@ -59,7 +67,8 @@ filtered_from : {X : Type 0} (p : X → Bool) (x y : X) (xs : List X) → ((x �
 filtered_from p x y xs (inl h) = (inl h.0, ap p h.0 ∙ h.1)
 filtered_from p x y xs (inr h) = (inr h.0, h.1)
 
-in_rest : (P Q R : Type 0) → (Q → R) → P ⊎ Q → P ⊎ R
+-- one of two cases carried on
+pub in_rest : (P Q R : Type 0) → (Q → R) → P ⊎ Q → P ⊎ R
 in_rest P Q R f (inl p) = inl p
 in_rest P Q R f (inr q) = inr (f q)
 
@@ -70,6 +79,7 @@ IsIn-filter_from p x (y ∷ xs) h =
     (in_rest ((x ≡ y) × (p y ≡ true)) (IsIn x (filter p xs)) (IsIn x xs × (p x ≡ true))
     (λ g. IsIn-filter_from p x xs g) (kept_cases x y (filter p xs) (p y) h))
 
+-- a reversed list has the same members
 pub reverse-cons : {X : Type 0} (x : X) (xs : List X) → reverse (x ∷ xs) ≡ reverse xs ++ x ∷ []
 reverse-cons x xs = reverse-append (x ∷ []) xs
 
@@ -81,6 +91,7 @@ IsIn-reverse x (y ∷ xs) (inr h) = subst (IsIn x) (sym (reverse-cons y xs)) (Is
 pub IsIn-reverse_from : {X : Type 0} (x : X) (xs : List X) → IsIn x (reverse xs) → IsIn x xs
 IsIn-reverse_from x xs h = subst (IsIn x) (reverse-reverse xs) (IsIn-reverse x (reverse xs) h)
 
+-- members of lists in a row are those of the lists
 pub IsIn-flat_map : {X Y : Type 0} (f : X → List Y) (x : X) (y : Y) (xs : List X) → IsIn x xs → IsIn y (f x) → IsIn y (flat_map f xs)
 IsIn-flat_map f x y [] h g = absurd h
 IsIn-flat_map f x y (z ∷ xs) (inl e) g = IsIn-append_left y (f z) (flat_map f xs) (subst (λ w. IsIn y (f w)) e g)
@@ -126,6 +137,20 @@ list_any-from_member p x [] h t = absurd h
 list_any-from_member p x (y ∷ xs) (inl e) t = or_left (p y) (list_any p xs) (ap p (sym e) ∙ t)
 list_any-from_member p x (y ∷ xs) (inr h) t = or_right (p y) (list_any p xs) (list_any-from_member p x xs h t)
 
+all_first : {X : Type 0} (p : X → Bool) (x y : X) (xs : List X) → (list_all p xs ≡ true → IsIn x xs → p x ≡ true) → (p y ≡ true) × (list_all p xs ≡ true) → IsIn x (y ∷ xs) → p x ≡ true
+all_first p x y xs rest t (inl e) = ap p e ∙ t.0
+all_first p x y xs rest t (inr h) = rest t.1 h
+
+-- each element passes the test where `list_all` says so, and only there
+pub list_all-at_member : {X : Type 0} (p : X → Bool) (x : X) (xs : List X) → list_all p xs ≡ true → IsIn x xs → p x ≡ true
+list_all-at_member p x [] t h = absurd h
+list_all-at_member p x (y ∷ xs) t h = all_first p x y xs (λ t' h'. list_all-at_member p x xs t' h') (and_parts (p y) (list_all p xs) t) h
+
+pub list_all-from_members : {X : Type 0} (p : X → Bool) (xs : List X) → ((x : X) → IsIn x xs → p x ≡ true) → list_all p xs ≡ true
+list_all-from_members p [] each = refl
+list_all-from_members p (x ∷ xs) each = and_from (p x) (list_all p xs) (each x (inl refl)) (list_all-from_members p xs (λ y h. each y (inr h)))
+
+-- where no element passes, none is left
 pub filter-none : {X : Type 0} (p : X → Bool) (xs : List X) → ((x : X) → IsIn x xs → p x ≡ false) → filter p xs ≡ []
 filter-none p [] each = refl
 filter-none p (x ∷ xs) each =

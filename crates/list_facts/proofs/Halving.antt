@@ -1,24 +1,23 @@
--- What the halving search tells of a list in order.
-use Rattle.std.proofs.Common.{◌≡◌, ℕ, zero, suc, ◌+◌, ◌<◌, ◌≤◌, List, [], ◌∷◌, ◌++◌, length, get_or, take, drop, ap, refl, arith}
+-- What the halving search tells of a list that rises.
+use Rattle.std.proofs.Common.{◌≡◌, ℕ, zero, suc, ◌+◌, ◌<◌, ◌≤◌, List, [], ◌∷◌, ◌++◌, length, get_or, take, drop, set, ap, arith}
 use Rattle.std.specs.List.{AllByRecursion, AllWithin}
 use Rattle.std.specs.List.Sorted.{IsNonDecreasingBy, IsBinarySearchResult, IsSearchInRange}
 use Rattle.std.specs.Prelude.{Result, Ok, Err, IfOk, IfErr}
+use Rattle.std.specs.Cmp.{IsTotalOrder}
 use Rattle.std.specs.Ordering.{is_lt, ordering_index}
 use Rattle.std.specs.declared.cmp.Ordering.{Ordering}
 use Rattle.std.specs.declared.cmp.Ordering.TheVariants.{Less, Greater}
+use Rattle.std.proofs.lemmas.List.{get_or_default}
 use Rattle.std.proofs.lemmas.List.Sorted.{searchable_from_sorted}
-use Rattle.version_tree.specs.Contents.{FileRow, path_cmp, IsInOrder}
-use Rattle.version_tree.specs.Places.{beside, IsAt, IsGapFor}
-use Rattle.version_tree.proofs.Order.{path_total, less_flipped}
+use Rattle.list_facts.specs.Places.{IsAt, IsGapFor}
+use Rattle.list_facts.proofs.Orders.{less_flipped}
 
-adjacent : (rows : List FileRow) → IsInOrder rows → (k : ℕ) (d : FileRow) → k + 1 < length rows → path_cmp (get_or rows k d).path (get_or rows (k + 1) d).path ≡ Less
-adjacent [] up k d lt = absurd (omega arith)
-adjacent (p ∷ []) up k d lt = absurd (omega arith)
-adjacent (p ∷ q ∷ rows) up zero d lt = up.0.0
-adjacent (p ∷ q ∷ rows) up (suc k) d lt = let e : suc k + 1 ≡ suc (k + 1) = omega arith in rw e (adjacent (q ∷ rows) up.1 k d (omega arith))
-
-pub searchable : (path : List ℕ) (rows : List FileRow) → IsInOrder rows → IsNonDecreasingBy (λ (row : FileRow). ordering_index (beside path row)) rows
-searchable path rows up = searchable_from_sorted path_total (λ (row : FileRow). row.path) rows path (λ k d low lt. ap is_lt (less_flipped (get_or rows k d).path (get_or rows (k + 1) d).path (adjacent rows up k d lt)))
+-- a list whose keys rise from each element to the next can be searched by halving
+pub searchable : {K : Type 0} {R : K → K → Ordering} → IsTotalOrder R → {X : Type 0} (key : X → K) (xs : List X) (sought : K)
+    → ((k : ℕ) (d : X) → k + 1 < length xs → R (key (get_or xs k d)) (key (get_or xs (k + 1) d)) ≡ Less)
+    → IsNonDecreasingBy (λ (x : X). ordering_index (R (key x) sought)) xs
+searchable total key xs sought rises =
+    searchable_from_sorted total key xs sought (λ k d low lt. ap is_lt (less_flipped total (key (get_or xs k d)) (key (get_or xs (k + 1) d)) (rises k d lt)))
 
 module _ {X : Type 0} where
   -- a fact of each place below i is one of each of the first i, and likewise of the rest
@@ -38,15 +37,16 @@ module _ {X : Type 0} where
   back P (x ∷ xs) zero h = whole P (x ∷ xs) h
   back P (x ∷ xs) (suc i) h = back P xs i (λ k d low lt. h (suc k) d (omega arith) (omega arith))
 
+  -- the list in parts: what is before a place, what stands there, and what is after it
   pub split_at : (xs : List X) (i : ℕ) (d : X) → i < length xs → xs ≡ take i xs ++ get_or xs i d ∷ drop (i + 1) xs
   split_at [] i d lt = absurd (omega arith)
   split_at (x ∷ xs) zero d lt = cc
   split_at (x ∷ xs) (suc i) d lt = let e : suc i + 1 ≡ suc (i + 1) = omega arith in rw e (ap (λ r. x ∷ r) (split_at xs i d (omega arith)))
 
-  same_item : (xs : List X) (i : ℕ) (d e : X) → i < length xs → get_or xs i d ≡ get_or xs i e
-  same_item [] i d e lt = absurd (omega arith)
-  same_item (x ∷ xs) zero d e lt = refl
-  same_item (x ∷ xs) (suc i) d e lt = same_item xs i d e (omega arith)
+  pub set-parts : (xs : List X) (i : ℕ) (x : X) → i < length xs → set xs i x ≡ take i xs ++ x ∷ drop (i + 1) xs
+  set-parts [] i x lt = absurd (omega arith)
+  set-parts (y ∷ ys) zero x lt = cc
+  set-parts (y ∷ ys) (suc i) x lt = let e : suc i + 1 ≡ suc (i + 1) = omega arith in rw e (ap (λ r. y ∷ r) (set-parts ys i x (omega arith)))
 
   -- the two answers of the halving search
   pub found : (order : X → Ordering) (xs : List X) (r : Result ℕ ℕ) → IsSearchInRange r (length xs) → IsBinarySearchResult order xs r → IfOk r (IsAt order xs)
@@ -55,7 +55,7 @@ module _ {X : Type 0} where
   found order (x ∷ xs) (Ok i) bound is = record {
     in_range = bound;
     item = get_or (x ∷ xs) i x;
-    here = λ d. same_item (x ∷ xs) i d x bound;
+    here = λ d. get_or_default (x ∷ xs) i d x bound;
     tie = is x;
     split = split_at (x ∷ xs) i x bound;
   }

@@ -10,6 +10,7 @@ use Rattle.partial_path.specs.Step.{step}
 use Rattle.partial_path.specs.Runs.{run}
 use Rattle.partial_path.specs.Walks.{begin, run_from, highest, highest_from}
 
+-- a run of edges and then of more is the one run and then the other
 pub run-append : (files : List Graph) (es more : List EdgeAt) (c : Config)
     → run files c (es ++ more) ≡ option_and_then (λ (d : Config). run files d more) (run files c es)
 run-append files [] more c = refl
@@ -32,6 +33,7 @@ pub run_from-append : (files : List Graph) (start : Start) (es more : List EdgeA
     → run_from files start (es ++ more) c ≡ option_and_then (λ (d : Config). run files d more) (run_from files start es c)
 run_from-append files start es more c = begun-append files es more (begin files start c)
 
+-- the run of one edge is the step
 pub run_one : (files : List Graph) (c : Config) (e : EdgeAt) → run files c (e ∷ []) ≡ step files c e
 run_one files c e = itself (step files c e)
   where
@@ -40,7 +42,7 @@ run_one files c e = itself (step files c e)
     itself (Some next) = refl
 
 -- a run is as high as its first configuration
-highest-begins : (files : List Graph) (c : Config) (es : List EdgeAt) → highest files c es ≡ max (length c.stacks.symbols) (highest files c es)
+pub highest-begins : (files : List Graph) (c : Config) (es : List EdgeAt) → highest files c es ≡ max (length c.stacks.symbols) (highest files c es)
 highest-begins files c [] = once (length c.stacks.symbols)
   where
     once : (n : ℕ) → n ≡ max n n
@@ -62,6 +64,7 @@ highest-stepped files n es more d each None h = absurd (none-some d h)
 highest-stepped files n es more d each (Some next) h =
     regroup n (highest files next es) (highest files d more) (highest files next (es ++ more)) (each next h)
 
+-- and as high as the higher of its parts
 pub highest-append : (files : List Graph) (es more : List EdgeAt) (c d : Config) → run files c es ≡ Some d
     → highest files c (es ++ more) ≡ max (highest files c es) (highest files d more)
 highest-append files [] more c d h =

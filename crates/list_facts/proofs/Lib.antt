@@ -1,0 +1,10 @@
+pub mod Each
+pub mod Members
+pub mod Pairs
+pub mod Apart
+pub mod Sums
+pub mod Tests
+pub mod Orders
+pub mod Halving
+pub mod Sets
+pub mod SetPlaces
