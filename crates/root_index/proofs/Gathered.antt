@@ -10,13 +10,13 @@ use Rattle.partial_path.specs.Starts.{begins_at}
 use Rattle.version_tree.specs.Contents.{FileRow}
 use Rattle.root_index.specs.Roots.{RootPath, root, root_path, roots_from, roots_of, all_roots}
 
-got : {X : Type 0} (xs : List X) (i : ℕ) (d : X) → i < length xs → slice_get xs i ≡ Some (get_or xs i d)
+pub got : {X : Type 0} (xs : List X) (i : ℕ) (d : X) → i < length xs → slice_get xs i ≡ Some (get_or xs i d)
 got [] i d h = absurd (omega (arith, h))
 got (x ∷ xs) zero d h = refl
 got (x ∷ xs) (suc i) d h = got xs i d (omega (arith, h))
 
 -- the paths left, the first of them apart
-first_apart : (path : List ℕ) (place : ℕ) (rules : List Rule) (d : Rule) → place < length rules
+pub first_apart : (path : List ℕ) (place : ℕ) (rules : List Rule) (d : Rule) → place < length rules
     → roots_from path place (drop place rules)
     ≡ cond (begins_at root (get_or rules place d)) (root_path path place (Some (get_or rules place d)) ∷ []) [] ++ roots_from path (place + 1) (drop (place + 1) rules)
 first_apart path place rules d h = ap (roots_from path place) (drop_more rules place d h)

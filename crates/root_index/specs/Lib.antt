@@ -1,4 +1,5 @@
 pub mod Amended
+pub mod Blocks
 pub mod Inside
 pub mod Offers
 pub mod Roots

@@ -1,11 +1,14 @@
 //! The index of a version's paths from the root: which of them a user may see and a stack can meet.
 #![tactic(auto)]
 
+mod block;
+mod blocks;
 mod file_handle;
 mod index;
 mod laws;
 mod offers;
 mod slot;
+mod slot_list;
 #[cfg(test)]
 mod tests;
 
