@@ -29,10 +29,6 @@ module _ {X : Type 0} where
       sym (ap all_of (take-append-drop k blocks)) ∙ flat_map-append (λ (b : List X). b) (take k blocks) (drop k blocks)
       ∙ ap (λ bs. all_of (take k blocks) ++ all_of bs) (drop_more blocks k d h)
 
-  pub parts_of : (f m b : List (List X)) → all_of (f ++ (m ++ b)) ≡ all_of f ++ (all_of m ++ all_of b)
-  parts_of f m b =
-      flat_map-append (λ (b : List X). b) f (m ++ b) ∙ ap (λ r. all_of f ++ r) (flat_map-append (λ (b : List X). b) m b)
-
   -- an element put into a block
   pub put_into : (f m b : List X) (o : ℕ) (x : X) → o ≤ length m → f ++ (insert m o x ++ b) ≡ insert (f ++ (m ++ b)) (length f + o) x
   put_into f m b o x h =

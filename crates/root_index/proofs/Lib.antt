@@ -3,6 +3,7 @@ mod Gathered
 mod InBlocks
 mod KeyOrders
 mod KeyRuns
+mod Looked
 mod Placed
 mod Ranked
 mod Runs

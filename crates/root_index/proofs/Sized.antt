@@ -8,7 +8,7 @@ use Rattle.std.specs.declared.cmp.Ordering.{Ordering}
 use Rattle.std.specs.declared.cmp.Ordering.TheVariants.{Less, Equal, Greater}
 use Rattle.std.proofs.lemmas.List.{get_or_read, length-drop, reverse-append, append_assoc, take-append-drop}
 use Rattle.std.proofs.lemmas.List.Elements.{All-weaker}
-use Rattle.std.proofs.lemmas.List.Sorted.{searchable_from_sorted, IsPermutation-reverse, All-permutation}
+use Rattle.std.proofs.lemmas.List.Sorted.{searchable_from_sorted}
 use Rattle.std.proofs.lemmas.List.Sums.{prefix_len-le-length}
 use Rattle.root_index.specs.Roots.{RootPath, AreByRank, rank, rank_cmp}
 use Rattle.root_index.specs.Blocks.{IsBlock, all_paths, first_passes, is_up_to}
@@ -54,9 +54,6 @@ half_block slots last n count many is =
     let cut : length (drop (n - 32) slots) ≡ length slots - (n - 32) = length-drop (n - 32) slots in
     let same = ap length is in
     record { some = omega (arith, cut, same, count, many); few = omega (arith, cut, same, count, many) }
-
-pub turned_sizes : (blocks : List (List RootPath)) → All IsBlock blocks → All IsBlock (reverse blocks)
-turned_sizes blocks sizes = All-permutation IsBlock blocks (reverse blocks) (IsPermutation-reverse blocks) sizes
 
 -- where a key ends, by the blocks that begin within it
 pub none_within : (t : RootPath → Bool) (blocks : List (List RootPath)) (n : ℕ) (ps : List RootPath) → All IsBlock blocks → all_paths blocks ≡ ps → IsPartitionedBy t ps

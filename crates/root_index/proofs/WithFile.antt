@@ -1,5 +1,5 @@
 -- Putting the paths of a file into an index, one after the other, and those of all files that edits touch.
-use Rattle.std.proofs.Common.{◌≡◌, refl, sym, ◌∙◌, ap, subst, ℕ, ◌+◌, ◌<◌, ◌≤◌, List, [], ◌∷◌, ◌++◌, length, take, drop, get_or, Bool, true, false, cond, Option, Some, None, arith, slice_get}
+use Rattle.std.proofs.Common.{◌≡◌, refl, sym, ◌∙◌, ap, subst, ℕ, ◌+◌, ◌<◌, List, [], ◌∷◌, ◌++◌, length, take, drop, get_or, Bool, true, false, cond, Option, Some, None, arith, slice_get}
 use Rattle.std.specs.Prelude.{◌||◌}
 use Rattle.std.specs.List.{filter, prefix_len, insert}
 use Rattle.std.specs.List.Sorted.{IsPermutation}
@@ -7,7 +7,6 @@ use Rattle.std.specs.Option.{option_map_or}
 use Rattle.std.specs.Ordering.{is_lt, is_le, is_eq, ordering_reverse}
 use Rattle.std.specs.declared.cmp.Ordering.{Ordering}
 use Rattle.std.specs.declared.cmp.Ordering.TheVariants.{Less, Equal, Greater}
-use Rattle.std.proofs.Math.ListN.{drop_of_length-le}
 use Rattle.std.proofs.lemmas.Bool.{false≢true}
 use Rattle.std.proofs.lemmas.Grind.{flat_map-append}
 use Rattle.std.proofs.lemmas.List.{append_assoc, append-nil}
@@ -76,10 +75,6 @@ module _ (path : List ℕ) (place : ℕ) (rules : List Rule) (d : Rule) (whole p
       = first_apart path place rules d h
       ∙ ap (λ b. cond b (root_path path place (Some (get_or rules place d)) ∷ []) [] ++ roots_from path (place + 1) (drop (place + 1) rules)) other in
       subst (λ rs. IsPermutation whole (rs ++ ps)) first all
-
-pub all_in : (path : List ℕ) (place : ℕ) (rules : List Rule) (whole ps : List RootPath) → length rules ≤ place
-    → IsPermutation whole (roots_from path place (drop place rules) ++ ps) → IsPermutation whole ps
-all_in path place rules whole ps h all = subst (λ rs. IsPermutation whole (roots_from path place rs ++ ps)) (drop_of_length-le rules h) all
 
 -- those that pass one of two tests that nothing passes both of
 apart_or : {X : Type 0} (a b : X → Bool) → ((x : X) → b x ≡ true → a x ≡ false) → (xs : List X) → IsPermutation (filter (λ x. a x || b x) xs) (filter b xs ++ filter a xs)

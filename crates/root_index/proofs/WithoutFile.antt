@@ -43,7 +43,7 @@ strict_kept t (p ∷ ps) strict = by (t p) (strict_kept t ps strict.1)
     by false rest = rest
 
 -- two tests, one after the other, and tests that answer the same of all elements
-twice_is : {X : Type 0} (p q : X → Bool) (xs : List X) → filter q (filter p xs) ≡ filter (λ x. p x && q x) xs
+pub twice_is : {X : Type 0} (p q : X → Bool) (xs : List X) → filter q (filter p xs) ≡ filter (λ x. p x && q x) xs
 twice_is p q [] = refl
 twice_is {X} p q (x ∷ xs) = by (p x) (twice_is p q xs)
   where

@@ -1,10 +1,11 @@
 use crate::blocks::Blocks;
 use crate::file_handle::FileHandle;
+use crate::looks::{RootLook, next_looked};
 use crate::offers::{RootOffers, next_slot};
 use crate::slot::Slot;
 use crate::slot_list::SlotList;
 use partial_path::{PartialPath, Spot, Start};
-use stacks_vars::SymbolStack;
+use stacks_vars::{Symbol, SymbolStack};
 use std::alloc::{AllocError, Global};
 use std::marker::Model;
 use version_tree::{Edit, Version, View};
@@ -31,10 +32,11 @@ impl Model for RootIndex {
 }
 
 impl RootIndex {
-    ghost use Rattle.std.specs.Prelude.{◌≡◌, [], ◌∷◌, IfOk, MatchOption, IsPermutation};
+    ghost use Rattle.std.specs.Prelude.{◌≡◌, [], ◌∷◌, IfOk, MatchOption, IsPermutation, option_copied};
     ghost use Rattle.version_tree.specs.Contents.{AreRows, edited_all};
     ghost use Rattle.root_index.specs.Roots.{IsIndexOf, IsIndexOfView};
-    ghost use Rattle.root_index.specs.Offers.{offers_left, roots_offered};
+    ghost use Rattle.root_index.specs.Offers.{files_of, offers_left, roots_offered};
+    ghost use Rattle.root_index.specs.Looks.{look_left, roots_looked};
 
     /// The index of a version without files. It takes no memory.
     pub fn empty(alloc: Global) -> RootIndex
@@ -98,6 +100,32 @@ impl RootIndex {
         ensures { IfOk result (IsIndexOf new.now.content.rows) }
     {
         RootIndex::afresh(alloc, new)
+    }
+
+    /// A look at the paths from the root that the user may see and whose precondition asks for no symbol, or
+    /// for this one first; without one, at those alone that ask for none: before its first path.
+    pub fn look(&self, _symbol: Option<&Symbol>, view: &View) -> RootLook
+        requires { IsIndexOfView self.now view.now }
+        ensures { look_left (files_of view.now) (option_copied _symbol.entry) result ≡ roots_looked view.now (option_copied _symbol.entry) }
+    {
+        let _count = view.row_count();
+        RootLook { file: 0, place: 0 }
+    }
+
+    /// The path that comes next in the look, with its file's number in the view, and where the look stands
+    /// after it; None where there is no more. The paths come by file and then by place. It takes no memory.
+    /// It goes from file to file, so it takes time that follows the number of files that are passed, and in
+    /// each the logarithm of the number of its paths and the number of those from the root: the look-up of
+    /// `offers` is the fast one, but has another order.
+    pub fn next_path<'a>(
+        &self,
+        symbol: Option<&Symbol>,
+        view: &'a View,
+        at: RootLook,
+    ) -> Option<(u32, &'a PartialPath, RootLook)>
+        ensures { MatchOption result (look_left (files_of view.now) (option_copied symbol.entry) at ≡ []) (λ found. look_left (files_of view.now) (option_copied symbol.entry) at ≡ (found.0, found.1.now) ∷ look_left (files_of view.now) (option_copied symbol.entry) found.2) }
+    {
+        next_looked(view, symbol, at)
     }
 
     /// A look-up of the paths from the root that can be met with this symbol stack, as far as the texts of

@@ -6,6 +6,7 @@ mod blocks;
 mod file_handle;
 mod index;
 mod laws;
+mod looks;
 mod offers;
 mod slot;
 mod slot_list;
@@ -14,4 +15,5 @@ mod tests;
 
 pub use index::RootIndex;
 pub use laws::rows_have_one_index;
+pub use looks::RootLook;
 pub use offers::RootOffers;
