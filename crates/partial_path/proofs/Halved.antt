@@ -28,7 +28,7 @@ none_behind q x xs parted e k d h = elim (cases_Bool (q (get_or xs k d)))
     [ inl passed ↦ absurd (false≢true (sym e ∙ parted zero (suc k) d (omega arith) (omega arith) passed)) | inr failed ↦ failed ]
 
 -- those that pass stand first
-filter_first : {X : Type 0} (q : X → Bool) (xs : List X) → IsPartitionedBy q xs → filter q xs ≡ take (prefix_len q xs) xs
+pub filter_first : {X : Type 0} (q : X → Bool) (xs : List X) → IsPartitionedBy q xs → filter q xs ≡ take (prefix_len q xs) xs
 filter_first q [] parted = refl
 filter_first q (x ∷ xs) parted = first_case q x xs parted (q x) refl (filter_first q xs (λ i j d le h. parted (suc i) (suc j) d (omega arith) (omega arith)))
   where

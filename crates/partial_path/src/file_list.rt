@@ -212,7 +212,7 @@ fn asked<'a>(
 }
 
 /// Whether the path's precondition asks for no symbol, or for that one first.
-fn asks(path: &PartialPath, first: Option<&Symbol>) -> bool
+pub fn asks(path: &PartialPath, first: Option<&Symbol>) -> bool
     ensures { result ≡ asks_rule (option_copied first.entry) path.now }
 {
     match (path.pre().symbols.items().get(0), first) {

@@ -24,7 +24,7 @@ mod stepping;
 pub use bounds::{Bounds, MAX_RUNS};
 pub use config::{Config, EdgeAt, Spot};
 pub use fault::PathFault;
-pub use file_list::{FileList, ListOffers};
+pub use file_list::{FileList, ListOffers, asks};
 pub use file_paths::FilePaths;
 pub use laws::{
     applied_paths_are_offered, beginnings_are_cut, counted_runs_are_cut, cut_prefixes_are_closed,

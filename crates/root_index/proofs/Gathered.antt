@@ -1,8 +1,6 @@
 -- Gathering the paths from the root, file by file and path by path: what was gathered, then what is left, is the whole.
-use Rattle.std.proofs.Common.{◌≡◌, refl, sym, ◌∙◌, ap, ℕ, zero, suc, ◌+◌, ◌<◌, ◌≤◌, List, [], ◌∷◌, ◌++◌, length, get_or, drop, Bool, true, false, cond, Some, None, arith, slice_get}
-use Rattle.std.proofs.Math.ListN.{drop_of_length-le}
-use Rattle.std.proofs.lemmas.List.{drop_more, append_assoc, append-nil}
-use Rattle.std.specs.Prelude.{filter}
+use Rattle.std.proofs.Common.{◌≡◌, refl, sym, ◌∙◌, ap, ℕ, zero, suc, ◌+◌, ◌<◌, List, [], ◌∷◌, ◌++◌, length, get_or, drop, true, false, cond, Some, None, arith, slice_get}
+use Rattle.std.proofs.lemmas.List.{drop_more, append_assoc}
 use Rattle.std.specs.Option.{unwrap_or}
 use Rattle.std.proofs.lemmas.Option.{none-some}
 use Rattle.partial_path.specs.Rules.{Rule}
@@ -10,13 +8,13 @@ use Rattle.partial_path.specs.Starts.{begins_at}
 use Rattle.version_tree.specs.Contents.{FileRow}
 use Rattle.root_index.specs.Roots.{RootPath, root, root_path, roots_from, roots_of, all_roots}
 
-got : {X : Type 0} (xs : List X) (i : ℕ) (d : X) → i < length xs → slice_get xs i ≡ Some (get_or xs i d)
+pub got : {X : Type 0} (xs : List X) (i : ℕ) (d : X) → i < length xs → slice_get xs i ≡ Some (get_or xs i d)
 got [] i d h = absurd (omega (arith, h))
 got (x ∷ xs) zero d h = refl
 got (x ∷ xs) (suc i) d h = got xs i d (omega (arith, h))
 
 -- the paths left, the first of them apart
-first_apart : (path : List ℕ) (place : ℕ) (rules : List Rule) (d : Rule) → place < length rules
+pub first_apart : (path : List ℕ) (place : ℕ) (rules : List Rule) (d : Rule) → place < length rules
     → roots_from path place (drop place rules)
     ≡ cond (begins_at root (get_or rules place d)) (root_path path place (Some (get_or rules place d)) ∷ []) [] ++ roots_from path (place + 1) (drop (place + 1) rules)
 first_apart path place rules d h = ap (roots_from path place) (drop_more rules place d h)
@@ -41,12 +39,6 @@ one_passed path place rules d done whole h other e =
     ∙ ap (λ b. cond b (root_path path place (Some (get_or rules place d)) ∷ []) [] ++ roots_from path (place + 1) (drop (place + 1) rules)) other))
     ∙ e
 
--- none is left
-pub none_left : (path : List ℕ) (place : ℕ) (rules : List Rule) (done whole : List RootPath) → length rules ≤ place
-    → done ++ roots_from path place (drop place rules) ≡ whole → done ≡ whole
-none_left path place rules done whole h e =
-    sym (append-nil done) ∙ sym (ap (λ rs. done ++ roots_from path place rs) (drop_of_length-le rules h)) ∙ e
-
 row_apart : {X : Type 0} (xs : List X) (i : ℕ) (x : X) → slice_get xs i ≡ Some x → drop i xs ≡ x ∷ drop (i + 1) xs
 row_apart [] zero x e = absurd (none-some x e)
 row_apart [] (suc i) x e = absurd (none-some x e)
@@ -67,42 +59,3 @@ pub no_row : (rows : List FileRow) (i : ℕ) → i < length rows → slice_get r
 no_row [] i h e = absurd (omega (arith, h))
 no_row (row ∷ rows) zero h e = absurd (none-some row (sym e))
 no_row (row ∷ rows) (suc i) h e = no_row rows i (omega (arith, h)) e
-
--- no row is left
-pub no_rows_left : (rows : List FileRow) (i : ℕ) (done whole : List RootPath) → length rows ≤ i → done ++ all_roots (drop i rows) ≡ whole → done ≡ whole
-no_rows_left rows i done whole h e =
-    sym (append-nil done) ∙ sym (ap (λ rs. done ++ all_roots rs) (drop_of_length-le rows h)) ∙ e
-
--- one that passes a test is kept
-pub one_kept : {X : Type 0} (p : X → Bool) (xs : List X) (i : ℕ) (d : X) (done whole : List X) → i < length xs → p (get_or xs i d) ≡ true
-    → done ++ filter p (drop i xs) ≡ whole → (done ++ get_or xs i d ∷ []) ++ filter p (drop (i + 1) xs) ≡ whole
-one_kept p xs i d done whole h passes e =
-    append_assoc done (get_or xs i d ∷ []) (filter p (drop (i + 1) xs))
-    ∙ sym (ap (λ ys. done ++ filter p ys) (drop_more xs i d h)
-    ∙ ap (λ b. done ++ cond b (get_or xs i d ∷ filter p (drop (i + 1) xs)) (filter p (drop (i + 1) xs))) passes)
-    ∙ e
-
--- one that doesn't is left out
-pub one_left_out : {X : Type 0} (p : X → Bool) (xs : List X) (i : ℕ) (d : X) (done whole : List X) → i < length xs → p (get_or xs i d) ≡ false
-    → done ++ filter p (drop i xs) ≡ whole → done ++ filter p (drop (i + 1) xs) ≡ whole
-one_left_out p xs i d done whole h fails e =
-    sym (ap (λ ys. done ++ filter p ys) (drop_more xs i d h)
-    ∙ ap (λ b. done ++ cond b (get_or xs i d ∷ filter p (drop (i + 1) xs)) (filter p (drop (i + 1) xs))) fails)
-    ∙ e
-
--- the paths of a row that passes a test are added
-pub row_taken : (p : FileRow → Bool) (rows : List FileRow) (i : ℕ) (row : FileRow) (done whole : List RootPath) → slice_get rows i ≡ Some row → p row ≡ true
-    → done ++ all_roots (filter p (drop i rows)) ≡ whole → (done ++ roots_of row) ++ all_roots (filter p (drop (i + 1) rows)) ≡ whole
-row_taken p rows i row done whole there passes e =
-    append_assoc done (roots_of row) (all_roots (filter p (drop (i + 1) rows)))
-    ∙ sym (ap (λ rs. done ++ all_roots (filter p rs)) (row_apart rows i row there)
-    ∙ ap (λ b. done ++ all_roots (cond b (row ∷ filter p (drop (i + 1) rows)) (filter p (drop (i + 1) rows)))) passes)
-    ∙ e
-
--- those of another are left out
-pub row_left_out : (p : FileRow → Bool) (rows : List FileRow) (i : ℕ) (row : FileRow) (done whole : List RootPath) → slice_get rows i ≡ Some row → p row ≡ false
-    → done ++ all_roots (filter p (drop i rows)) ≡ whole → done ++ all_roots (filter p (drop (i + 1) rows)) ≡ whole
-row_left_out p rows i row done whole there fails e =
-    sym (ap (λ rs. done ++ all_roots (filter p rs)) (row_apart rows i row there)
-    ∙ ap (λ b. done ++ all_roots (cond b (row ∷ filter p (drop (i + 1) rows)) (filter p (drop (i + 1) rows)))) fails)
-    ∙ e

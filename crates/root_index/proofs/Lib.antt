@@ -1,6 +1,15 @@
 mod Amended
 mod Gathered
+mod InBlocks
 mod KeyOrders
+mod KeyRuns
+mod Looked
+mod Placed
+mod Ranked
 mod Runs
 mod Seen
+mod Sized
+mod Starts
 mod Unique
+mod WithFile
+mod WithoutFile

@@ -137,7 +137,7 @@ in_row None symbols rules = []
 in_row (Some n) symbols rules = map (numbered n) (filter (is_offered_in n root symbols) rules)
 
 -- a start is the root where it is the root in another file
-root_moved : (n : ℕ) (start : Start) → start_eq start root ≡ start_eq (moved_start n start) root
+pub root_moved : (n : ℕ) (start : Start) → start_eq start root ≡ start_eq (moved_start n start) root
 root_moved n (Before node) = refl
 root_moved n (After spot.Root) = refl
 root_moved n (After (spot.At node)) = refl

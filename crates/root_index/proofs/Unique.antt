@@ -17,17 +17,13 @@ use Rattle.partial_path.specs.Rules.{Rule}
 use Rattle.partial_path.specs.Starts.{begins_at}
 use Rattle.partial_path.specs.Keys.{key_cmp}
 use Rattle.version_tree.specs.Contents.{FileRow, path_cmp, IsInOrder}
+use Rattle.root_index.specs.Blocks.{IsStrict}
 use Rattle.root_index.specs.Roots.{RootPath, root, root_path, root_key, rank, rank_cmp, roots_from, roots_of, all_roots, IsIndexOf, OneIndex}
 use Rattle.root_index.proofs.KeyOrders.{rank_cmp_total, order_of_ranks}
 use Rattle.root_index.proofs.Seen.{same_path}
 
 abbrev cmp : RootPath → RootPath → Ordering
 cmp a b = rank_cmp (rank a) (rank b)
-
--- each before all that follow
-abbrev IsStrict : List RootPath → Type 0
-IsStrict [] = Unit {0}
-IsStrict (p ∷ ps) = AllByRecursion (λ (q : RootPath). cmp p q ≡ Less) ps × IsStrict ps
 
 member : (P : RootPath → Type 0) (ps : List RootPath) (q : RootPath) → AllByRecursion P ps → Contains ps q → P q
 member P ps q all c = subst P c.2 (All-get_or P ps c.0 q c.1 (All-from_recursion P ps all))
@@ -218,7 +214,7 @@ strict_from (p ∷ ps) far few = (
   strict_from ps (λ i j d le h. far (suc i) (suc j) d (omega (arith, le)) (omega (arith, h))) (λ path place. fewer (stands_at path place p) p (filter (stands_at path place) ps) (few path place)),
 )
 
-strict_index : (rows : List FileRow) (ps : List RootPath) → IsInOrder rows → IsIndexOf rows ps → IsStrict ps
+pub strict_index : (rows : List FileRow) (ps : List RootPath) → IsInOrder rows → IsIndexOf rows ps → IsStrict ps
 strict_index rows ps order index =
     strict_from ps (sorted_far (λ p q. is_lt (cmp p q)) order_of_ranks ps index.order)
     (λ path place.

@@ -1,4 +1,6 @@
 pub mod Amended
+pub mod Blocks
 pub mod Inside
+pub mod Looks
 pub mod Offers
 pub mod Roots

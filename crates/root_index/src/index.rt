@@ -1,17 +1,23 @@
+use crate::blocks::Blocks;
 use crate::file_handle::FileHandle;
+use crate::looks::{RootLook, next_looked};
 use crate::offers::{RootOffers, next_slot};
 use crate::slot::Slot;
+use crate::slot_list::SlotList;
 use partial_path::{PartialPath, Spot, Start};
-use stacks_vars::SymbolStack;
+use stacks_vars::{Symbol, SymbolStack};
 use std::alloc::{AllocError, Global};
 use std::marker::Model;
 use version_tree::{Edit, Version, View};
+
+/// Of up to how many edits an index is amended path by path.
+const FEW_EDITS: usize = 64;
 
 /// All paths of a version's files that begin at the root, in the order of their keys, those of one key in
 /// the order of their files. It holds them without a copy. A contract sees them as a list.
 #[derive(Drop)]
 pub struct RootIndex {
-    slots: Vec<Slot>,
+    slots: SlotList,
 }
 
 impl Model for RootIndex {
@@ -20,16 +26,17 @@ impl Model for RootIndex {
 
     ghost Value = { List RootPath };
 
-    ghost view = { λ x. x.slots.items };
+    ghost view = { λ x. x.slots };
 
-    ghost invariant = { λ x. AreByRank x.slots.items };
+    ghost invariant = { λ x. AreByRank x.slots };
 }
 
 impl RootIndex {
-    ghost use Rattle.std.specs.Prelude.{◌≡◌, [], ◌∷◌, IfOk, MatchOption, IsPermutation};
+    ghost use Rattle.std.specs.Prelude.{◌≡◌, [], ◌∷◌, IfOk, MatchOption, IsPermutation, option_copied};
     ghost use Rattle.version_tree.specs.Contents.{AreRows, edited_all};
     ghost use Rattle.root_index.specs.Roots.{IsIndexOf, IsIndexOfView};
-    ghost use Rattle.root_index.specs.Offers.{offers_left, roots_offered};
+    ghost use Rattle.root_index.specs.Offers.{files_of, offers_left, roots_offered};
+    ghost use Rattle.root_index.specs.Looks.{look_left, roots_looked};
 
     /// The index of a version without files. It takes no memory.
     pub fn empty(alloc: Global) -> RootIndex
@@ -37,7 +44,7 @@ impl RootIndex {
         ensures index { IsIndexOf [] result }
     {
         RootIndex {
-            slots: Vec::new(alloc),
+            slots: SlotList::new(alloc),
         }
     }
 
@@ -47,27 +54,78 @@ impl RootIndex {
     {
         let mut slots = slots_of(alloc, version)?;
         slots.sort_unstable_by(|a, b| a.order(b));
-        Ok(RootIndex { slots })
+        let blocks = Blocks::of(alloc, slots)?;
+        Ok(RootIndex {
+            slots: SlotList::of(alloc, blocks)?,
+        })
     }
 
-    /// The index of the version that the edits make of the old one, of which this is the index. The paths of
-    /// files that no edit puts or removes are shared with this index, not copied. The one error is want of
-    /// memory. It takes time that follows the number of all paths from the root, and of the edits for each.
+    /// The index of the version that the edits make of the old one, of which this is the index. It shares
+    /// with this index all blocks of up to 64 paths in which the edited files have no paths, before or
+    /// after. The one error is want of memory. Of few edits it takes time that follows the number of paths
+    /// from the root that the edited files have, before and after, and of blocks; of more than `FEW_EDITS` it
+    /// makes the index afresh.
     pub fn amended(
+        &self,
+        alloc: Global,
+        old: &Version,
+        new: &Version,
+        edits: &[Edit],
+    ) -> Result<RootIndex, AllocError>
+        requires index { IsIndexOf old.now.content.rows self.now }
+        requires rows { new.now.content.rows ≡ (edited_all edits.now old.now.content).rows }
+        ensures { IfOk result (IsIndexOf new.now.content.rows) }
+    {
+        if edits.len() > FEW_EDITS {
+            return RootIndex::afresh(alloc, new);
+        }
+        let blocks = self.slots.blocks().share(alloc)?;
+        let blocks = without_edited(alloc, blocks, old, edits)?;
+        let blocks = with_edited(alloc, blocks, new, edits)?;
+        Ok(RootIndex {
+            slots: SlotList::of(alloc, blocks)?,
+        })
+    }
+
+    /// The index of the new version, of another of which this is the index: the one that
+    /// `RootIndex::afresh` makes. The one error is want of memory. It sorts all paths from the root, since it
+    /// isn't told what was edited.
+    pub fn next(
         &self,
         alloc: Global,
         _old: &Version,
         new: &Version,
-        edits: &[Edit],
     ) -> Result<RootIndex, AllocError>
-        requires index { IsIndexOf _old.now.content.rows self.now }
-        requires rows { new.now.content.rows ≡ (edited_all edits.now _old.now.content).rows }
+        requires { IsIndexOf _old.now.content.rows self.now }
         ensures { IfOk result (IsIndexOf new.now.content.rows) }
     {
-        let mut slots = others_of(alloc, self.slots.as_slice(), edits)?;
-        add_touched(alloc, new, edits, &mut slots)?;
-        slots.sort_unstable_by(|a, b| a.order(b));
-        Ok(RootIndex { slots })
+        RootIndex::afresh(alloc, new)
+    }
+
+    /// A look at the paths from the root that the user may see and whose precondition asks for no symbol, or
+    /// for this one first; without one, at those alone that ask for none: before its first path.
+    pub fn look(&self, _symbol: Option<&Symbol>, view: &View) -> RootLook
+        requires { IsIndexOfView self.now view.now }
+        ensures { look_left (files_of view.now) (option_copied _symbol.entry) result ≡ roots_looked view.now (option_copied _symbol.entry) }
+    {
+        let _count = view.row_count();
+        RootLook { file: 0, place: 0 }
+    }
+
+    /// The path that comes next in the look, with its file's number in the view, and where the look stands
+    /// after it; None where there is no more. The paths come by file and then by place. It takes no memory.
+    /// It goes from file to file, so it takes time that follows the number of files that are passed, and in
+    /// each the logarithm of the number of its paths and the number of those from the root: the look-up of
+    /// `offers` is the fast one, but has another order.
+    pub fn next_path<'a>(
+        &self,
+        symbol: Option<&Symbol>,
+        view: &'a View,
+        at: RootLook,
+    ) -> Option<(u32, &'a PartialPath, RootLook)>
+        ensures { MatchOption result (look_left (files_of view.now) (option_copied symbol.entry) at ≡ []) (λ found. look_left (files_of view.now) (option_copied symbol.entry) at ≡ (found.0, found.1.now) ∷ look_left (files_of view.now) (option_copied symbol.entry) found.2) }
+    {
+        next_looked(view, symbol, at)
     }
 
     /// A look-up of the paths from the root that can be met with this symbol stack, as far as the texts of
@@ -97,7 +155,7 @@ impl RootIndex {
         ensures { MatchOption result (offers_left at symbols.now view.now self.now ≡ []) (λ found. offers_left at symbols.now view.now self.now ≡ (found.0, found.1.now) ∷ offers_left found.2 symbols.now view.now self.now) }
     {
         let mut at = at;
-        while let Some((slot, after)) = next_slot(self.slots.as_slice(), symbols, at) {
+        while let Some((slot, after)) = next_slot(&self.slots, symbols, at) {
             at = after;
             if let Some(file) = number_in(view, slot.path()) {
                 return Some((file, slot.rule(), after));
@@ -107,11 +165,12 @@ impl RootIndex {
     }
 }
 
-ghost use Rattle.std.specs.Prelude.{◌≡◌, ◌≤◌, ◌++◌, length, drop, take, IfOk, OnOk};
+ghost use Rattle.std.specs.Prelude.{◌≡◌, ◌≤◌, ◌++◌, length, drop, take, IfOk, OnOk, IsPermutation, option_copied};
 ghost use Rattle.version_tree.specs.Contents.{FileRow};
-ghost use Rattle.root_index.specs.Roots.{all_roots, roots_of, roots_from, root};
+ghost use Rattle.root_index.specs.Roots.{AreByRank, IsIndexOf, all_roots, roots_of, roots_from, root};
 ghost use Rattle.root_index.specs.Offers.{number_in};
-ghost use Rattle.root_index.specs.Amended.{names, is_touched, other_paths, touched_rows};
+ghost use Rattle.root_index.specs.Amended.{AreFrom, AreOf, edit_path, names, is_touched, other_paths, rows_at, touched_rows, without_file};
+ghost use Rattle.root_index.specs.Blocks.{IsStrict, all_paths};
 ghost use Rattle.partial_path.specs.Starts.{begins_at};
 
 /// The number of the file at the path in the view, by halving; None where it isn't seen.
@@ -136,37 +195,119 @@ fn slots_of(alloc: Global, version: &Version) -> Result<Vec<Slot>, AllocError>
     Ok(slots)
 }
 
-/// Those of these paths whose files no edit puts or removes. The one error is want of memory.
-fn others_of(alloc: Global, slots: &[Slot], edits: &[Edit]) -> Result<Vec<Slot>, AllocError>
-    ensures { IfOk result (λ others. others.items ≡ other_paths edits.now slots.now) }
+/// These paths without those of files that an edit puts or removes, of the index of a version's files. The
+/// one error is want of memory.
+fn without_edited(
+    alloc: Global,
+    blocks: Blocks,
+    old: &Version,
+    edits: &[Edit],
+) -> Result<Blocks, AllocError>
+    requires { IsIndexOf old.now.content.rows (all_paths blocks) }
+    ensures { IfOk result (λ rest. all_paths rest ≡ other_paths edits.now (all_paths blocks)) }
 {
-    let mut others = Vec::new(alloc);
-    for slot in slots {
-        if !is_touched(edits, slot.path()) {
-            others.push(slot.share()?)?;
+    let _count = old.row_count();
+    let mut rest = blocks;
+    for edit in edits {
+        if let Some(path) = path_of(edit) {
+            rest = without_path(alloc, rest, old, path)?;
         }
     }
-    Ok(others)
+    Ok(rest)
 }
 
-/// Adds the paths from the root of the version's files that the edits put. The one error is want of memory.
-fn add_touched(
+/// These paths without those of the version's file at that path. The one error is want of memory.
+fn without_path(
     alloc: Global,
-    version: &Version,
-    edits: &[Edit],
-    slots: &mut Vec<Slot>,
-) -> Result<(), AllocError>
-    ensures { OnOk result (slots.new.items ≡ slots.old.items ++ all_roots (touched_rows edits.now version.now.content.rows)) }
+    blocks: Blocks,
+    old: &Version,
+    path: &str,
+) -> Result<Blocks, AllocError>
+    requires order { AreByRank (all_paths blocks) }
+    requires strict { IsStrict (all_paths blocks) }
+    requires from { AreFrom old.now.content.rows (all_paths blocks) }
+    ensures { IfOk result (λ rest. all_paths rest ≡ without_file path.now (all_paths blocks)) }
 {
-    for i in 0..version.row_count() {
-        if let Some((path, paths)) = version.row(i) {
-            if is_touched(edits, path) {
-                let file = FileHandle::of(alloc, path, paths)?;
-                add_slots(&file, slots)?;
+    let _count = old.row_count();
+    match old.paths_at(path) {
+        Some(paths) => {
+            let file = FileHandle::of(alloc, path, paths)?;
+            without_file(alloc, blocks, &file)
+        }
+        None => Ok(blocks),
+    }
+}
+
+/// These paths without those of the file, which has all that have its path. The one error is want of memory.
+fn without_file(alloc: Global, blocks: Blocks, file: &FileHandle) -> Result<Blocks, AllocError>
+    requires order { AreByRank (all_paths blocks) }
+    requires strict { IsStrict (all_paths blocks) }
+    requires from { AreOf file.now (all_paths blocks) }
+    ensures { IfOk result (λ rest. all_paths rest ≡ without_file file.now.path (all_paths blocks)) }
+{
+    let mut rest = blocks;
+    let paths = file.paths().get().paths();
+    for place in 0..paths.len() {
+        if is_from_root(&paths[place]) {
+            rest = rest.without(alloc, &Slot::of(file.share()?, place))?;
+        }
+    }
+    Ok(rest)
+}
+
+/// These paths with those of the version's files that an edit puts. The one error is want of memory.
+fn with_edited(
+    alloc: Global,
+    blocks: Blocks,
+    new: &Version,
+    edits: &[Edit],
+) -> Result<Blocks, AllocError>
+    requires { AreByRank (all_paths blocks) }
+    ensures order { IfOk result (λ more. AreByRank (all_paths more)) }
+    ensures all { IfOk result (λ more. IsPermutation (all_roots (touched_rows edits.now new.now.content.rows) ++ all_paths blocks) (all_paths more)) }
+{
+    let _count = new.row_count();
+    let mut more = blocks;
+    for i in 0..edits.len() {
+        if let Some(path) = path_of(&edits[i]) {
+            if !is_touched(&edits[..i], path) {
+                more = with_path(alloc, more, new, path)?;
             }
         }
     }
-    Ok(())
+    Ok(more)
+}
+
+/// These paths with those of the version's file at that path. The one error is want of memory.
+fn with_path(alloc: Global, blocks: Blocks, new: &Version, path: &str) -> Result<Blocks, AllocError>
+    requires { AreByRank (all_paths blocks) }
+    ensures order { IfOk result (λ more. AreByRank (all_paths more)) }
+    ensures all { IfOk result (λ more. IsPermutation (all_roots (rows_at path.now new.now.content.rows) ++ all_paths blocks) (all_paths more)) }
+{
+    let _count = new.row_count();
+    match new.paths_at(path) {
+        Some(paths) => {
+            let file = FileHandle::of(alloc, path, paths)?;
+            with_file(alloc, blocks, &file)
+        }
+        None => Ok(blocks),
+    }
+}
+
+/// These paths with those of the file that begin at the root. The one error is want of memory.
+fn with_file(alloc: Global, blocks: Blocks, file: &FileHandle) -> Result<Blocks, AllocError>
+    requires { AreByRank (all_paths blocks) }
+    ensures order { IfOk result (λ more. AreByRank (all_paths more)) }
+    ensures all { IfOk result (λ more. IsPermutation (roots_of file.now ++ all_paths blocks) (all_paths more)) }
+{
+    let mut more = blocks;
+    let paths = file.paths().get().paths();
+    for place in 0..paths.len() {
+        if is_from_root(&paths[place]) {
+            more = more.with(alloc, Slot::of(file.share()?, place))?;
+        }
+    }
+    Ok(more)
 }
 
 /// Whether one of the edits puts or removes the file at the path.
@@ -180,13 +321,23 @@ fn is_touched(edits: &[Edit], path: &str) -> bool
 fn names(edit: &Edit, path: &str) -> bool
     ensures { result ≡ names path.now edit.now }
 {
+    match path_of(edit) {
+        Some(other) => other.as_bytes().cmp(path.as_bytes()).is_eq(),
+        None => false,
+    }
+}
+
+/// The path of the file that the edit puts or removes; None where it changes who may see what.
+fn path_of(edit: &Edit) -> Option<&str>
+    ensures { option_copied result ≡ edit_path edit.now }
+{
     match edit {
-        Edit::Put { path: other, .. } => other.as_str().as_bytes().cmp(path.as_bytes()).is_eq(),
-        Edit::Remove { path: other } => other.as_str().as_bytes().cmp(path.as_bytes()).is_eq(),
-        Edit::Grant { .. } => false,
-        Edit::Revoke { .. } => false,
-        Edit::Deny { .. } => false,
-        Edit::Undeny { .. } => false,
+        Edit::Put { path, .. } => Some(path.as_str()),
+        Edit::Remove { path } => Some(path.as_str()),
+        Edit::Grant { .. } => None,
+        Edit::Revoke { .. } => None,
+        Edit::Deny { .. } => None,
+        Edit::Undeny { .. } => None,
     }
 }
 

@@ -1,14 +1,19 @@
 //! The index of a version's paths from the root: which of them a user may see and a stack can meet.
 #![tactic(auto)]
 
+mod block;
+mod blocks;
 mod file_handle;
 mod index;
 mod laws;
+mod looks;
 mod offers;
 mod slot;
+mod slot_list;
 #[cfg(test)]
 mod tests;
 
 pub use index::RootIndex;
 pub use laws::rows_have_one_index;
+pub use looks::RootLook;
 pub use offers::RootOffers;

@@ -9,9 +9,9 @@ ghost use Rattle.root_index.specs.Offers.{asks, next_paths, paths_left, offers_a
 ghost use Rattle.root_index.specs.Inside.{key_order, is_before_key, is_at_key};
 
 use crate::slot::Slot;
-use partial_path::{KEY_SIZE, key_side};
+use crate::slot_list::SlotList;
+use partial_path::KEY_SIZE;
 use stacks_vars::SymbolStack;
-use std::cmp::Ordering;
 
 /// Where a look-up in an index stands.
 #[derive(Clone, Copy, Debug)]
@@ -26,7 +26,7 @@ pub struct RootOffers {
 /// The path that comes next, whoever may see it, and where the look-up stands after it; None where there is
 /// no more. The paths are in order.
 pub(crate) fn next_slot<'a>(
-    slots: &'a [Slot],
+    slots: &'a SlotList,
     symbols: &SymbolStack,
     at: RootOffers,
 ) -> Option<(&'a Slot, RootOffers)>
@@ -47,7 +47,7 @@ pub(crate) fn next_slot<'a>(
 }
 
 /// The next path of the present run; None where that is at its end.
-fn next_here(slots: &[Slot], at: RootOffers) -> Option<&Slot>
+fn next_here(slots: &SlotList, at: RootOffers) -> Option<&Slot>
     ensures value { option_copied result ≡ slice_get (next_paths at slots.now) 0 }
     ensures inside { IfSome result (λ _. at.place < at.end) }
 {
@@ -60,7 +60,7 @@ fn next_here(slots: &[Slot], at: RootOffers) -> Option<&Slot>
 
 /// The first path of the runs to come, and where the look-up stands after it; None where they have none.
 fn next_run<'a>(
-    slots: &'a [Slot],
+    slots: &'a SlotList,
     symbols: &SymbolStack,
     at: RootOffers,
 ) -> Option<(&'a Slot, RootOffers)>
@@ -76,7 +76,7 @@ fn next_run<'a>(
                 end,
                 asked: asked + 1,
             };
-            return Some((&slots[place], after));
+            return Some((slots.at(place), after));
         }
     }
     None
@@ -84,41 +84,13 @@ fn next_run<'a>(
 
 /// Where the paths stand whose key is made of the texts of the stack's first symbols, so many of them: from
 /// which place on, and before which. They are found by halving.
-fn run_asking(slots: &[Slot], symbols: &SymbolStack, count: usize) -> (usize, usize)
+fn run_asking(slots: &SlotList, symbols: &SymbolStack, count: usize) -> (usize, usize)
     requires order { AreByRank slots.now }
     requires count { count ≤ key_size }
     ensures run { take (result.1 - result.0) (drop result.0 slots.now) ≡ filter (is_at_key (take count (texts symbols.now))) slots.now }
-    ensures bounds { (result.0 ≤ result.1) × (result.1 ≤ length slots.now) }
+    ensures bound { result.1 ≤ length slots.now }
 {
-    let low = count_before(slots, symbols, count);
-    let many = count_at(&slots[low..], symbols, count);
-    (low, low + many)
-}
-
-/// How many of the paths, which are in order, have a lower key.
-fn count_before(slots: &[Slot], symbols: &SymbolStack, count: usize) -> usize
-    requires order { AreByRank slots.now }
-    requires count { count ≤ key_size }
-    ensures value { result ≡ prefix_len (is_before_key (take count (texts symbols.now))) slots.now }
-    ensures bound { result ≤ length slots.now }
-{
-    slots.partition_point(|slot| order_of(slot, symbols, count).is_lt())
-}
-
-/// How many of the first paths have that key, of paths of which none has it after one that doesn't.
-fn count_at(slots: &[Slot], symbols: &SymbolStack, count: usize) -> usize
-    requires parted { IsPartitionedBy (is_at_key (take count (texts symbols.now))) slots.now }
-    requires count { count ≤ key_size }
-    ensures value { result ≡ prefix_len (is_at_key (take count (texts symbols.now))) slots.now }
-    ensures bound { result ≤ length slots.now }
-{
-    slots.partition_point(|slot| order_of(slot, symbols, count).is_eq())
-}
-
-/// How the path's key stands to the texts of the stack's first symbols, so many of them.
-fn order_of(slot: &Slot, symbols: &SymbolStack, count: usize) -> Ordering
-    requires { count ≤ key_size }
-    ensures { result ≡ key_order (take count (texts symbols.now)) slot.now }
-{
-    key_side(slot.rule(), symbols, count)
+    let place = slots.end_of(symbols, count, false);
+    let end = slots.end_of(symbols, count, true);
+    (place, end)
 }

@@ -1,27 +1,28 @@
-use Rattle.std.proofs.Common.{rules, ◌≡◌, subst, sym, ◌∙◌, ap, List, ◌++◌}
-use Rattle.std.specs.Ordering.{is_lt}
+use Rattle.std.proofs.Common.{subst, sym, ◌∙◌, ap, not}
 use Rattle.std.specs.List.Sorted.{IsPermutation}
-use Rattle.std.proofs.lemmas.List.Sorted.{answers_always, IsPermutation-trans}
-use Rattle.root_index.specs.Roots.{RootPath, rank, rank_cmp, all_roots}
-use Rattle.root_index.specs.Amended.{other_paths, touched_rows}
-use Rattle.root_index.proofs.KeyOrders.{order_of_ranks}
-use Rattle.root_index.proofs.Amended.{amended_is}
+use Rattle.root_index.specs.Roots.{RootPath, AreByRank, all_roots}
+use Rattle.root_index.specs.Amended.{is_touched, other_paths}
+use Rattle.root_index.specs.Blocks.{all_paths}
+use Rattle.root_index.proofs.WithoutFile.{order_kept}
+use Rattle.root_index.proofs.WithFile.{amended_all}
 use Rattle.root_index.proofs.index.RootIndex.amended.Goals as goal
 
+pub with_edited-requires : goal.with_edited-requires
+with_edited-requires c =
+    let shared = ap all_paths c.in_ok-blocks.ensures ∙ c.blocks-2.ensures ∙ c.self.view_is in
+    subst AreByRank (sym (c.in_ok-blocks-2.ensures ∙ ap (other_paths c.args.edits.now) shared))
+    (order_kept (λ (p : RootPath). not (is_touched c.args.edits.now p.path)) c.args.self.now c.requires.index.order)
+
 pub invariant_of-result : goal.invariant_of-result
-invariant_of-result c = c.sort_unstable_by.ensures.sorted (λ a b. is_lt (rank_cmp (rank a) (rank b))) order_of_ranks (answers_always _ _ _ (λ f a r g h. search rules))
+invariant_of-result c = subst AreByRank (sym c.in_ok-of.ensures) c.in_ok-blocks-3.ensures.order
 
 -- the paths of the other files and those of the touched rows are all paths of the new rows
 pub returns : goal.returns
 returns c =
-    let slots_are : c.as_slice.result.now ≡ c.args.self.now = c.as_slice.ensures.value ∙ c.self.view_is in
-    let gathered : c.add_touched.new.slots.items ≡ other_paths c.args.edits.now c.args.self.now ++ all_roots (touched_rows c.args.edits.now c.args.new.now.content.rows)
-    = c.in_ok-add_touched.ensures
-    ∙ ap (λ (ps : List RootPath). ps ++ all_roots (touched_rows c.args.edits.now c.args.new.now.content.rows)) (c.in_ok-slots.ensures ∙ ap (other_paths c.args.edits.now) slots_are) in
+    let shared = ap all_paths c.in_ok-blocks.ensures ∙ c.blocks-2.ensures ∙ c.self.view_is in
     record {
-      all = IsPermutation-trans (all_roots c.args.new.now.content.rows) c.add_touched.new.slots.items c.sort_unstable_by.new.self.items
-          (subst (IsPermutation (all_roots c.args.new.now.content.rows)) (sym gathered)
-          (amended_is c.args.edits.now c.args._old.now.content c.args.new.now.content.rows c.args.self.now c.requires.index c.requires.rows))
-          c.sort_unstable_by.ensures.permutation;
+      all = subst (IsPermutation (all_roots c.args.new.now.content.rows)) (sym c.in_ok-of.ensures)
+          (amended_all c.args.edits.now c.args.old.now.content c.args.new.now.content.rows c.args.self.now (all_paths c.in_ok-blocks-2.blocks) (all_paths c.in_ok-blocks-3.blocks)
+          c.requires.index c.requires.rows (c.in_ok-blocks-2.ensures ∙ ap (other_paths c.args.edits.now) shared) c.in_ok-blocks-3.ensures.all);
       order = invariant_of-result c;
     }

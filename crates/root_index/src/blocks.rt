@@ -1,0 +1,233 @@
+ghost use Rattle.std.specs.Prelude.{◌≡◌, ◌≤◌, ◌<◌, ◌+◌, ◌++◌, length, take, drop, IfOk, OnOk, All};
+ghost use Rattle.std.specs.List.{prefix_len};
+ghost use Rattle.std.specs.List.Sorted.{IsPartitionedBy};
+ghost use Rattle.root_index.specs.Roots.{AreByRank};
+ghost use Rattle.root_index.specs.Blocks.{IsBlock, all_paths, first_passes, is_tied, is_up_to};
+
+use crate::block::{BLOCK_PATHS, Block};
+use crate::slot::Slot;
+use std::alloc::{AllocError, Global};
+use std::cmp::Ordering;
+use std::marker::Model;
+
+/// Paths in blocks that indexes share: a change copies the handles of one block, and no other path.
+/// Blocks that have become small are not joined. A contract sees the list of the blocks.
+#[derive(Drop)]
+pub(crate) struct Blocks {
+    blocks: Vec<Block>,
+}
+
+impl Model for Blocks {
+    ghost use Rattle.std.specs.Prelude.{List, All};
+    ghost use Rattle.root_index.specs.Roots.{RootPath};
+    ghost use Rattle.root_index.specs.Blocks.{IsBlock};
+
+    ghost Value = { List (List RootPath) };
+
+    ghost view = { λ b. b.blocks.items };
+
+    ghost invariant = { λ b. All IsBlock b.blocks.items };
+}
+
+impl Blocks {
+    ghost use Rattle.std.specs.Prelude.{◌≡◌, ◌<◌, ◌≤◌, ◌+◌, ◌++◌, [], ◌∷◌, length, take, drop, not, slice_get, Some, IfOk, OnOk, MatchOption, All};
+    ghost use Rattle.std.specs.List.{filter, prefix_len, insert};
+    ghost use Rattle.std.specs.List.Sorted.{IsPartitionedBy};
+    ghost use Rattle.root_index.specs.Roots.{AreByRank};
+    ghost use Rattle.root_index.specs.Blocks.{IsBlock, IsEndOf, IsStrict, AreStarts, all_paths, first_passes, is_up_to, is_tied};
+
+    /// No blocks. It takes no memory.
+    pub(crate) fn new(alloc: Global) -> Blocks
+        ensures { result ≡ [] }
+    {
+        Blocks {
+            blocks: Vec::new(alloc),
+        }
+    }
+
+    /// These paths in blocks. The one error is want of memory.
+    pub(crate) fn of(alloc: Global, slots: Vec<Slot>) -> Result<Blocks, AllocError>
+        ensures { IfOk result (λ blocks. all_paths blocks ≡ slots.items) }
+    {
+        Ok(Blocks {
+            blocks: in_blocks(alloc, slots)?,
+        })
+    }
+
+    /// The same blocks once more, not copied. The one error is want of memory.
+    pub(crate) fn share(&self, alloc: Global) -> Result<Blocks, AllocError>
+        ensures { IfOk result (λ blocks. blocks ≡ self.now) }
+    {
+        let mut blocks = Vec::new(alloc);
+        for block in &self.blocks {
+            blocks.push(block.share()?)?;
+        }
+        Ok(Blocks { blocks })
+    }
+
+    /// The blocks.
+    pub(crate) fn blocks(&self) -> &[Block]
+        ensures blocks { result.now ≡ self.now }
+        ensures sizes { All IsBlock self.now }
+    {
+        self.blocks.as_slice()
+    }
+
+    /// At which place among all paths each block begins, and how many paths there are. The one error is
+    /// want of memory; more paths than 64 bits can count are told as such.
+    pub(crate) fn starts(&self, alloc: Global) -> Result<(Vec<usize>, usize), AllocError>
+        ensures starts { IfOk result (λ found. AreStarts found.0.items self.now) }
+        ensures count { IfOk result (λ found. found.1 ≡ length (all_paths self.now)) }
+    {
+        let mut starts = Vec::new(alloc);
+        let mut count: usize = 0;
+        for block in &self.blocks {
+            starts.push(count)?;
+            count = count.checked_add(block.slots().len()).ok_or(AllocError)?;
+        }
+        Ok((starts, count))
+    }
+
+    // How many blocks begin no higher than the path, by halving.
+    fn blocks_up_to(&self, slot: &Slot) -> usize
+        requires { AreByRank (all_paths self.now) }
+        ensures value { result ≡ prefix_len (first_passes (is_up_to slot.now)) self.now }
+        ensures bound { result ≤ length self.now }
+        ensures sizes { All IsBlock self.now }
+    {
+        self.blocks
+            .partition_point(|block| is_up_to(block.first(), slot))
+    }
+
+    // The place behind those paths that stand no higher than this one, by halving; None where there are none.
+    fn place_of(&self, slot: &Slot) -> Option<(usize, usize)>
+        requires { AreByRank (all_paths self.now) }
+        ensures { MatchOption result (prefix_len (is_up_to slot.now) (all_paths self.now) ≡ 0) (λ found. IsEndOf (is_up_to slot.now) self.now found.0 found.1 × (0 < found.1)) }
+    {
+        let count = self.blocks_up_to(slot);
+        if count == 0 {
+            return None;
+        }
+        let block = count - 1;
+        Some((block, paths_up_to(self.blocks[block].slots(), slot)))
+    }
+
+    // The same place in the first block, where there are none; there is a block.
+    fn place_for(&self, slot: &Slot) -> (usize, usize)
+        requires order { AreByRank (all_paths self.now) }
+        requires some { 0 < length self.now }
+        ensures { IsEndOf (is_up_to slot.now) self.now result.0 result.1 }
+    {
+        match self.place_of(slot) {
+            Some(found) => found,
+            None => (0, 0),
+        }
+    }
+
+    /// These paths with this one, behind all that stand no higher: one block is copied, and split where it
+    /// has become too large. The one error is want of memory.
+    pub(crate) fn with(self, alloc: Global, slot: Slot) -> Result<Blocks, AllocError>
+        requires { AreByRank (all_paths self) }
+        ensures { IfOk result (λ after. all_paths after ≡ insert (all_paths self) (prefix_len (is_up_to slot) (all_paths self)) slot) }
+    {
+        if self.blocks.is_empty() {
+            return Blocks::of_one(alloc, slot);
+        }
+        let (block, place) = self.place_for(&slot);
+        let mut slots = self.blocks[block].copied(alloc)?;
+        slots.insert(place, slot)?;
+        self.replaced(alloc, block, slots)
+    }
+
+    /// These paths without the one that stands at the same rank, where there is one: one block is copied,
+    /// and left out where it has become empty. The one error is want of memory.
+    pub(crate) fn without(self, alloc: Global, slot: &Slot) -> Result<Blocks, AllocError>
+        requires order { AreByRank (all_paths self) }
+        requires strict { IsStrict (all_paths self) }
+        ensures { IfOk result (λ after. all_paths after ≡ filter (λ q. not (is_tied slot.now q)) (all_paths self)) }
+    {
+        let Some((block, place)) = self.place_of(slot) else {
+            return Ok(self);
+        };
+        let last = place - 1;
+        if !is_tied(&self.blocks[block].slots()[last], slot) {
+            return Ok(self);
+        }
+        let mut slots = self.blocks[block].copied(alloc)?;
+        slots.remove(last);
+        self.replaced(alloc, block, slots)
+    }
+
+    // One block of one path.
+    fn of_one(alloc: Global, slot: Slot) -> Result<Blocks, AllocError>
+        ensures { IfOk result (λ after. all_paths after ≡ slot ∷ []) }
+    {
+        let mut slots = Vec::new(alloc);
+        slots.push(slot)?;
+        Blocks::of(alloc, slots)
+    }
+
+    // These paths with those in place of the paths of the block at the place.
+    fn replaced(self, alloc: Global, i: usize, slots: Vec<Slot>) -> Result<Blocks, AllocError>
+        requires { i < length self }
+        ensures { IfOk result (λ after. all_paths after ≡ all_paths (take i self) ++ (slots.items ++ all_paths (drop (i + 1) self))) }
+    {
+        let Blocks { mut blocks } = self;
+        let parts = in_blocks(alloc, slots)?;
+        replace(&mut blocks, i, parts)?;
+        Ok(Blocks { blocks })
+    }
+}
+
+// How many of the paths, which are in order, stand no higher than this one, by halving.
+fn paths_up_to(slots: &[Slot], slot: &Slot) -> usize
+    requires { IsPartitionedBy (is_up_to slot.now) slots.now }
+    ensures value { result ≡ prefix_len (is_up_to slot.now) slots.now }
+    ensures bound { result ≤ length slots.now }
+{
+    slots.partition_point(|other| is_up_to(other, slot))
+}
+
+// Whether the first path stands no higher than the second.
+fn is_up_to(other: &Slot, slot: &Slot) -> bool
+    ensures { result ≡ is_up_to slot.now other.now }
+{
+    other.order(slot).is_le()
+}
+
+// Whether the two paths stand at one rank.
+fn is_tied(other: &Slot, slot: &Slot) -> bool
+    ensures { result ≡ is_tied slot.now other.now }
+{
+    other.order(slot).is_eq()
+}
+
+// These paths in blocks: none, one, or more where they are too many for one.
+fn in_blocks(alloc: Global, slots: Vec<Slot>) -> Result<Vec<Block>, AllocError>
+    ensures paths { IfOk result (λ blocks. all_paths blocks.items ≡ slots.items) }
+    ensures sizes { IfOk result (λ blocks. All IsBlock blocks.items) }
+{
+    let mut slots = slots;
+    let mut blocks = Vec::new(alloc);
+    while slots.len() > BLOCK_PATHS {
+        let last = slots.split_off(slots.len() - BLOCK_PATHS / 2)?;
+        blocks.push(Block::of(alloc, last)?)?;
+    }
+    if slots.len() > 0 {
+        blocks.push(Block::of(alloc, slots)?)?;
+    }
+    blocks.reverse();
+    Ok(blocks)
+}
+
+// Puts the parts in place of the block at the place. The one error is want of memory.
+fn replace(blocks: &mut Vec<Block>, i: usize, mut parts: Vec<Block>) -> Result<(), AllocError>
+    requires { i < length blocks.old.items }
+    ensures { OnOk result (blocks.new.items ≡ take i blocks.old.items ++ (parts.items ++ drop (i + 1) blocks.old.items)) }
+{
+    let mut after = blocks.split_off(i + 1)?;
+    blocks.truncate(i);
+    blocks.append(&mut parts)?;
+    blocks.append(&mut after)?;
+    Ok(())
+}

@@ -1,0 +1,156 @@
+ghost use Rattle.std.specs.Prelude.{◌≡◌, ◌≤◌, length, take};
+ghost use Rattle.std.specs.List.{prefix_len};
+ghost use Rattle.std.specs.List.Sorted.{IsPartitionedBy};
+ghost use Rattle.partial_path.specs.Keys.{key_size, texts};
+ghost use Rattle.root_index.specs.Blocks.{begins_by, first_passes, is_within_key};
+
+use crate::block::Block;
+use crate::blocks::Blocks;
+use crate::slot::Slot;
+use partial_path::key_side;
+use stacks_vars::SymbolStack;
+use std::alloc::{AllocError, Global};
+use std::marker::Model;
+
+/// Paths in blocks that indexes share, with the place at which each block begins. A contract sees the list
+/// of all paths.
+#[derive(Drop)]
+pub(crate) struct SlotList {
+    blocks: Blocks,
+    starts: Vec<usize>,
+    count: usize,
+}
+
+impl Model for SlotList {
+    ghost use Rattle.std.specs.Prelude.{◌≡◌, ◌<◌, ◌^◌, List, length};
+    ghost use Rattle.root_index.specs.Roots.{RootPath};
+    ghost use Rattle.root_index.specs.Blocks.{AreStarts, all_paths};
+
+    ghost Value = { List RootPath };
+
+    ghost view = { λ s. all_paths s.blocks };
+
+    ghost invariant = { λ s. AreStarts s.starts.items s.blocks × (s.count ≡ length (all_paths s.blocks)) × (length (all_paths s.blocks) < 2 ^ 64) };
+}
+
+impl SlotList {
+    ghost use Rattle.std.specs.Prelude.{◌≡◌, ◌<◌, ◌≤◌, [], length, take, slice_get, Some, IfOk, option_copied};
+    ghost use Rattle.std.specs.List.{prefix_len};
+    ghost use Rattle.std.specs.List.Sorted.{IsPartitionedBy};
+    ghost use Rattle.partial_path.specs.Keys.{key_size, texts};
+    ghost use Rattle.root_index.specs.Blocks.{all_paths, is_within_key};
+
+    /// No paths. It takes no memory.
+    pub(crate) fn new(alloc: Global) -> SlotList
+        ensures { result ≡ [] }
+    {
+        SlotList {
+            blocks: Blocks::new(alloc),
+            starts: Vec::new(alloc),
+            count: 0,
+        }
+    }
+
+    /// The paths of these blocks. The one error is want of memory.
+    pub(crate) fn of(alloc: Global, blocks: Blocks) -> Result<SlotList, AllocError>
+        ensures { IfOk result (λ slots. slots ≡ all_paths blocks) }
+    {
+        let (starts, count) = blocks.starts(alloc)?;
+        Ok(SlotList {
+            blocks,
+            starts,
+            count,
+        })
+    }
+
+    /// The blocks that hold the paths.
+    pub(crate) fn blocks(&self) -> &Blocks
+        ensures { all_paths result.now ≡ self.now }
+    {
+        &self.blocks
+    }
+
+    /// The path at that place; None past the last. It takes time that follows the logarithm of the number of
+    /// blocks.
+    pub(crate) fn get(&self, place: usize) -> Option<&Slot>
+        ensures { option_copied result ≡ slice_get self.now place }
+    {
+        if place < self.count {
+            Some(self.at(place))
+        } else {
+            None
+        }
+    }
+
+    /// The path at that place. It takes time that follows the logarithm of the number of blocks.
+    pub(crate) fn at(&self, place: usize) -> &Slot
+        requires { place < length self.now }
+        ensures { slice_get self.now place ≡ Some result.now }
+    {
+        let block = blocks_begun(self.starts.as_slice(), place) - 1;
+        &self.blocks.blocks()[block].slots()[place - self.starts[block]]
+    }
+
+    /// How many paths stand before the key that the texts of the stack's first symbols make, so many of
+    /// them; where it is closed, with those that have this key. They are found by halving.
+    pub(crate) fn end_of(&self, symbols: &SymbolStack, count: usize, closed: bool) -> usize
+        requires parted { IsPartitionedBy (is_within_key closed (take count (texts symbols.now))) self.now }
+        requires count { count ≤ key_size }
+        ensures value { result ≡ prefix_len (is_within_key closed (take count (texts symbols.now))) self.now }
+        ensures bound { result ≤ length self.now }
+    {
+        let blocks = self.blocks.blocks();
+        let found = blocks_within(blocks, symbols, count, closed);
+        if found == 0 {
+            return 0;
+        }
+        let block = found - 1;
+        self.starts[block] + paths_within(blocks[block].slots(), symbols, count, closed)
+    }
+}
+
+// How many blocks begin no later than at the place, by halving over the places at which they begin.
+fn blocks_begun(starts: &[usize], place: usize) -> usize
+    requires { IsPartitionedBy (begins_by place) starts.now }
+    ensures value { result ≡ prefix_len (begins_by place) starts.now }
+    ensures bound { result ≤ length starts.now }
+{
+    starts.partition_point(|start| *start <= place)
+}
+
+// How many blocks begin within the key, by halving.
+fn blocks_within(blocks: &[Block], symbols: &SymbolStack, count: usize, closed: bool) -> usize
+    requires parted { IsPartitionedBy (first_passes (is_within_key closed (take count (texts symbols.now)))) blocks.now }
+    requires count { count ≤ key_size }
+    ensures value { result ≡ prefix_len (first_passes (is_within_key closed (take count (texts symbols.now)))) blocks.now }
+    ensures bound { result ≤ length blocks.now }
+{
+    blocks.partition_point(|block| begins_within(block, symbols, count, closed))
+}
+
+// How many of the paths stand within the key, by halving.
+fn paths_within(slots: &[Slot], symbols: &SymbolStack, count: usize, closed: bool) -> usize
+    requires parted { IsPartitionedBy (is_within_key closed (take count (texts symbols.now))) slots.now }
+    requires count { count ≤ key_size }
+    ensures value { result ≡ prefix_len (is_within_key closed (take count (texts symbols.now))) slots.now }
+    ensures bound { result ≤ length slots.now }
+{
+    slots.partition_point(|slot| is_within_key(slot, symbols, count, closed))
+}
+
+// Whether the block's first path stands within the key.
+fn begins_within(block: &Block, symbols: &SymbolStack, count: usize, closed: bool) -> bool
+    requires { count ≤ key_size }
+    ensures { result ≡ first_passes (is_within_key closed (take count (texts symbols.now))) block.now }
+{
+    is_within_key(block.first(), symbols, count, closed)
+}
+
+// Whether the path stands before the key, or at it where that is closed.
+fn is_within_key(slot: &Slot, symbols: &SymbolStack, count: usize, closed: bool) -> bool
+    requires { count ≤ key_size }
+    ensures { result ≡ is_within_key closed (take count (texts symbols.now)) slot.now }
+{
+    let order = key_side(slot.rule(), symbols, count);
+    order.is_lt() || (closed && order.is_eq())
+}
