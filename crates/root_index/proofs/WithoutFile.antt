@@ -23,7 +23,7 @@ use Rattle.partial_path.proofs.Halved.{filter_same}
 use Rattle.version_tree.specs.declared.edit.Edit.{Edit}
 use Rattle.version_tree.specs.Contents.{FileRow, file_row, path_cmp, IsInOrder}
 use Rattle.version_tree.specs.Views.{file_with, file_at}
-use Rattle.version_tree.proofs.Parts.{all-filter}
+use Rattle.list_facts.proofs.Each.{all-filter}
 use Rattle.root_index.specs.Roots.{RootPath, root, root_path, root_key, rank, rank_cmp, AreByRank, roots_from, roots_of, all_roots, IsIndexOf}
 use Rattle.root_index.specs.Amended.{edit_path, names, is_touched, other_paths, without_file, rows_at, IsOf, AreOf, IsFrom, AreFrom}
 use Rattle.root_index.specs.Blocks.{IsStrict, is_tied}

@@ -10,8 +10,10 @@ use Rattle.partial_path.specs.Counted.{IsBoundedComplete, IsCrowded, HasLimit}
 use Rattle.partial_path.specs.Sources.{IsSourceFile, graphs_of}
 use Rattle.stitcher.specs.Joins.{Asked, Joined, none_joined, met, is_bounded_complete, is_bounded_counted, is_past_bounds, complete_met, counted_met}
 use Rattle.stitcher.specs.Laws.{joined_edges, CutLaws}
-use Rattle.stitcher.proofs.Members.{IsIn, IsIn-map, IsIn-map_from, IsIn-filter, IsIn-filter_from, IsIn-from_Contains, Contains-from_IsIn}
-use Rattle.stitcher.proofs.Apart.{IsApart-filter, length-apart_le}
+use Rattle.list_facts.specs.Members.{IsIn}
+use Rattle.list_facts.proofs.Members.{IsIn-map, IsIn-map_from, IsIn-filter, IsIn-filter_from, IsIn-from_Contains, Contains-from_IsIn}
+use Rattle.list_facts.proofs.Apart.{IsApart-filter}
+use Rattle.list_facts.proofs.Sums.{length-apart_le}
 use Rattle.stitcher.proofs.Same.{AreSame, length-same, same_filter, same_any}
 use Rattle.stitcher.proofs.Meeting.{apart_meets}
 use Rattle.stitcher.proofs.Telling.{same_edges, apart_images, told_by_met}

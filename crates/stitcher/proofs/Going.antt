@@ -1,6 +1,5 @@
 -- The whole search: one open run after the other is gone on from, until none is left.
 use Rattle.std.proofs.Common.{◌≡◌, ℕ, ◌+◌, ◌<◌, ◌≤◌, Bool, true, false, ◌||◌, List, [], ◌∷◌, ◌++◌, map, length, Option, Some, All, Contains, IsTrue, ◌↔◌, MatchOption, sym, refl, ap, ◌∙◌, subst, arith, filter, flat_map, append_assoc, append-nil, length-append, IsPermutation, ◌⊎◌, inl, inr}
-use Rattle.std.specs.Bool.{⊤}
 use Rattle.std.specs.List.{AllByRecursion, list_any}
 use Rattle.std.proofs.lemmas.List.{map-append}
 use Rattle.std.proofs.lemmas.List.Elements.{All-from_recursion, filter-append}
@@ -24,8 +23,12 @@ use Rattle.stitcher.specs.Joins.{Asked, Joined, none_joined, next_start, is_boun
 use Rattle.stitcher.specs.Laws.{joined_edges, CutLaws}
 use Rattle.stitcher.specs.Answers.{kept_edges, EndsThere}
 use Rattle.stitcher.specs.Opens.{opened, opens_of, kept_run, kept_runs, joined_run, IsNoted, IsExtended, IsOverfull, levels_of, IsOpen, IsLast, AreAdded, IsEnded}
-use Rattle.stitcher.proofs.Members.{IsIn, IsIn-append_left, IsIn-append_right, IsIn-append_cases, IsIn-map, IsIn-map_from, IsIn-filter_from, IsIn-from_Contains, Contains-from_IsIn, at_member, each_member}
-use Rattle.stitcher.proofs.Apart.{IsApart-append_left}
+use Rattle.list_facts.specs.Apart.{Pairs}
+use Rattle.list_facts.proofs.Each.{all-append, all-left}
+use Rattle.list_facts.proofs.Pairs.{Pairs-append, Pairs-left, Pairs-before}
+use Rattle.list_facts.specs.Members.{IsIn}
+use Rattle.list_facts.proofs.Members.{IsIn-append_left, IsIn-append_right, IsIn-append_cases, IsIn-map, IsIn-map_from, IsIn-filter_from, IsIn-from_Contains, Contains-from_IsIn, at_member, each_member}
+use Rattle.list_facts.proofs.Apart.{IsApart-append_left}
 use Rattle.stitcher.proofs.Same.{AreSame, apart_of_many}
 use Rattle.stitcher.proofs.Offered.{apart_offered}
 use Rattle.stitcher.proofs.Meeting.{Stands, none_stands}
@@ -33,36 +36,17 @@ use Rattle.stitcher.proofs.Telling.{met_stands, met_some}
 use Rattle.stitcher.proofs.UnderWay.{onward, AreFound, found_by, IsUnderWay, begins_under_way, goes_on_under_way, fewer_ahead}
 use Rattle.stitcher.proofs.Ending.{AreAllMet, ended, complete_once, complete_exact, limit_exact, not_crowded, crowded}
 use Rattle.stitcher.proofs.Tried.{noted_after}
-use Rattle.stitcher.proofs.Opening.{each_append, open_kept, opens_kept, open_last, open_stands, open_goes}
+use Rattle.stitcher.proofs.Opening.{open_kept, opens_kept, open_last, open_stands, open_goes}
 
 -- the depths never fall towards the end
 abbrev pub IsStacked : List Open → Type 0
-IsStacked [] = ⊤
-IsStacked (o ∷ os) = AllByRecursion (λ (x : Open). o.depth ≤ x.depth) os × IsStacked os
-
-stacked_append : (xs ys : List Open) → IsStacked xs → IsStacked ys → ((x y : Open) → IsIn x xs → IsIn y ys → x.depth ≤ y.depth) → IsStacked (xs ++ ys)
-stacked_append [] ys a b below = b
-stacked_append (x ∷ xs) ys a b below = (
-  each_append (λ (y : Open). x.depth ≤ y.depth) xs ys a.0 (each_member (λ (y : Open). x.depth ≤ y.depth) ys (λ y h. below x y (inl refl) h)),
-  stacked_append xs ys a.1 b (λ z y h g. below z y (inr h) g),
-)
+IsStacked opens = Pairs (λ (x y : Open). x.depth ≤ y.depth) opens
 
 stacked_front : (xs : List Open) (o : Open) → IsStacked (xs ++ o ∷ []) → IsStacked xs × AllByRecursion (λ (x : Open). x.depth ≤ o.depth) xs
-stacked_front [] o h = (tt, tt)
-stacked_front (x ∷ xs) o h =
-    let r = stacked_front xs o h.1 in
-    let all = each_in (λ (y : Open). x.depth ≤ y.depth) xs (o ∷ []) h.0 in (
-      (all.0, r.0),
-      (at_member (λ (y : Open). x.depth ≤ y.depth) o (o ∷ []) all.1 (inl refl), r.1),
-    )
-  where
-    each_in : {X : Type 0} (P : X → Type 0) (xs ys : List X) → AllByRecursion P (xs ++ ys) → AllByRecursion P xs × AllByRecursion P ys
-    each_in P [] ys g = (tt, g)
-    each_in P (a ∷ xs) ys g = let s = each_in P xs ys g.1 in ((g.0, s.0), s.1)
-
-each_front : {X : Type 0} (P : X → Type 0) (xs ys : List X) → AllByRecursion P (xs ++ ys) → AllByRecursion P xs
-each_front P [] ys g = tt
-each_front P (a ∷ xs) ys g = (g.0, each_front P xs ys g.1)
+stacked_front xs o h = (
+  Pairs-left (λ (x y : Open). x.depth ≤ y.depth) xs (o ∷ []) h,
+  Pairs-before (λ (x y : Open). x.depth ≤ y.depth) o xs [] h,
+)
 
 same_depths : (n : ℕ) (ys : List Open) → AllByRecursion (λ (y : Open). y.depth ≡ n) ys → IsStacked ys
 same_depths n [] h = tt
@@ -176,16 +160,16 @@ module _ (laws : CutLaws) (q : Asked) (sources : All IsSourceFile q.files) (begi
           noted = noted_after q g.done found g.tallied.first t u g.tallied.noted e.2.noted;
         };
         going = subst (AllByRecursion (IsOpen q (levels_of trail o))) (sym a.1)
-            (each_append (IsOpen q (levels_of trail o)) rest a.0
+            (all-append (IsOpen q (levels_of trail o)) rest a.0
             (each_member (IsOpen q (levels_of trail o)) rest
-            (λ x h. open_kept q trail o x (at_member (IsOpen q trail) x rest (each_front (IsOpen q trail) rest (o ∷ []) g.going) h) (at_member (λ (y : Open). y.depth ≤ o.depth) x rest front.1 h) is.depth))
+            (λ x h. open_kept q trail o x (at_member (IsOpen q trail) x rest (all-left (IsOpen q trail) rest (o ∷ []) g.going) h) (at_member (λ (y : Open). y.depth ≤ o.depth) x rest front.1 h) is.depth))
             (each_member (IsOpen q (levels_of trail o)) a.0 (λ x h. open_last q (levels_of trail o) x (at_member (IsLast q (levels_of trail o)) x a.0 a.2 h))));
         stacked = subst IsStacked (sym a.1)
-            (stacked_append rest a.0 front.0
+            (Pairs-append (λ (x y : Open). x.depth ≤ y.depth) rest a.0 front.0
             (same_depths (length (levels_of trail o)) a.0 (each_member (λ (y : Open). y.depth ≡ length (levels_of trail o)) a.0 (λ y h. (at_member (IsLast q (levels_of trail o)) y a.0 a.2 h).depth)))
             (λ x y hx hy.
             let low : x.depth ≤ o.depth = at_member (λ (z : Open). z.depth ≤ o.depth) x rest front.1 hx in
-            let up : x.depth ≤ length (levels_of trail o) = (open_kept q trail o x (at_member (IsOpen q trail) x rest (each_front (IsOpen q trail) rest (o ∷ []) g.going) hx) low is.depth).depth in
+            let up : x.depth ≤ length (levels_of trail o) = (open_kept q trail o x (at_member (IsOpen q trail) x rest (all-left (IsOpen q trail) rest (o ∷ []) g.going) hx) low is.depth).depth in
             let there : y.depth ≡ length (levels_of trail o) = (at_member (IsLast q (levels_of trail o)) y a.0 a.2 hy).depth in
             omega arith));
       }

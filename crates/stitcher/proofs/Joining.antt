@@ -19,8 +19,8 @@ use Rattle.partial_path.specs.Laws.{PathsAreRuns, RunsEndInFiles, ReturnsAreStar
 use Rattle.stitcher.specs.declared.trail.Level.{Level}
 use Rattle.stitcher.specs.Joins.{Asked, joined, with_path, origin, is_at_cut, met_at_cuts, keeps_straight, landed, joined_by}
 use Rattle.stitcher.specs.Trail.{paths_of, landed_at, IsHere, IsOffered}
-use Rattle.stitcher.proofs.Members.{at_member, IsIn-from_Contains}
-use Rattle.stitcher.proofs.Equals.{config_eq_decides}
+use Rattle.list_facts.proofs.Members.{at_member, IsIn-from_Contains}
+use Rattle.partial_path.proofs.Equals.{config_eq-Decides}
 use Rattle.stitcher.proofs.Leading.{lead_with, nonempty_with}
 use Rattle.stitcher.proofs.Offered.{source_at}
 
@@ -62,7 +62,7 @@ module _ (q : Asked) (trail : List Level) (at next : Config) (p : ℕ × Rule) (
   seen_from runs back (inl h) =
       let r = run_next runs in
       let same : next ≡ q.start = (back q.files q.node q.start next (path_edges (with_path (paths_of trail) p)) sources begins r.nonempty r.runs).1 h in
-      or_left (config_eq next q.start) (list_any (config_eq next) (at_cuts (graphs_of q.files) (landings (origin q) (paths_of trail)))) ((config_eq_decides next q.start).1 same)
+      or_left (config_eq next q.start) (list_any (config_eq next) (at_cuts (graphs_of q.files) (landings (origin q) (paths_of trail)))) ((config_eq-Decides next q.start).1 same)
   seen_from runs back (inr t) =
       ap (λ (cs : List Config). list_any (config_eq next) cs) met_is ∙ or_right (config_eq next q.start) (list_any (config_eq next) (map landed_at trail)) t
 
@@ -72,7 +72,7 @@ module _ (q : Asked) (trail : List Level) (at next : Config) (p : ℕ × Rule) (
       by : (config_eq next q.start ≡ true) ⊎ (list_any (config_eq next) (map landed_at trail) ≡ true) → IsAtStart q.node next ⊎ IsTrue (list_any (config_eq next) (map landed_at trail))
       by (inl h) =
           let r = run_next runs in
-          inl ((back q.files q.node q.start next (path_edges (with_path (paths_of trail) p)) sources begins r.nonempty r.runs).0 ((config_eq_decides next q.start).0 h))
+          inl ((back q.files q.node q.start next (path_edges (with_path (paths_of trail) p)) sources begins r.nonempty r.runs).0 ((config_eq-Decides next q.start).0 h))
       by (inr h) = inr h
 
   joined_as : joined_by q (joined (paths_of trail) at) p ≡ landed q (joined (paths_of trail) at) p next

@@ -1,6 +1,3 @@
-pub mod Members
-pub mod Apart
-pub mod Equals
 pub mod Leading
 pub mod Offered
 pub mod Straight

@@ -14,8 +14,9 @@ use Rattle.partial_path.specs.Sources.{IsSourceFile}
 use Rattle.partial_path.specs.Cutting.{LeadFrom}
 use Rattle.partial_path.specs.Laws.{AreStraightPaths}
 use Rattle.stitcher.specs.Joins.{Asked, Joined, joined, with_path, origin, none_joined, next_start, keeps_straight, landed, joined_by, goes_on, offered_to, longer, meets}
-use Rattle.stitcher.proofs.Members.{IsIn, IsIn-flat_map, IsIn-flat_map_from}
-use Rattle.stitcher.proofs.Apart.{all_differ, IsApart-flat_map}
+use Rattle.list_facts.specs.Members.{IsIn}
+use Rattle.list_facts.proofs.Members.{IsIn-flat_map, IsIn-flat_map_from}
+use Rattle.list_facts.proofs.Apart.{all_differ, IsApart-flat_map}
 use Rattle.stitcher.proofs.Leading.{lead_with}
 use Rattle.stitcher.proofs.Straight.{straight_with}
 use Rattle.stitcher.proofs.Offered.{offered_stored, apart_offered}

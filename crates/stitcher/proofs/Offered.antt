@@ -14,15 +14,17 @@ use Rattle.partial_path.specs.Keys.{key}
 use Rattle.partial_path.specs.PathSets.{FileRules, IsLandingRule, walk_of_rule}
 use Rattle.partial_path.specs.Sources.{IsSourceFile, begins_in, stand_first, is_offered_in, numbered, rules_offered_in, rules_offered_after, rules_offered}
 use Rattle.partial_path.specs.Cutting.{IsStoredIn}
-use Rattle.stitcher.proofs.Members.{IsIn, IsIn-append_cases, IsIn-map, IsIn-map_from, IsIn-filter_from, at_member, Contains-from_IsIn, IsIn-from_Contains}
-use Rattle.stitcher.proofs.Apart.{IsApart-append, IsApart-filter, IsApart-map, absent, all_differ}
-use Rattle.stitcher.proofs.Equals.{node_eq_decides, spot_eq_decides}
+use Rattle.list_facts.specs.Members.{IsIn}
+use Rattle.list_facts.proofs.Members.{IsIn-append_cases, IsIn-map, IsIn-map_from, IsIn-filter_from, at_member, Contains-from_IsIn, IsIn-from_Contains}
+use Rattle.list_facts.proofs.Apart.{IsApart-append, IsApart-filter, IsApart-map, absent, all_differ}
+use Rattle.partial_path.proofs.Equals.{spot_eq-Decides}
+use Rattle.stacks_vars.proofs.SameLaws.{node_eq-Decides}
 
 start_same : (a b : Start) → start_eq a b ≡ true → a ≡ b
-start_same (Before a) (Before b) t = ap Before ((node_eq_decides a b).0 t)
+start_same (Before a) (Before b) t = ap Before ((node_eq-Decides a b).0 t)
 start_same (Before a) (After b) t = cc
 start_same (After a) (Before b) t = cc
-start_same (After a) (After b) t = ap After ((spot_eq_decides a b).0 t)
+start_same (After a) (After b) t = ap After ((spot_eq-Decides a b).0 t)
 
 -- the file with that number among files of which the first has the other number
 record IsOfThese (files : List FileRules) (first : ℕ) (start : Start) (p : ℕ × Rule) : Type 0 where

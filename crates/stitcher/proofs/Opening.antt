@@ -20,7 +20,8 @@ use Rattle.stitcher.specs.declared.trail.Level.{Level}
 use Rattle.stitcher.specs.Joins.{Asked, Joined, joined, with_path, origin, is_none, start_behind, next_start, is_at_cut, is_bounded, is_bounded_counted, keeps_straight, joined_by, goes_on, offered_to}
 use Rattle.stitcher.specs.Opens.{opened, opened_at, opens_of, those, levels_of, AreOpen, IsOpen, IsLast, AreAdded, AreTried, IsOverfull}
 use Rattle.stitcher.specs.Trail.{Moves, path_of, paths_of, landed_at, IsHere, IsOffered}
-use Rattle.stitcher.proofs.Members.{IsIn}
+use Rattle.list_facts.proofs.Each.{all-append}
+use Rattle.list_facts.specs.Members.{IsIn}
 use Rattle.stitcher.proofs.Leading.{lead_with, landings-with}
 use Rattle.stitcher.proofs.Straight.{straight_with}
 use Rattle.stitcher.proofs.Meeting.{Stands, landed_of}
@@ -30,14 +31,9 @@ use Rattle.stitcher.proofs.Noting.{some_with}
 pub paths_with : (trail : List Level) (l : Level) → paths_of (trail ++ l ∷ []) ≡ with_path (paths_of trail) (path_of l)
 paths_with trail l = map-append path_of trail (l ∷ [])
 
--- what holds of each element of two lists holds of each of both
-pub each_append : {X : Type 0} (P : X → Type 0) (xs ys : List X) → AllByRecursion P xs → AllByRecursion P ys → AllByRecursion P (xs ++ ys)
-each_append P [] ys a b = b
-each_append P (x ∷ xs) ys a b = (a.0, each_append P xs ys a.1 b)
-
 all_with : {X : Type 0} (P : X → Type 0) (xs : List X) (x : X) → All P xs → P x → All P (xs ++ x ∷ [])
 all_with P xs x h p =
-    All-from_recursion P (xs ++ x ∷ []) (each_append P xs (x ∷ []) (recursion_from_All P xs h) (p, tt))
+    All-from_recursion P (xs ++ x ∷ []) (all-append P xs (x ∷ []) (recursion_from_All P xs h) (p, tt))
 
 -- the level of a path that was joined stands behind the trail
 module _ (q : Asked) (trail : List Level) (at : Config) (level : Level) (here : IsHere q trail at) (offered : IsOffered q trail at (path_of level)) (applies : apply (moved level.file level.path.now) at ≡ Some level.at) where
@@ -78,7 +74,7 @@ pub added_more : (q : Asked) (trail : List Level) (a b c : List Open) → AreAdd
 added_more q trail a b c m n = (
   m.0 ++ n.0,
   n.1 ∙ (ap (λ (ws : List Open). ws ++ n.0) m.1 ∙ append_assoc a m.0 n.0),
-  each_append (IsLast q trail) m.0 n.0 m.2 n.2,
+  all-append (IsLast q trail) m.0 n.0 m.2 n.2,
 )
 
 pub last_of : (q : Asked) (trail : List Level) (edges : ℕ) (level : Level) (cut bounded : Bool) → cut ≡ is_at_cut q level.at → bounded ≡ is_bounded q (with_path (paths_of trail) (path_of level)) → (IsTrue (is_at_cut q level.at) → IsHere q (trail ++ level ∷ []) level.at) → edges ≡ edge_count (with_path (paths_of trail) (path_of level)) → All (λ (l : Level). Moves l.file l.path.now) trail → Moves level.file level.path.now → (cut && bounded) ≡ true → IsLast q trail (opened_at trail edges level)

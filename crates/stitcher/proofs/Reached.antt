@@ -19,7 +19,8 @@ use Rattle.partial_path.specs.Cutting.{path_edges, PathsLead, LeadFrom, edge_cou
 use Rattle.partial_path.specs.Laws.{AreStraightPaths}
 use Rattle.stitcher.specs.Joins.{Asked, Joined, joined, with_path, origin, none_joined, is_none, start_behind, next_start, is_at_cut, is_bounded, goes_on, offered_to, longer, meets, met, lands, is_at_result}
 use Rattle.stitcher.specs.Laws.{CutLaws}
-use Rattle.stitcher.proofs.Members.{IsIn, IsIn-flat_map, IsIn-from_Contains}
+use Rattle.list_facts.specs.Members.{IsIn}
+use Rattle.list_facts.proofs.Members.{IsIn-flat_map, IsIn-from_Contains}
 use Rattle.stitcher.proofs.Leading.{IsNext, lead_with, lead_once, parts, path_edges-append, split_last, nonempty_with}
 use Rattle.stitcher.proofs.Straight.{keeps_from, straight_front}
 use Rattle.stitcher.proofs.Offered.{stored_nonempty}

@@ -3,8 +3,10 @@ use Rattle.std.proofs.Common.{◌≡◌, suc, ◌≤◌, Bool, true, false, List
 use Rattle.std.specs.List.{list_any}
 use Rattle.std.proofs.lemmas.Bool.{cases_Bool, false_from_ne_true}
 use Rattle.partial_path.specs.Runs.{IsApart}
-use Rattle.stitcher.proofs.Members.{IsIn, IsIn-filter, IsIn-filter_from, passing_member, list_any-from_member}
-use Rattle.stitcher.proofs.Apart.{absent, all_differ, length-apart_le}
+use Rattle.list_facts.specs.Members.{IsIn}
+use Rattle.list_facts.proofs.Members.{IsIn-filter, IsIn-filter_from, passing_member, list_any-from_member}
+use Rattle.list_facts.proofs.Apart.{absent, all_differ}
+use Rattle.list_facts.proofs.Sums.{length-apart_le}
 
 -- what stands in the one stands in the other
 pub record AreSame {X : Type 0} (xs ys : List X) : Type 0 where

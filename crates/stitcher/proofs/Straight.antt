@@ -13,22 +13,23 @@ use Rattle.partial_path.specs.Moved.{moved}
 use Rattle.partial_path.specs.Cutting.{LeadFrom, landings}
 use Rattle.partial_path.specs.Laws.{AreStraightPaths}
 use Rattle.stitcher.specs.Joins.{Asked, origin, is_at_cut, met_at_cuts, keeps_straight, with_path}
-use Rattle.stitcher.proofs.Members.{IsIn, passing_member, list_any-from_member}
-use Rattle.stitcher.proofs.Apart.{IsApart_push, IsApart-last, IsApart-append_left}
-use Rattle.stitcher.proofs.Equals.{config_eq_decides}
+use Rattle.list_facts.specs.Members.{IsIn}
+use Rattle.list_facts.proofs.Members.{passing_member, list_any-from_member}
+use Rattle.list_facts.proofs.Apart.{IsApart_push, IsApart-last, IsApart-append_left}
+use Rattle.partial_path.proofs.Equals.{config_eq-Decides}
 use Rattle.stitcher.proofs.Leading.{landings-with, landings-append}
 
 apart_with : (b : Bool) (xs : List Config) (next : Config) → not (b && list_any (config_eq next) xs) ≡ true → IsApart xs → IsApart (xs ++ cond b (next ∷ []) [])
 apart_with true xs next t h =
     IsApart_push xs next h
-    (λ g. false≢true (ap not (sym (list_any-from_member (config_eq next) next xs g ((config_eq_decides next next).1 refl))) ∙ t))
+    (λ g. false≢true (ap not (sym (list_any-from_member (config_eq next) next xs g ((config_eq-Decides next next).1 refl))) ∙ t))
 apart_with false xs next t h = subst IsApart (sym (append-nil xs)) h
 
 with_apart : (b : Bool) (xs : List Config) (next : Config) → IsApart (xs ++ cond b (next ∷ []) []) → not (b && list_any (config_eq next) xs) ≡ true
 with_apart true xs next h =
     ap not (false_from_ne_true (list_any (config_eq next) xs)
     (λ t. let m = passing_member (config_eq next) xs t in
-    IsApart-last xs next h (subst (λ (c : Config). IsIn c xs) (sym ((config_eq_decides next m.0).0 m.2)) m.1)))
+    IsApart-last xs next h (subst (λ (c : Config). IsIn c xs) (sym ((config_eq-Decides next m.0).0 m.2)) m.1)))
 with_apart false xs next h = refl
 
 module _ (q : Asked) where

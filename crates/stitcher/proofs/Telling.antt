@@ -14,8 +14,10 @@ use Rattle.partial_path.specs.Sources.{IsSourceFile, graphs_of}
 use Rattle.partial_path.specs.Laws.{IsToldByLandings}
 use Rattle.stitcher.specs.Joins.{Asked, Joined, joined, none_joined, is_none, is_at_cut, is_at_result, is_bounded, met, lands, is_bounded_complete, is_bounded_counted, is_past_bounds, complete_met, counted_met, meets_past}
 use Rattle.stitcher.specs.Laws.{joined_edges, CutLaws, IsToldByMet, MetPathsTell}
-use Rattle.stitcher.proofs.Members.{IsIn, IsIn-map, IsIn-map_from, IsIn-filter, IsIn-filter_from, IsIn-from_Contains, Contains-from_IsIn, at_member, each_member, passing_member, list_any-from_member}
-use Rattle.stitcher.proofs.Apart.{IsApart-filter, all_differ, absent, length-apart_le}
+use Rattle.list_facts.specs.Members.{IsIn}
+use Rattle.list_facts.proofs.Members.{IsIn-map, IsIn-map_from, IsIn-filter, IsIn-filter_from, IsIn-from_Contains, Contains-from_IsIn, at_member, each_member, passing_member, list_any-from_member}
+use Rattle.list_facts.proofs.Apart.{IsApart-filter, all_differ, absent}
+use Rattle.list_facts.proofs.Sums.{length-apart_le}
 use Rattle.stitcher.proofs.Leading.{nonempty_with}
 use Rattle.stitcher.proofs.Meeting.{Stands, none_stands, meets_sound, meets_begin, apart_meets}
 use Rattle.stitcher.proofs.Reached.{bounded_decides, in_met, bounded_fronts, stop, same_joined}

@@ -14,7 +14,8 @@ use Rattle.stitcher.specs.declared.trail.Level.{Level}
 use Rattle.stitcher.specs.Joins.{Asked, Joined, joined, joined_by, goes_on, offered_to, next_start, is_bounded_complete, is_bounded_counted, is_past_bounds}
 use Rattle.stitcher.specs.Opens.{opens_of, kept_runs, joined_run, IsNoted, AreTried}
 use Rattle.stitcher.specs.Trail.{paths_of, IsOffered}
-use Rattle.stitcher.proofs.Members.{IsIn, IsIn-append_right, IsIn-from_Contains, Contains-from_IsIn}
+use Rattle.list_facts.specs.Members.{IsIn}
+use Rattle.list_facts.proofs.Members.{IsIn-append_right, IsIn-from_Contains, Contains-from_IsIn}
 use Rattle.stitcher.proofs.Offered.{offered_stored}
 
 or_assoc : (a b c : Bool) → ((a || b) || c) ≡ (a || (b || c))

@@ -9,8 +9,9 @@ use Rattle.partial_path.specs.Moved.{moved}
 use Rattle.partial_path.specs.Sources.{IsSourceFile, graphs_of}
 use Rattle.stitcher.specs.Joins.{Asked, Joined, none_joined, joined_by, goes_on, offered_to, longer, meets, met, ahead}
 use Rattle.stitcher.specs.Laws.{CutLaws}
-use Rattle.stitcher.proofs.Members.{IsIn, IsIn-append_left, IsIn-append_right, IsIn-append_cases, IsIn-flat_map, IsIn-flat_map_from}
-use Rattle.stitcher.proofs.Apart.{all_differ, IsApart-flat_map}
+use Rattle.list_facts.specs.Members.{IsIn}
+use Rattle.list_facts.proofs.Members.{IsIn-append_left, IsIn-append_right, IsIn-append_cases, IsIn-flat_map, IsIn-flat_map_from}
+use Rattle.list_facts.proofs.Apart.{all_differ, IsApart-flat_map}
 use Rattle.stitcher.proofs.Same.{AreSame, length-same, apart_of_many}
 use Rattle.stitcher.proofs.Meeting.{Stands, longer_of, same_longer, length_longer, same_front, no_room, meets_begin, piece_begins, apart_meets, apart_landed, path_of_joined}
 use Rattle.stitcher.proofs.Reached.{count_of}

@@ -21,7 +21,7 @@ use Rattle.stitcher.specs.declared.trail.Level.{Level}
 use Rattle.stitcher.specs.Joins.{Asked, Joined, joined, with_path, origin, is_at_cut, is_at_result, is_bounded, keeps_straight, landed, joined_by, goes_on}
 use Rattle.stitcher.specs.Opens.{kept_runs, those, IsNoted}
 use Rattle.stitcher.specs.Trail.{Moves, paths_of, IsHere, IsOffered}
-use Rattle.stitcher.proofs.Members.{at_member, IsIn-from_Contains}
+use Rattle.list_facts.proofs.Members.{at_member, IsIn-from_Contains}
 use Rattle.stitcher.proofs.Offered.{source_at}
 use Rattle.stitcher.proofs.Heights.{symbols_met, mapped_some, moved_reaches, bounded-with}
 use Rattle.stitcher.proofs.Noting.{noted, opened_as}
