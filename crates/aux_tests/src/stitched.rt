@@ -39,11 +39,7 @@ fn searched(
 }
 
 /// The edges with their precedences; fewer where there is no such edge.
-fn steps_of(
-    alloc: Global,
-    files: &[FileGraph],
-    path: &EdgePath,
-) -> Result<EdgeList, Fail> {
+fn steps_of(alloc: Global, files: &[FileGraph], path: &EdgePath) -> Result<EdgeList, Fail> {
     let mut steps = Vec::new(alloc);
     for at in &path.edges {
         let Some(edge) = edge_at(files, *at) else {
