@@ -1,11 +1,11 @@
 -- The graph of a document by the grammar is the one that reading with one token of lookahead gives.
-use Rattle.std.proofs.Common.{◌≡◌, ◌↔◌, ◌∙◌, Bool, true, false, List, ℕ, length, Option, None, Some, Result, Err, refl, ap, sym, ltb, cond, MatchBool}
+use Rattle.std.proofs.Common.{◌≡◌, ◌↔◌, ◌∙◌, Bool, true, false, length, Option, None, Some, Result, Err, refl, ap, sym, ltb, cond, MatchBool}
 use Rattle.graph_nodes.specs.Graph.{Graph}
 use Rattle.py_subset.specs.Texts.{LookaheadReadsTexts}
 use Rattle.py_subset.specs.Whole.{parse_of}
 use Rattle.path_store.specs.Documents.{Doc}
 use Rattle.index_gate.specs.declared.fault.FileFault.{FileFault}
-use Rattle.index_gate.specs.declared.fault.FileFault.TheVariants.{UnknownKind, TooLarge}
+use Rattle.index_gate.specs.declared.fault.FileFault.TheVariants.{TooLarge}
 use Rattle.index_gate.specs.declared.kind.DocumentKind.{DocumentKind}
 use Rattle.index_gate.specs.declared.kind.DocumentKind.TheVariants.{GraphFile, PythonModule}
 use Rattle.index_gate.specs.Limits.{max_bytes}
