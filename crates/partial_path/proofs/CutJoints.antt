@@ -27,7 +27,7 @@ use Rattle.partial_path.proofs.Followed.{uncut_spot}
 use Rattle.partial_path.proofs.MovedWalks.{uncut_moved}
 use Rattle.partial_path.proofs.OnlyCuts.{zeros_of}
 use Rattle.partial_path.proofs.Joints.{IsEnded, ended, graph_there, stored_lands, stored_runs, edges_ended, begin_after, start_entered, begin_before, paths_are_runs}
-use Rattle.partial_path.proofs.Exported.{AreChecked, HasCutScopes, place_cut, step_cut, cut_spot}
+use Rattle.partial_path.proofs.Exported.{AreChecked, HoldScopeNodes, place_scopes, step_scopes, cut_spot}
 use Rattle.partial_path.proofs.CutRuns.{all_checked}
 
 same_tests : (a b : Bool) → (a ≡ true → b ≡ true) → (a ≡ false → b ≡ false) → a ≡ b
@@ -35,12 +35,12 @@ same_tests true b h k = sym (h refl)
 same_tests false b h k = sym (k refl)
 
 -- an edge is a cut edge exactly where it leads to a cut spot
-cut_same : (files : List Graph) (d next : Config) (e : EdgeAt) → HasCutScopes files d.stacks → step files d e ≡ Some next → is_cut_edge files e ≡ is_cut_spot_of files next.spot
+cut_same : (files : List Graph) (d next : Config) (e : EdgeAt) → HoldScopeNodes files d.stacks → step files d e ≡ Some next → is_cut_edge files e ≡ is_cut_spot_of files next.spot
 cut_same files d next e scopes stepped =
     same_tests (is_cut_edge files e) (is_cut_spot_of files next.spot) (cut_spot files d next e scopes stepped) (uncut_spot files d next e stepped)
 
 -- after one edge
-one_cut : (files : List Graph) (d next : Config) (e : EdgeAt) → HasCutScopes files d.stacks → step files d e ≡ Some next → where_cut files e next ≡ at_cuts files (next ∷ [])
+one_cut : (files : List Graph) (d next : Config) (e : EdgeAt) → HoldScopeNodes files d.stacks → step files d e ≡ Some next → where_cut files e next ≡ at_cuts files (next ∷ [])
 one_cut files d next e scopes stepped = ap (λ (b : Bool). if b then next ∷ [] else []) (cut_same files d next e scopes stepped)
 
 first_of_run : (files : List Graph) (es : List EdgeAt) (o : Option Config) (end : Config) → option_and_then (λ (next : Config). run files next es) o ≡ Some end
@@ -54,20 +54,20 @@ cuts_stepped files d next e es stepped = ap (λ (o : Option Config). option_map_
 
 -- where the run of edges stands that may end with a cut edge, but have none before
 abbrev CutOnce : List Graph → Config → List EdgeAt → Config → Type 0
-CutOnce files d es end = (after_cuts files d es ≡ at_cuts files (end ∷ [])) × HasCutScopes files end.stacks
+CutOnce files d es end = (after_cuts files d es ≡ at_cuts files (end ∷ [])) × HoldScopeNodes files end.stacks
 
-cut_once : (files : List Graph) (d end : Config) (e : EdgeAt) (es : List EdgeAt) → AreChecked files → HasCutScopes files d.stacks → IsUncut files (e ∷ es)
+cut_once : (files : List Graph) (d end : Config) (e : EdgeAt) (es : List EdgeAt) → AreChecked files → HoldScopeNodes files d.stacks → IsUncut files (e ∷ es)
     → run files d (e ∷ es) ≡ Some end → CutOnce files d (e ∷ es) end
 cut_once files d end e [] checked scopes uncut ran =
     let (next, stepped, is) = first_of_run files [] (step files d e) end ran in
     subst (CutOnce files d (e ∷ [])) (same_Some next end is)
-    (cuts_stepped files d next e [] stepped ∙ append-nil (where_cut files e next) ∙ one_cut files d next e scopes stepped, step_cut files d next e checked scopes stepped)
+    (cuts_stepped files d next e [] stepped ∙ append-nil (where_cut files e next) ∙ one_cut files d next e scopes stepped, step_scopes files d next e checked scopes stepped)
 cut_once files d end e (x ∷ es) checked scopes uncut ran =
     let (next, stepped, rest) = first_of_run files (x ∷ es) (step files d e) end ran in
-    let more = cut_once files next end x es checked (step_cut files d next e checked scopes stepped) uncut.1 rest in
+    let more = cut_once files next end x es checked (step_scopes files d next e checked scopes stepped) uncut.1 rest in
     (cuts_stepped files d next e (x ∷ es) stepped ∙ ap (λ (b : Bool). (if b then next ∷ [] else []) ++ after_cuts files next (x ∷ es)) uncut.0 ∙ more.0, more.1)
 
-cut_once_some : (files : List Graph) (d end : Config) (es : List EdgeAt) → AreChecked files → HasCutScopes files d.stacks → es ≢ [] → IsUncut files es
+cut_once_some : (files : List Graph) (d end : Config) (es : List EdgeAt) → AreChecked files → HoldScopeNodes files d.stacks → es ≢ [] → IsUncut files es
     → run files d es ≡ Some end → CutOnce files d es end
 cut_once_some files d end [] checked scopes some uncut ran = absurd (some refl)
 cut_once_some files d end (e ∷ es) checked scopes some uncut ran = cut_once files d end e es checked scopes uncut ran
@@ -97,9 +97,9 @@ at_cuts-cons files d ds = by (is_cut_spot_of files d.spot)
     by false = refl
 
 -- the first path, from the configuration in which its start is entered, and what is told of the others
-path_cuts : (files : List FileRules) (s : Start) (c first next : Config) (p : ℕ × Rule) (paths : List (ℕ × Rule)) → All IsSourceFile files → HasCutScopes (graphs_of files) first.stacks
+path_cuts : (files : List FileRules) (s : Start) (c first next : Config) (p : ℕ × Rule) (paths : List (ℕ × Rule)) → All IsSourceFile files → HoldScopeNodes (graphs_of files) first.stacks
     → begin (graphs_of files) s c ≡ Some first → IsStoredIn files p → moved_start p.0 p.1.start ≡ s → apply (moved p.0 p.1) c ≡ Some next
-    → (HasCutScopes (graphs_of files) next.stacks → after_cuts (graphs_of files) next (path_edges paths) ≡ at_cuts (graphs_of files) (landings next paths))
+    → (HoldScopeNodes (graphs_of files) next.stacks → after_cuts (graphs_of files) next (path_edges paths) ≡ at_cuts (graphs_of files) (landings next paths))
     → after_cuts (graphs_of files) first (path_edges (p ∷ paths)) ≡ at_cuts (graphs_of files) (landings c (p ∷ paths))
 path_cuts files s c first next p paths sources scopes begun stored is applied rest =
     let g = graphs_of files in
@@ -119,15 +119,15 @@ path_cuts files s c first next p paths sources scopes begun stored is applied re
     some_edges [] (x ∷ front, last, is) e = cc
     some_edges (e ∷ es) last h = cc
 
-cuts_after : (files : List FileRules) (c end : Config) (paths : List (ℕ × Rule)) → All IsSourceFile files → HasCutScopes (graphs_of files) c.stacks → PathsLead files (After c.spot) c paths end
+cuts_after : (files : List FileRules) (c end : Config) (paths : List (ℕ × Rule)) → All IsSourceFile files → HoldScopeNodes (graphs_of files) c.stacks → PathsLead files (After c.spot) c paths end
     → after_cuts (graphs_of files) c (path_edges paths) ≡ at_cuts (graphs_of files) (landings c paths)
 cuts_after files c end [] sources scopes leads = refl
 cuts_after files c end (p ∷ paths) sources scopes (stored, is, next, applied, others) =
     path_cuts files (After c.spot) c c next p paths sources scopes (begin_after (graphs_of files) c) stored is applied (λ h. cuts_after files next end paths sources h others)
 
-start_scopes : (files : List FileRules) (r : NodeAt) (c : Config) → All IsSourceFile files → start (graphs_of files) r ≡ Some c → HasCutScopes (graphs_of files) c.stacks
+start_scopes : (files : List FileRules) (r : NodeAt) (c : Config) → All IsSourceFile files → start (graphs_of files) r ≡ Some c → HoldScopeNodes (graphs_of files) c.stacks
 start_scopes files r c sources h =
-    place_cut (graphs_of files) r.file (place.At r.node) no_stacks c (all_checked files sources) (tt, tt) (start_entered (graphs_of files) r c h)
+    place_scopes (graphs_of files) r.file (place.At r.node) no_stacks c (all_checked files sources) (tt, tt) (start_entered (graphs_of files) r c h)
 
 cuts_from : (files : List FileRules) (r : NodeAt) (c end : Config) (paths : List (ℕ × Rule)) → All IsSourceFile files → start (graphs_of files) r ≡ Some c → LeadFrom files r paths end
     → after_cuts (graphs_of files) c (path_edges paths) ≡ at_cuts (graphs_of files) (landings (at_node r no_stacks) paths)
@@ -138,26 +138,26 @@ cuts_from files r c end (p ∷ paths) sources starts (stored, is, next, applied,
 
 -- where the run is closed
 
-before_last : (files : List Graph) (c end : Config) (front : List EdgeAt) (last : EdgeAt) → AreChecked files → HasCutScopes files c.stacks → run files c (front ++ last ∷ []) ≡ Some end
-    → (d : Config) × (step files d last ≡ Some end) × HasCutScopes files d.stacks
+before_last : (files : List Graph) (c end : Config) (front : List EdgeAt) (last : EdgeAt) → AreChecked files → HoldScopeNodes files c.stacks → run files c (front ++ last ∷ []) ≡ Some end
+    → (d : Config) × (step files d last ≡ Some end) × HoldScopeNodes files d.stacks
 before_last files c end [] last checked scopes ran =
     let (next, stepped, is) = first_of_run files [] (step files c last) end ran in (c, stepped ∙ is, scopes)
 before_last files c end (e ∷ front) last checked scopes ran =
     let (next, stepped, rest) = first_of_run files (front ++ last ∷ []) (step files c e) end ran in
-    before_last files next end front last checked (step_cut files c next e checked scopes stepped) rest
+    before_last files next end front last checked (step_scopes files c next e checked scopes stepped) rest
 
-closed_to : (files : List Graph) (c end : Config) (es : List EdgeAt) → AreChecked files → HasCutScopes files c.stacks → run files c es ≡ Some end → IsClosed files es → is_cut_spot_of files end.spot ≡ true
+closed_to : (files : List Graph) (c end : Config) (es : List EdgeAt) → AreChecked files → HoldScopeNodes files c.stacks → run files c es ≡ Some end → IsClosed files es → is_cut_spot_of files end.spot ≡ true
 closed_to files c end es checked scopes ran (front, last, is, cut) =
     let (d, stepped, there) = before_last files c end front last checked scopes (ap (run files c) (sym is) ∙ ran) in cut_spot files d end last there stepped cut
 
-closed_from : (files : List Graph) (c end : Config) (e : EdgeAt) (es : List EdgeAt) → AreChecked files → HasCutScopes files c.stacks → run files c (e ∷ es) ≡ Some end → is_cut_spot_of files end.spot ≡ true
+closed_from : (files : List Graph) (c end : Config) (e : EdgeAt) (es : List EdgeAt) → AreChecked files → HoldScopeNodes files c.stacks → run files c (e ∷ es) ≡ Some end → is_cut_spot_of files end.spot ≡ true
     → IsClosed files (e ∷ es)
 closed_from files c end e es checked scopes ran cut =
     let (front, last, is) = ended e es in
     let (d, stepped, there) = before_last files c end front last checked scopes (ap (run files c) (sym is) ∙ ran) in
     (front, last, is, cut_same files d end last there stepped ∙ cut)
 
-closed_some : (files : List Graph) (c end : Config) (es : List EdgeAt) → AreChecked files → HasCutScopes files c.stacks → es ≢ [] → run files c es ≡ Some end → is_cut_spot_of files end.spot ≡ true
+closed_some : (files : List Graph) (c end : Config) (es : List EdgeAt) → AreChecked files → HoldScopeNodes files c.stacks → es ≢ [] → run files c es ≡ Some end → is_cut_spot_of files end.spot ≡ true
     → IsClosed files es
 closed_some files c end [] checked scopes some ran cut = absurd (some refl)
 closed_some files c end (e ∷ es) checked scopes some ran cut = closed_from files c end e es checked scopes ran cut
@@ -174,12 +174,12 @@ completed files c end es some ran straight at = record {
   ends = subst (λ (o : Option Config). IsSomeAnd o (IsAtDefinition files)) (sym ran) at;
 }
 
-counted_to : (files : List Graph) (c end : Config) (es : List EdgeAt) → AreChecked files → HasCutScopes files c.stacks → run files c es ≡ Some end
+counted_to : (files : List Graph) (c end : Config) (es : List EdgeAt) → AreChecked files → HoldScopeNodes files c.stacks → run files c es ≡ Some end
     → IsClosed files es ⊎ IsComplete files c es → IsTrue (is_cut_spot_of files end.spot) ⊎ IsAtDefinition files end
 counted_to files c end es checked scopes ran (inl closed) = inl (closed_to files c end es checked scopes ran closed)
 counted_to files c end es checked scopes ran (inr complete) = inr (end_lands files c end es ran complete)
 
-counted_from : (files : List Graph) (c end : Config) (es : List EdgeAt) → AreChecked files → HasCutScopes files c.stacks → es ≢ [] → run files c es ≡ Some end → IsStraight files c es
+counted_from : (files : List Graph) (c end : Config) (es : List EdgeAt) → AreChecked files → HoldScopeNodes files c.stacks → es ≢ [] → run files c es ≡ Some end → IsStraight files c es
     → IsTrue (is_cut_spot_of files end.spot) ⊎ IsAtDefinition files end → IsClosed files es ⊎ IsComplete files c es
 counted_from files c end es checked scopes some ran straight (inl cut) = inl (closed_some files c end es checked scopes some ran cut)
 counted_from files c end es checked scopes some ran straight (inr at) = inr (completed files c end es some ran straight at)

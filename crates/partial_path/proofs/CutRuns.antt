@@ -37,7 +37,7 @@ use Rattle.partial_path.proofs.MovedWalks.{IsFile, edge_inside, edges_there, edg
 use Rattle.list_facts.proofs.Each.{all_push}
 use Rattle.partial_path.proofs.RunsOn.{run_from-append}
 use Rattle.partial_path.proofs.Joints.{IsEnded, ended, graph_there, source_there, stored_runs, run_after, start_entered, begin_before}
-use Rattle.partial_path.proofs.Exported.{AreChecked, HasCutScopes, place_cut, step_cut, cut_spot}
+use Rattle.partial_path.proofs.Exported.{AreChecked, HoldScopeNodes, place_scopes, step_scopes, cut_spot}
 
 -- the file whose graph is there
 
@@ -134,7 +134,7 @@ record IsUnderWay (files : List Graph) (s : Start) (c : Config) (es : List EdgeA
   starts : starts_walks_of files s ≡ true
   runs : run_from files s es c ≡ Some d
   uncut : AreUncut files es
-  scopes : HasCutScopes files d.stacks
+  scopes : HoldScopeNodes files d.stacks
   one : AreOfOne s es d.spot
 
 one_more : (files : List Graph) (s : Start) (c d next : Config) (es : List EdgeAt) (e : EdgeAt) → run_from files s es c ≡ Some d → step files d e ≡ Some next
@@ -175,7 +175,7 @@ way_on files s c d next es e sources way stepped uncut =
       starts = way.starts;
       runs = one_more all s c d next es e way.runs stepped;
       uncut = all_push (λ (x : EdgeAt). is_cut_edge all x ≡ false) es e way.uncut uncut;
-      scopes = step_cut all d next e (all_checked files sources) way.scopes stepped;
+      scopes = step_scopes all d next e (all_checked files sources) way.scopes stepped;
       one = λ k there.
           let file : e.file ≡ k = subst (SpotIn (IsFile k)) at.1 there in
           subst (λ (k : ℕ). StartIn (IsFile k) s × AllByRecursion (EdgeIn (IsFile k)) (es ++ e ∷ [])) file
@@ -183,13 +183,13 @@ way_on files s c d next es e sources way stepped uncut =
     }
 
 -- after a cut edge the way begins anew
-way_anew : (files : List FileRules) (d next : Config) (e : EdgeAt) → All IsSourceFile files → HasCutScopes (graphs_of files) d.stacks
+way_anew : (files : List FileRules) (d next : Config) (e : EdgeAt) → All IsSourceFile files → HoldScopeNodes (graphs_of files) d.stacks
     → step (graphs_of files) d e ≡ Some next → is_cut_edge (graphs_of files) e ≡ true → IsUnderWay (graphs_of files) (After next.spot) next [] next
 way_anew files d next e sources scopes stepped cut = let all = graphs_of files in record {
   starts = cut_spot all d next e scopes stepped cut;
   runs = run_after all [] next;
   uncut = tt;
-  scopes = step_cut all d next e (all_checked files sources) scopes stepped;
+  scopes = step_scopes all d next e (all_checked files sources) scopes stepped;
   one = λ k there. (there, tt);
 }
 
@@ -251,7 +251,7 @@ way_begins files r c sources h =
       starts = reference_graph r (slice_get all r.file) c h;
       runs = ap (option_and_then (λ (x : Config). run all x [])) (begin_before all r c h);
       uncut = tt;
-      scopes = place_cut all r.file (place.At r.node) no_stacks c (all_checked files sources) (tt, tt) entered;
+      scopes = place_scopes all r.file (place.At r.node) no_stacks c (all_checked files sources) (tt, tt) entered;
       one = λ k there. (subst (SpotIn (IsFile k)) (entered_spot all r.file r.node no_stacks c entered) there, tt);
     }
 
