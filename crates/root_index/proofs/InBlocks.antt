@@ -22,6 +22,11 @@ module _ {X : Type 0} where
   abbrev pub HasSome : List X → Type 0
   HasSome block = 1 ≤ length block
 
+  pub one_is : (xs : List X) (x : X) → length xs ≡ 1 → x ≡ get_or xs 0 x → x ∷ [] ≡ xs
+  one_is [] x one is = absurd (omega (arith, one))
+  one_is (y ∷ []) x one is = ap (λ z. z ∷ []) is
+  one_is (y ∷ z ∷ xs) x one is = absurd (omega (arith, one))
+
   -- the block at a place among the others
   pub around : (blocks : List (List X)) (k : ℕ) (d : List X) → k < length blocks
       → all_of blocks ≡ all_of (take k blocks) ++ (get_or blocks k d ++ all_of (drop (k + 1) blocks))

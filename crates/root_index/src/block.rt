@@ -69,6 +69,7 @@ impl Block {
         ensures { IfOk result (λ slots. slots.items ≡ self.now) }
     {
         let mut slots = Vec::new(alloc);
+        slots.reserve(BLOCK_PATHS + 1)?;
         for slot in self.slots() {
             slots.push(slot.share()?)?;
         }

@@ -225,6 +225,10 @@ fn replace(blocks: &mut Vec<Block>, i: usize, mut parts: Vec<Block>) -> Result<(
     requires { i < length blocks.old.items }
     ensures { OnOk result (blocks.new.items ≡ take i blocks.old.items ++ (parts.items ++ drop (i + 1) blocks.old.items)) }
 {
+    if parts.len() == 1 {
+        blocks[i] = parts.remove(0);
+        return Ok(());
+    }
     let mut after = blocks.split_off(i + 1)?;
     blocks.truncate(i);
     blocks.append(&mut parts)?;
