@@ -1,5 +1,5 @@
 use Rattle.std.proofs.Common.{sym, ◌∙◌, ap, ◌+◌, ◌++◌, drop, take}
-use Rattle.version_tree.proofs.Found.{set-parts}
+use Rattle.list_facts.proofs.Halving.{set-parts}
 use Rattle.root_index.proofs.InBlocks.{one_is}
 use Rattle.root_index.proofs.blocks.replace.Goals as goal
 
