@@ -1,6 +1,6 @@
 # Short names for the kit's commands; nothing is built here that they don't build.
 
-.PHONY: example build test
+.PHONY: example build test statuses
 
 # Compiles the program without its proofs and answers the stored graph.
 example:
@@ -12,3 +12,7 @@ build:
 
 test:
 	rt ci
+
+# Runs the program that `build` leaves under outsides that bring about each of its statuses.
+statuses: build
+	python3 bench/statuses.py

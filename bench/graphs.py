@@ -1,16 +1,20 @@
 #!/usr/bin/env python3
 """Times the finding of a file's paths and the indexing of documents, and prints one table; every figure is of this one run.
+The last rows are the least memory in which one module is indexed whose one reference has a long or a short name.
 
 usage: bench/graphs.py [PROGRAM]     (crates/aux_bench/out/aux_bench, as bench/graphs.sh leaves it)
 
 Walks are timed without the reading of the graph: the time of `read` is taken off that of `walk`. Documents
 are timed through the call that indexes them, over a store that keeps none of them and over one that keeps all.
+Memory is to follow the number of paths, and not the length of the name but for the text itself.
 """
 
 import json
 import subprocess
 import sys
 import time
+
+from measure import least_memory
 
 PROGRAM = sys.argv[1] if len(sys.argv) > 1 else "crates/aux_bench/out/aux_bench"
 DOCUMENTS = 1_000
@@ -37,6 +41,11 @@ def groups(count):
         ]
         edges += [["root", first, 0]] + [[first + n, first + n + 1, 0] for n in range(4)]
     return json.dumps({"nodes": nodes, "edges": edges}), 5 * count
+
+
+def imports(name, lines):
+    """A module that asks each of its imports for one name: a path of it holds the name for each of them."""
+    return name + "\n" + "from m import *\n" * lines
 
 
 def answer(case, times, text):
@@ -67,6 +76,16 @@ def main():
     again = (seconds("again", DOCUMENTS, text) - first - none) / 10
     name = f"{DOCUMENTS:,} such files of {len(text):,} bytes"
     print(f"{name:30} {DOCUMENTS / first:10,.0f} documents/s, {DOCUMENTS / again:10,.0f} documents/s where they are kept, {first / again:.0f} times as many")
+    first = None
+    for lines, length in [(4_000, 8), (4_000, 68_000), (8_000, 8)]:
+        text = imports("x" * length, lines)
+        case = f"modules 1\n{text}"
+        if answer("modules", 1, text) != "files: 1":
+            raise SystemExit("the module was not indexed")
+        held = least_memory([PROGRAM], case.encode())
+        first = held if first is None else first
+        name = f"a module of {lines:,} imports that are asked for a name of {length:,} bytes"
+        print(f"{name:70} {held:8.1f} MB, {held / first:5.1f} times the first, for {len(text):,} bytes")
 
 
 if __name__ == "__main__":

@@ -1,18 +1,20 @@
 #!/usr/bin/env python3
 """Times `navd once` on graphs made here, and prints one table; every figure is of this one run.
-The last rows are its peak memory on 4,000 runs that push one symbol, long and short.
+The last rows are the least memory in which it answers graphs whose runs push one symbol, long or short, beside that of
+the first: it is to follow the number of runs, and not the length of the symbol but for the text itself.
 
-usage: bench/once.py [PROGRAM]     (crates/navd/out/navd, as `make example` leaves it)
+usage: bench/once.py [PROGRAM]     (crates/navd/out/navd, as `make build` leaves it)
 
 The first row compares bytes a second with a plain JSON parser, Python's, on the same bytes. The others
 are seconds, beside those of the smallest graph, which is what starting the program costs.
 """
 
 import json
-import os
 import subprocess
 import sys
 import time
+
+from measure import least_memory
 
 PROGRAM = sys.argv[1] if len(sys.argv) > 1 else "crates/navd/out/navd"
 REFERENCE = {"kind": "push", "symbol": "x", "reference": True}
@@ -34,18 +36,6 @@ def seconds(command, data):
         took = time.perf_counter() - start
         best = took if best is None else min(best, took)
     return best
-
-
-def peak_memory(command, data):
-    """The most memory that the command held, in megabytes."""
-    child = subprocess.Popen(command, stdin=subprocess.PIPE, stdout=subprocess.DEVNULL)
-    child.stdin.write(data)
-    child.stdin.close()
-    _, status, used = os.wait4(child.pid, 0)
-    child.returncode = os.waitstatus_to_exitcode(status)
-    if child.returncode != 0:
-        raise subprocess.CalledProcessError(child.returncode, command)
-    return used.ru_maxrss / 1024
 
 
 def fan(symbol, edges):
@@ -104,9 +94,13 @@ def main():
     for name, data in rows:
         took = smallest if data is None else seconds([PROGRAM, "once"], data + asked)
         print(f"{name:46} {took:8.3f} s   {took / smallest:8.1f} times the smallest")
-    for length in (8, 800_000):
-        held = peak_memory([PROGRAM, "once"], fan("x" * length, 4_000) + asked)
-        print(f"{f'4,000 runs, a symbol of {length:,} bytes':46} {held:8.1f} MB at most")
+    first = None
+    for runs, length in [(4_000, 8), (4_000, 800_000), (8_000, 8)]:
+        graph = fan("x" * length, runs)
+        held = least_memory([PROGRAM, "once"], graph + asked)
+        first = held if first is None else first
+        name = f"{runs:,} runs, a symbol of {length:,} bytes"
+        print(f"{name:46} {held:8.1f} MB   {held / first:8.1f} times the first, for {len(graph):,} bytes")
 
 
 if __name__ == "__main__":

@@ -2,5 +2,5 @@
 # Builds navd and times `navd once`; no part of the gate.
 set -eu
 cd "$(dirname "$0")/.."
-make --silent example >/dev/null
+make --silent build >/dev/null
 exec python3 bench/once.py

@@ -50,40 +50,34 @@ fn walked<L: Ledger>(
     Some(last)
 }
 
-/// So many documents of this text, each at a path of its own.
-fn documents(alloc: Global, text: &[u8], count: u32) -> Option<Vec<Document>> {
+/// So many documents of this text, each at a path of its own that ends like this.
+fn documents(alloc: Global, text: &[u8], count: u32, ending: &str) -> Option<Vec<Document>> {
     let mut docs = Vec::new(alloc);
     for number in 0..count {
-        let path = format!(in alloc; "f{number}.sg.json").ok()?;
+        let path = format!(in alloc; "f{number}{ending}").ok()?;
         let doc = Document::new(alloc, path.as_str(), text).ok()?;
         docs.push(doc).ok()?;
     }
     Some(docs)
 }
 
-/// Indexes so many documents of this text over a store that keeps none, and then so many times again:
-/// how many files that gave the last time.
-pub fn index(alloc: Global, text: &[u8], count: u32, again: u32) -> Option<usize> {
-    indexed::<Brand>(alloc, text, count, again, Blank::new(1))
+/// Indexes so many documents of this text, whose paths end like this, over a store that keeps none, and then
+/// so many times again: how many files that gave the last time.
+pub fn index(alloc: Global, text: &[u8], count: u32, ending: &str, again: u32) -> Option<usize> {
+    let docs = documents(alloc, text, count, ending)?;
+    indexed::<Brand>(alloc, &docs, again, Blank::new(1))
 }
 
-fn indexed<L: Ledger>(
-    alloc: Global,
-    text: &[u8],
-    count: u32,
-    again: u32,
-    blank: Blank,
-) -> Option<usize>
+fn indexed<L: Ledger>(alloc: Global, docs: &[Document], again: u32, blank: Blank) -> Option<usize>
     requires name { blank.name ≡ L.name }
     requires parts { blank.parts ≡ L.parts }
     requires some { 0 < blank.parts }
 {
-    let docs = documents(alloc, text, count)?;
     let mut store = PathStore::new(alloc);
     let mut steps = Steps::<L>::new(blank);
-    let mut files = index_all(&(), alloc, &docs, &mut store, &Unguarded, &mut steps).ok()?;
+    let mut files = index_all(&(), alloc, docs, &mut store, &Unguarded, &mut steps).ok()?;
     for _ in 0..again {
-        files = index_all(&(), alloc, &docs, &mut store, &Unguarded, &mut steps).ok()?;
+        files = index_all(&(), alloc, docs, &mut store, &Unguarded, &mut steps).ok()?;
     }
     Some(files.len())
 }

@@ -6,10 +6,11 @@
 //! `translate N` reads it N times and makes its graph each time, as that of `module.py`, and prints how
 //! many nodes and edges that has, or the fault. `read N` reads the rest as a graph file N times; `walk N`
 //! also finds its paths each time, and prints its weight and how many paths it has. `index N` makes N
-//! documents of the rest and indexes them; `again N` then does so ten times more, when all are kept. Both
-//! print how many files that gave. `stitch N` reads each line of the rest as a graph file, finds its paths, and
-//! asks node 0 of the first file N times by joining them; `search N` asks it N times by following the edges of
-//! the whole graph. They print how many runs, or rows, that gave.
+//! documents of the rest, as graph files, and indexes them; `again N` then does so ten times more, when all are
+//! kept; `modules N` indexes N documents of the rest as modules of Python. They print how many files that gave.
+//! `stitch N` reads each line of the rest as a graph file, finds its paths, and asks node 0 of the first file N
+//! times by joining them; `search N` asks it N times by following the edges of the whole graph. They print how
+//! many runs, or rows, that gave.
 #![tactic(auto)]
 
 mod graphs;
@@ -77,11 +78,15 @@ fn run_case(rt: &HostRuntime, case: &[u8], text: &[u8]) -> IoResult<()> {
         return print_walked(rt, found);
     }
     if let Some(count) = times(case, "index ") {
-        let files = index(alloc, text, count, 0);
+        let files = index(alloc, text, count, ".sg.json", 0);
         return print_indexed(rt, files);
     }
     if let Some(count) = times(case, "again ") {
-        let files = index(alloc, text, count, 10);
+        let files = index(alloc, text, count, ".sg.json", 10);
+        return print_indexed(rt, files);
+    }
+    if let Some(count) = times(case, "modules ") {
+        let files = index(alloc, text, count, ".py", 0);
         return print_indexed(rt, files);
     }
     if let Some(times) = times(case, "stitch ") {

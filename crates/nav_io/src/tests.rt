@@ -566,6 +566,27 @@ fn a_house_over_sockets_serves_by_each_door(rt: HostRuntime) -> Result<(), Fail>
     Ok(())
 }
 
+// Whether a door at the port is reached by another address than 127.0.0.1, as it would be if the house listened
+// at all addresses of the machine.
+fn is_reached_elsewhere<R: Net>(net: &R, alloc: Global, port: u16) -> bool {
+    let mut house = TcpHouse::new(net);
+    let Ok(doors) = house.doors(alloc, port, 1) else {
+        return true;
+    };
+    let reached = TcpStream::connect(net, (Ipv4Addr::new(127, 0, 0, 2), port)).is_ok();
+    house.close(doors);
+    reached
+}
+
+#[test]
+fn a_house_over_sockets_listens_at_one_address(rt: HostRuntime) -> Result<(), Fail> {
+    let other = TcpListener::bind(&rt, (Ipv4Addr::LOCALHOST, 0))?;
+    let port = other.local_addr()?.port();
+    drop(other);
+    assert!(rt; !is_reached_elsewhere(&rt, rt.alloc(), port));
+    Ok(())
+}
+
 fn pass<G: Gate>(gate: &G) {
     gate.enter(0);
     gate.leave(0);

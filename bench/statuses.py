@@ -1,0 +1,291 @@
+#!/usr/bin/env python3
+"""Runs the built `navd` under outsides that bring about each of its statuses, and prints one table.
+
+usage: bench/statuses.py [PROGRAM ..]     (crates/navd/out/navd, as `make build` leaves it)
+
+Each row is one run: its words, what standard input and output are, the status that is wanted, and what has to
+be written. A run that ends otherwise, is stopped by a signal or doesn't end is marked, and the script ends with
+1. What this machine can't bring about is told as not shown, and fails nothing.
+"""
+
+import os
+import resource
+import signal
+import socket
+import subprocess
+import sys
+import tempfile
+
+PROGRAMS = sys.argv[1:] or ["crates/navd/out/navd"]
+SECONDS = 20
+LINE_MAX = 8_388_608
+
+GRAPH = (
+    b'{"nodes":[{"kind":"push","symbol":"x","reference":true},{"kind":"scope"},'
+    b'{"kind":"pop","symbol":"x","definition":true,"span":[1,0,1,1]}],"edges":[[0,1,0],[1,2,0]]}\n'
+)
+NODE = b'{"node":0}\n'
+ROWS = b'{"limit":false,"rows":[{"node":2,"path":"once.sg.json","span":[1,0,1,1]}]}\n'
+NAMED = (
+    b'{"edges":[["n0","n1",0],["n1","n2",0]],"format":2,"nodes":['
+    b'{"kind":"push","name":"n0","reference":true,"symbol":"x"},{"kind":"scope","name":"n1"},'
+    b'{"definition":true,"kind":"pop","name":"n2","span":[1,0,1,1],"symbol":"x"}]}\n'
+)
+NO_GRAPH = b'{"error":"bad_request","field":"graph"}\n'
+NO_NODE = b'{"error":"bad_request","field":"node"}\n'
+NOT_JSON = b'{"error":"bad_file","fault":"json","path":"%s.sg.json"}\n'
+LARGE = b'{"bytes":8388608,"error":"bad_file","fault":"large","path":"%s.sg.json"}\n'
+USAGE = b"usage: navd once | navd upgrade (the input is read from standard input)\n"
+
+SCOPES = 5_000
+MANY = b'{"nodes":[' + b",".join([b'{"kind":"scope"}'] * SCOPES) + b'],"edges":[]}\n'
+MANY_NAMED = (
+    b'{"edges":[],"format":2,"nodes":['
+    + b",".join(b'{"kind":"scope","name":"n%d"}' % n for n in range(SCOPES))
+    + b"]}\n"
+)
+
+
+class NotShown(Exception):
+    """This machine can't bring the row about."""
+
+
+class Ended:
+    """How a run ended: its status, what it wrote on standard output and error, and what it left of its input."""
+
+    def __init__(self, status, wrote=None, said=b"", left=None):
+        self.status, self.wrote, self.said, self.left = status, wrote, said, left
+
+
+def finished(child):
+    """The status, or what stopped it, and what it said on standard error."""
+    try:
+        _, said = child.communicate(timeout=SECONDS)
+    except subprocess.TimeoutExpired:
+        child.kill()
+        child.communicate()
+        return "no end", b""
+    if child.returncode < 0:
+        return signal.Signals(-child.returncode).name, said
+    return child.returncode, said
+
+
+def run(command, stdin, stdout, before=None):
+    """Starts the command over these two, with what is done before in its process, and waits for its end."""
+    try:
+        child = subprocess.Popen(command, stdin=stdin, stdout=stdout, stderr=subprocess.PIPE, preexec_fn=before)
+    except subprocess.SubprocessError as error:
+        raise NotShown(str(error)) from error
+    return finished(child)
+
+
+def taken(command, stdin, before=None):
+    """Runs the command over this input with a file as its output, and reads what that took."""
+    with tempfile.TemporaryFile() as output:
+        status, said = run(command, stdin, output, before)
+        output.seek(0)
+        return Ended(status, output.read(), said)
+
+
+def from_file(command, data, before=None):
+    """The input is a file that holds the data; it is also seen how much of it was left."""
+    with tempfile.TemporaryFile() as source:
+        source.write(data)
+        source.seek(0)
+        ended = taken(command, source, before)
+        ended.left = len(data) - os.lseek(source.fileno(), 0, os.SEEK_CUR)
+        return ended
+
+
+def from_open_pipe(command, data):
+    """The input is a pipe that gives the data and stays open."""
+    reads, writes = os.pipe()
+    try:
+        os.write(writes, data)
+        return taken(command, reads)
+    finally:
+        os.close(reads)
+        os.close(writes)
+
+
+def from_failing(command, data):
+    """The input gives the data, and its next read fails: the other end was closed with bytes unread."""
+    far, near = socket.socketpair(socket.AF_UNIX, socket.SOCK_STREAM)
+    with far, near:
+        near.sendall(b"unread")
+        far.sendall(data)
+        far.close()
+        return taken(command, near)
+
+
+def from_folder(command):
+    """The input is a folder, of which each read fails."""
+    folder = os.open("/", os.O_RDONLY)
+    try:
+        return taken(command, folder)
+    finally:
+        os.close(folder)
+
+
+def without_input(command):
+    """Standard input is closed."""
+    return taken(command, None, lambda: os.close(0))
+
+
+def into(command, data, stdout, before=None):
+    """The output is what was opened; what it took isn't seen."""
+    with tempfile.TemporaryFile() as source:
+        source.write(data)
+        source.seek(0)
+        status, said = run(command, source, stdout, before)
+        return Ended(status, None, said)
+
+
+def into_full(command, data):
+    """The output is a device that has no room."""
+    try:
+        full = os.open("/dev/full", os.O_WRONLY)
+    except OSError as error:
+        raise NotShown(str(error)) from error
+    try:
+        return into(command, data, full)
+    finally:
+        os.close(full)
+
+
+def into_broken_pipe(command, data):
+    """The output is a pipe that nobody reads."""
+    reads, writes = os.pipe()
+    os.close(reads)
+    try:
+        return into(command, data, writes)
+    finally:
+        os.close(writes)
+
+
+def without_output(command, data):
+    """Standard output is closed."""
+    return into(command, data, None, lambda: os.close(1))
+
+
+def limited(kind, most):
+    """What limits the process to so much, and lets it see a refusal in place of a signal."""
+
+    def limit():
+        signal.signal(signal.SIGXFSZ, signal.SIG_IGN)
+        resource.setrlimit(kind, (most, most))
+
+    return limit
+
+
+def into_room(room):
+    """A run whose output is a file that has room for so many bytes."""
+    return lambda command, data: from_file(command, data, limited(resource.RLIMIT_FSIZE, room))
+
+
+def in_memory(most):
+    """A run with so many bytes of memory for all that the process has."""
+    return lambda command, data: from_file(command, data, limited(resource.RLIMIT_AS, most))
+
+
+def line(length):
+    """A line of so many bytes, and its newline."""
+    return b"[" * length + b"\n"
+
+
+# The status, the words, what is special, the call that runs it and its data, and what has to be written (None
+# where it isn't seen).
+ROWS_OF_TABLE = [
+    (0, ["once"], "a graph and a node", from_file, GRAPH + NODE, ROWS),
+    (0, ["upgrade"], "a graph", from_file, GRAPH, NAMED),
+    (0, ["upgrade"], "a graph of 5,000 nodes", from_file, MANY, MANY_NAMED),
+    (0, ["once"], "no input", from_file, b"", NO_GRAPH),
+    (0, ["upgrade"], "no input", from_file, b"", NO_GRAPH),
+    (0, ["once"], "no second line", from_file, GRAPH, NO_NODE),
+    (0, ["once"], "standard input stays open behind the second line", from_open_pipe, GRAPH + NODE, ROWS),
+    (0, ["once"], "standard input stays open behind a graph that is refused", from_open_pipe, b"{\n", NOT_JSON % b"once"),
+    (0, ["upgrade"], "standard input stays open behind the first line", from_open_pipe, GRAPH, NAMED),
+    (0, ["once"], "standard input fails behind the second line", from_failing, GRAPH + NODE, ROWS),
+    (0, ["upgrade"], "standard input fails behind the first line", from_failing, GRAPH, NAMED),
+    (0, ["once"], "a first line of the longest length", from_file, line(LINE_MAX), LARGE % b"once"),
+    (0, ["upgrade"], "a first line of the longest length", from_file, line(LINE_MAX), LARGE % b"upgrade"),
+    (0, ["once"], "a second line of the longest length", from_file, GRAPH + line(LINE_MAX), b'{"error":"bad_json"}\n'),
+    (0, ["once"], "a second line that is too long behind a graph that is refused", from_file, b"{\n" + line(LINE_MAX + 1), NOT_JSON % b"once"),
+    (2, [], "no word", from_file, GRAPH + NODE, b""),
+    (2, ["run"], "no command", from_file, GRAPH + NODE, b""),
+    (2, [""], "an empty word", from_file, GRAPH + NODE, b""),
+    (2, ["ONCE"], "a command in capitals", from_file, GRAPH + NODE, b""),
+    (2, ["--help"], "a word that begins with a hyphen", from_file, GRAPH + NODE, b""),
+    (2, ["once", "once"], "a command twice", from_file, GRAPH + NODE, b""),
+    (2, ["upgrade", ""], "a word too many", from_file, GRAPH + NODE, b""),
+    (2, [b"once\xff"], "a word that isn't UTF-8", from_file, GRAPH + NODE, b""),
+    (2, ["once", b"\xff"], "a second word that isn't UTF-8", from_file, GRAPH + NODE, b""),
+    (3, ["once"], "standard input is a folder", lambda command, _: from_folder(command), None, b""),
+    (3, ["upgrade"], "standard input is a folder", lambda command, _: from_folder(command), None, b""),
+    (3, ["once"], "standard input is closed", lambda command, _: without_input(command), None, b""),
+    (3, ["upgrade"], "standard input is closed", lambda command, _: without_input(command), None, b""),
+    (3, ["once"], "standard input fails within the first line", from_failing, GRAPH[:-1], b""),
+    (3, ["upgrade"], "standard input fails within the first line", from_failing, GRAPH[:-1], b""),
+    (3, ["once"], "standard input fails behind the first line", from_failing, GRAPH, b""),
+    (3, ["once"], "standard input fails within the second line", from_failing, GRAPH + NODE[:-1], b""),
+    (4, ["once"], "standard output is full", into_full, GRAPH + NODE, None),
+    (4, ["upgrade"], "standard output is full", into_full, GRAPH, None),
+    (4, ["once"], "standard output is a pipe that nobody reads", into_broken_pipe, GRAPH + NODE, None),
+    (4, ["upgrade"], "standard output is a pipe that nobody reads", into_broken_pipe, GRAPH, None),
+    (4, ["once"], "standard output is closed", without_output, GRAPH + NODE, None),
+    (4, ["upgrade"], "standard output is closed", without_output, GRAPH, None),
+    (4, ["once"], "standard output has room for 7 bytes", into_room(7), GRAPH + NODE, ROWS[:7]),
+    (4, ["upgrade"], "standard output has room for 70,001 bytes", into_room(70_001), MANY, MANY_NAMED[:70_001]),
+    (5, ["once"], "a line of the longest length in just as much memory", in_memory(LINE_MAX), line(LINE_MAX), b""),
+    (5, ["upgrade"], "a line of the longest length in just as much memory", in_memory(LINE_MAX), line(LINE_MAX), b""),
+    (6, ["once"], "a first line of one byte more", from_file, line(LINE_MAX + 1), b""),
+    (6, ["upgrade"], "a first line of one byte more", from_file, line(LINE_MAX + 1), b""),
+    (6, ["once"], "a second line of one byte more", from_file, GRAPH + line(LINE_MAX + 1), b""),
+    (6, ["once"], "a last line of one byte more, with no newline", from_file, line(LINE_MAX + 1)[:-1], b""),
+]
+
+
+def faults(wanted, data, written, ended):
+    """What of the run differs from what is wanted."""
+    found = []
+    if ended.status != wanted:
+        found.append(f"ended with {ended.status}")
+    if written is not None and ended.wrote != written:
+        found.append(f"wrote {len(ended.wrote):,} bytes, not the {len(written):,} that are wanted")
+    if ended.said != (USAGE if wanted == 2 else b""):
+        found.append(f"said {ended.said[:80]!r} on standard error")
+    if wanted == 2 and ended.left != len(data):
+        found.append(f"read {len(data) - ended.left:,} bytes")
+    return found
+
+
+def shown(program):
+    """Runs each row on the program and prints it: how many differ."""
+    wrong = 0
+    for wanted, words, what, call, data, written in ROWS_OF_TABLE:
+        told = " ".join(word if isinstance(word, str) else repr(word)[2:-1] for word in words)
+        try:
+            found = faults(wanted, data, written, call([program, *words], data))
+            verdict = "; ".join(found) or "so it is"
+            wrong += bool(found)
+        except NotShown as error:
+            verdict = f"not shown: {error}"
+        print(f"{wanted}  {told:12} {what:62} {verdict}")
+    return wrong
+
+
+def main():
+    lacking = [program for program in PROGRAMS if not os.access(program, os.X_OK)]
+    if lacking:
+        print(f"there is no program {lacking[0]}; `make build` leaves one at crates/navd/out/navd")
+        return 1
+    wrong = 0
+    for program in PROGRAMS:
+        print(f"{program}: status, words, and what is special")
+        wrong += shown(program)
+    print(f"{len(ROWS_OF_TABLE) * len(PROGRAMS)} runs, {wrong} of them other than wanted")
+    return 1 if wrong else 0
+
+
+if __name__ == "__main__":
+    sys.exit(main())
