@@ -4,4 +4,6 @@
 #[cfg(test)]
 mod python;
 #[cfg(test)]
+mod roots;
+#[cfg(test)]
 mod versions;

@@ -37,7 +37,7 @@ fn paths_on<L: Ledger>(
 }
 
 /// All paths of the graph that a text stands for.
-fn paths_of(alloc: Global, text: &str) -> Result<SharedPaths, Fail> {
+pub(crate) fn paths_of(alloc: Global, text: &str) -> Result<SharedPaths, Fail> {
     let mut files = files_of(alloc, text)?;
     let Some(graph) = files.pop() else {
         return Err(Fail::new("there is no file"));
