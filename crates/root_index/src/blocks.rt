@@ -88,7 +88,7 @@ impl Blocks {
         Ok((starts, count))
     }
 
-    // How many blocks begin no higher than the path, by halving.
+    /// How many blocks begin no higher than the path, by halving.
     fn blocks_up_to(&self, slot: &Slot) -> usize
         requires { AreByRank (all_paths self.now) }
         ensures value { result ≡ prefix_len (first_passes (is_up_to slot.now)) self.now }
@@ -99,7 +99,7 @@ impl Blocks {
             .partition_point(|block| is_up_to(block.first(), slot))
     }
 
-    // The place behind those paths that stand no higher than this one, by halving; None where there are none.
+    /// The place behind those paths that stand no higher than this one, by halving; None where there are none.
     fn place_of(&self, slot: &Slot) -> Option<(usize, usize)>
         requires { AreByRank (all_paths self.now) }
         ensures { MatchOption result (prefix_len (is_up_to slot.now) (all_paths self.now) ≡ 0) (λ found. IsEndOf (is_up_to slot.now) self.now found.0 found.1 × (0 < found.1)) }
@@ -112,7 +112,7 @@ impl Blocks {
         Some((block, paths_up_to(self.blocks[block].slots(), slot)))
     }
 
-    // The same place in the first block, where there are none; there is a block.
+    /// The same place in the first block, where there are none; there is a block.
     fn place_for(&self, slot: &Slot) -> (usize, usize)
         requires order { AreByRank (all_paths self.now) }
         requires some { 0 < length self.now }
@@ -158,7 +158,7 @@ impl Blocks {
         self.replaced(alloc, block, slots)
     }
 
-    // One block of one path.
+    /// One block of one path.
     fn of_one(alloc: Global, slot: Slot) -> Result<Blocks, AllocError>
         ensures { IfOk result (λ after. all_paths after ≡ slot ∷ []) }
     {
@@ -167,7 +167,7 @@ impl Blocks {
         Blocks::of(alloc, slots)
     }
 
-    // These paths with those in place of the paths of the block at the place.
+    /// These paths with those in place of the paths of the block at the place.
     fn replaced(self, alloc: Global, i: usize, slots: Vec<Slot>) -> Result<Blocks, AllocError>
         requires { i < length self }
         ensures { IfOk result (λ after. all_paths after ≡ all_paths (take i self) ++ (slots.items ++ all_paths (drop (i + 1) self))) }
@@ -179,7 +179,7 @@ impl Blocks {
     }
 }
 
-// How many of the paths, which are in order, stand no higher than this one, by halving.
+/// How many of the paths, which are in order, stand no higher than this one, by halving.
 fn paths_up_to(slots: &[Slot], slot: &Slot) -> usize
     requires { IsPartitionedBy (is_up_to slot.now) slots.now }
     ensures value { result ≡ prefix_len (is_up_to slot.now) slots.now }
@@ -188,21 +188,21 @@ fn paths_up_to(slots: &[Slot], slot: &Slot) -> usize
     slots.partition_point(|other| is_up_to(other, slot))
 }
 
-// Whether the first path stands no higher than the second.
+/// Whether the first path stands no higher than the second.
 fn is_up_to(other: &Slot, slot: &Slot) -> bool
     ensures { result ≡ is_up_to slot.now other.now }
 {
     other.order(slot).is_le()
 }
 
-// Whether the two paths stand at one rank.
+/// Whether the two paths stand at one rank.
 fn is_tied(other: &Slot, slot: &Slot) -> bool
     ensures { result ≡ is_tied slot.now other.now }
 {
     other.order(slot).is_eq()
 }
 
-// These paths in blocks: none, one, or more where they are too many for one.
+/// These paths in blocks: none, one, or more where they are too many for one.
 fn in_blocks(alloc: Global, slots: Vec<Slot>) -> Result<Vec<Block>, AllocError>
     ensures paths { IfOk result (λ blocks. all_paths blocks.items ≡ slots.items) }
     ensures sizes { IfOk result (λ blocks. All IsBlock blocks.items) }
@@ -220,7 +220,7 @@ fn in_blocks(alloc: Global, slots: Vec<Slot>) -> Result<Vec<Block>, AllocError>
     Ok(blocks)
 }
 
-// Puts the parts in place of the block at the place. The one error is want of memory.
+/// Puts the parts in place of the block at the place. The one error is want of memory.
 fn replace(blocks: &mut Vec<Block>, i: usize, mut parts: Vec<Block>) -> Result<(), AllocError>
     requires { i < length blocks.old.items }
     ensures { OnOk result (blocks.new.items ≡ take i blocks.old.items ++ (parts.items ++ drop (i + 1) blocks.old.items)) }

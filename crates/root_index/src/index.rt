@@ -63,8 +63,8 @@ impl RootIndex {
     /// The index of the version that the edits make of the old one, of which this is the index. It shares
     /// with this index all blocks of up to 64 paths in which the edited files have no paths, before or
     /// after. The one error is want of memory. Of few edits it takes time that follows the number of paths
-    /// from the root that the edited files have, before and after, and of blocks; of more than `FEW_EDITS` it
-    /// makes the index afresh.
+    /// from the root that the edited files have, before and after, and of blocks; of more than 64 it makes the
+    /// index afresh.
     pub fn amended(
         &self,
         alloc: Global,
@@ -144,7 +144,7 @@ impl RootIndex {
 
     /// The path that comes next in the look-up, with its file's number in the view, and where the look-up
     /// stands after it; None where no more is offered. It takes no memory. A path whose file isn't seen is
-    /// passed over, by halving over the view; within a run of equal keys a step takes constant time else,
+    /// passed over, by halving over the view; within a run of equal keys a step halves over the blocks else,
     /// and each of at most seven runs is found by halving.
     pub fn next_offer(
         &self,

@@ -109,7 +109,7 @@ impl SlotList {
     }
 }
 
-// How many blocks begin no later than at the place, by halving over the places at which they begin.
+/// How many blocks begin no later than at the place, by halving over the places at which they begin.
 fn blocks_begun(starts: &[usize], place: usize) -> usize
     requires { IsPartitionedBy (begins_by place) starts.now }
     ensures value { result ≡ prefix_len (begins_by place) starts.now }
@@ -118,7 +118,7 @@ fn blocks_begun(starts: &[usize], place: usize) -> usize
     starts.partition_point(|start| *start <= place)
 }
 
-// How many blocks begin within the key, by halving.
+/// How many blocks begin within the key, by halving.
 fn blocks_within(blocks: &[Block], symbols: &SymbolStack, count: usize, closed: bool) -> usize
     requires parted { IsPartitionedBy (first_passes (is_within_key closed (take count (texts symbols.now)))) blocks.now }
     requires count { count ≤ key_size }
@@ -128,7 +128,7 @@ fn blocks_within(blocks: &[Block], symbols: &SymbolStack, count: usize, closed: 
     blocks.partition_point(|block| begins_within(block, symbols, count, closed))
 }
 
-// How many of the paths stand within the key, by halving.
+/// How many of the paths stand within the key, by halving.
 fn paths_within(slots: &[Slot], symbols: &SymbolStack, count: usize, closed: bool) -> usize
     requires parted { IsPartitionedBy (is_within_key closed (take count (texts symbols.now))) slots.now }
     requires count { count ≤ key_size }
@@ -138,7 +138,7 @@ fn paths_within(slots: &[Slot], symbols: &SymbolStack, count: usize, closed: boo
     slots.partition_point(|slot| is_within_key(slot, symbols, count, closed))
 }
 
-// Whether the block's first path stands within the key.
+/// Whether the block's first path stands within the key.
 fn begins_within(block: &Block, symbols: &SymbolStack, count: usize, closed: bool) -> bool
     requires { count ≤ key_size }
     ensures { result ≡ first_passes (is_within_key closed (take count (texts symbols.now))) block.now }
@@ -146,7 +146,7 @@ fn begins_within(block: &Block, symbols: &SymbolStack, count: usize, closed: boo
     is_within_key(block.first(), symbols, count, closed)
 }
 
-// Whether the path stands before the key, or at it where that is closed.
+/// Whether the path stands before the key, or at it where that is closed.
 fn is_within_key(slot: &Slot, symbols: &SymbolStack, count: usize, closed: bool) -> bool
     requires { count ≤ key_size }
     ensures { result ≡ is_within_key closed (take count (texts symbols.now)) slot.now }
