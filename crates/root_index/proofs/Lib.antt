@@ -11,5 +11,5 @@ mod Seen
 mod Sized
 mod Starts
 mod Unique
-mod WithFile
+pub mod WithFile
 mod WithoutFile

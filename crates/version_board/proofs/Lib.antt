@@ -1,0 +1,2 @@
+mod Ranked
+mod Replayed

@@ -1,0 +1,10 @@
+//! Boards: logs of versions, as the sessions that read and extend them see them.
+#![tactic(auto)]
+
+mod board;
+mod fault;
+mod plain;
+
+pub use board::{Commits, Pinned, Pins};
+pub use fault::CommitFault;
+pub use plain::PlainBoard;

@@ -1,0 +1,191 @@
+//! The board of one seat and one thread.
+ghost use Rattle.std.specs.Prelude.{◌≡◌, ◌≢◌, true, false, ◌<◌, ◌≤◌, ◌+◌, ℕ, [], ◌∷◌, ◌++◌, None, Some, Err, IfOk, OnOk, OnErr, vec_len, vec_capacity, length};
+ghost use Rattle.std.specs.Arc.{arc_value};
+ghost use Rattle.version_tree.specs.declared.edit.EditFault.{EditFault as Faults};
+ghost use Rattle.version_tree.specs.declared.edit.EditFault.TheVariants as faults;
+ghost use Rattle.version_tree.specs.Contents.{edited_all};
+ghost use Rattle.version_tree.specs.Verdict.{edit_fault};
+ghost use Rattle.version_board.specs.declared.fault.CommitFault.TheVariants as why;
+ghost use Rattle.version_board.specs.Logs.{version_of, own, entry, refusal, FitsHead, IsExtended, IsStale, IsRefused};
+ghost use Rattle.version_board.specs.Ranked.{index_of};
+
+use crate::board::{Commits, Pinned, Pins};
+use crate::fault::CommitFault;
+use root_index::{RootIndex, rows_have_one_index};
+use std::alloc::{AllocError, Global};
+use std::sync::Arc;
+use version_tree::{Edit, EditFault, EditList, Entry, Version};
+
+/// The board of one seat, whose name is 0. It sees all of its log, and pins the newest version.
+#[derive(Drop)]
+pub struct PlainBoard {
+    log: Vec<Entry>,
+    pinned: Pinned,
+    ghost version_is: { arc_value pinned.version ≡ version_of log.items },
+    ghost index_is: { arc_value pinned.index ≡ index_of (arc_value pinned.version).content.rows },
+    ghost all_own: { own 0 log.items ≡ log.items },
+}
+
+impl PlainBoard {
+    /// A board without entries. The one error is want of memory.
+    pub fn new(alloc: Global) -> Result<PlainBoard, AllocError>
+        ensures { IfOk result (λ b. b.log.items ≡ []) }
+    {
+        let version = Arc::new(alloc, Version::empty(alloc, 0))?;
+        let index = Arc::new(alloc, RootIndex::empty(alloc))?;
+        Ok(PlainBoard {
+            log: Vec::new(alloc),
+            pinned: Pinned { version, index },
+        })
+    }
+}
+
+/// Whether the base, where one is given, is the head.
+fn fits_head(base: Option<u32>, head: u32) -> bool
+    ensures yes { result ≡ true → FitsHead base head }
+    ensures no { result ≡ false → ¬ FitsHead base head }
+{
+    match base {
+        Some(base) => base == head,
+        None => true,
+    }
+}
+
+/// The refusal of a commit by its edits.
+fn refused_by(fault: EditFault) -> CommitFault
+    ensures edit { (e : Faults) → result ≡ why.Edit e → (e ≡ fault) × (e ≢ faults.NoMemory) }
+    ensures stale { (n : ℕ) → result ≢ why.Stale n }
+{
+    match fault {
+        EditFault::NoMemory => CommitFault::NoMemory,
+        fault => CommitFault::Edit(fault),
+    }
+}
+
+/// What a commit appends, made before anything is appended.
+#[derive(Drop)]
+struct Prepared {
+    edits: EditList,
+    pinned: Pinned,
+}
+
+impl PlainBoard {
+    /// The version that the edits make of the head.
+    fn amended(&self, alloc: Global, edits: &[Edit]) -> Result<Version, CommitFault>
+        ensures fit { IfOk result (λ _. refusal self.now.log.items edits.now ≡ None) }
+        ensures version { IfOk result (λ version. version ≡ record { number = length self.now.log.items + 1; content = edited_all edits.now (version_of self.now.log.items).content }) }
+        ensures refused { (e : Faults) → result ≡ Err (why.Edit e) → (refusal self.now.log.items edits.now ≡ Some e) × (e ≢ faults.NoMemory) }
+        ensures stale { (n : ℕ) → result ≢ Err (why.Stale n) }
+    {
+        match self.pinned.version.amend(alloc, edits) {
+            Ok(version) => Ok(version),
+            Err(fault) => Err(refused_by(fault)),
+        }
+    }
+
+    /// Makes what the commit appends.
+    fn prepared(
+        &self,
+        alloc: Global,
+        base: Option<u32>,
+        edits: &[Edit],
+    ) -> Result<Prepared, CommitFault>
+        ensures base { IfOk result (λ _. FitsHead base (length self.now.log.items)) }
+        ensures fit { IfOk result (λ _. refusal self.now.log.items edits.now ≡ None) }
+        ensures edits { IfOk result (λ made. made.edits ≡ edits.now) }
+        ensures version { IfOk result (λ made. arc_value made.pinned.version ≡ record { number = length self.now.log.items + 1; content = edited_all edits.now (version_of self.now.log.items).content }) }
+        ensures index { IfOk result (λ made. arc_value made.pinned.index ≡ index_of (arc_value made.pinned.version).content.rows) }
+        ensures stale { (n : ℕ) → result ≡ Err (why.Stale n) → IsStale base (length self.now.log.items) n }
+        ensures refused { (e : Faults) → result ≡ Err (why.Edit e) → IsRefused base edits.now self.now.log.items e }
+    {
+        rows_have_one_index();
+        let head = self.pinned.version.number();
+        if !fits_head(base, head) {
+            return Err(CommitFault::Stale(head));
+        }
+        let next = self.amended(alloc, edits)?;
+        let index = self.index_after(alloc, &next, edits)?;
+        let edits = EditList::copy(alloc, edits)?;
+        let version = Arc::new(alloc, next)?;
+        let index = Arc::new(alloc, index)?;
+        Ok(Prepared {
+            edits,
+            pinned: Pinned { version, index },
+        })
+    }
+
+    /// The index of the version that the edits make of the head.
+    fn index_after(
+        &self,
+        alloc: Global,
+        next: &Version,
+        edits: &[Edit],
+    ) -> Result<RootIndex, AllocError>
+        requires { next.now.content ≡ edited_all edits.now (version_of self.now.log.items).content }
+        ensures { IfOk result (λ index. index ≡ index_of next.now.content.rows) }
+    {
+        rows_have_one_index();
+        next.row_count();
+        self.pinned
+            .index
+            .amended(alloc, &self.pinned.version, next, edits)
+    }
+}
+
+impl PlainBoard {
+    /// Appends what was prepared.
+    #[tactic(auto, using(crate::proofs::Replayed::version_push, crate::proofs::Replayed::own_push))]
+    fn append(&mut self, made: Prepared)
+        requires room { vec_len self.old.log < vec_capacity self.old.log }
+        requires version { arc_value made.pinned.version ≡ record { number = length self.old.log.items + 1; content = edited_all made.edits (version_of self.old.log.items).content } }
+        requires index { arc_value made.pinned.index ≡ index_of (arc_value made.pinned.version).content.rows }
+        ensures { self.new.log.items ≡ self.old.log.items ++ entry 0 (length self.old.log.items) made.edits ∷ [] }
+    {
+        let serial = self.pinned.version.number();
+        self.log.push_reserved(Entry {
+            seat: 0,
+            serial,
+            edits: made.edits,
+        });
+        self.pinned = made.pinned;
+    }
+
+    /// Appends an entry with these edits and pins its version.
+    fn extended(
+        &mut self,
+        alloc: Global,
+        base: Option<u32>,
+        edits: &[Edit],
+    ) -> Result<(), CommitFault>
+        ensures ok { OnOk result (IsExtended 0 base edits.now self.old.log.items self.new.log.items) }
+        ensures stays { OnErr result (self.new.log.items ≡ self.old.log.items) }
+        ensures stale { (n : ℕ) → result ≡ Err (why.Stale n) → IsStale base (length self.old.log.items) n }
+        ensures refused { (e : Faults) → result ≡ Err (why.Edit e) → IsRefused base edits.now self.old.log.items e }
+    {
+        let made = self.prepared(alloc, base, edits)?;
+        self.log.reserve(1)?;
+        self.append(made);
+        Ok(())
+    }
+}
+
+impl Pins for PlainBoard {
+    ghost log = { λ b. b.log.items };
+
+    ghost seat = { λ b. 0 };
+
+    ghost pin_at = { λ b. length b.log.items };
+
+    fn pin(&mut self) {}
+
+    fn pinned(&self) -> &Pinned {
+        &self.pinned
+    }
+}
+
+impl<R> Commits<R> for PlainBoard {
+    fn commit(&mut self, _rt: &R, base: Option<u32>, edits: &[Edit]) -> Result<(), CommitFault> {
+        let alloc = *self.log.allocator();
+        self.extended(alloc, base, edits)
+    }
+}
