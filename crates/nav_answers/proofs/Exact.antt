@@ -1,13 +1,12 @@
 -- The complete runs of a reference, with their ends, tell its definitions.
-use Rattle.std.proofs.Common.{◌≡◌, refl, sym, ◌∙◌, ap, subst, ℕ, List, [], ◌∷◌, map, Bool, true, false, eqb, eq-eqb, eqb-true, Option, Some, None, is_some, IsSome, IsSomeAnd, IsTrue, MatchOption, Contains, ◌↔◌, All, inl, inr}
+use Rattle.std.proofs.Common.{◌≡◌, refl, sym, ◌∙◌, ap, subst, List, [], ◌∷◌, Bool, true, false, eqb, eq-eqb, eqb-true, Option, Some, None, is_some, IsSome, IsSomeAnd, IsTrue, MatchOption, Contains, ◌↔◌, All}
 use Rattle.std.specs.Prelude.{filter, not}
 use Rattle.std.specs.List.{AllByRecursion}
 use Rattle.std.proofs.lemmas.Bool.{false≢true, and_parts, and_from}
 use Rattle.std.proofs.lemmas.List.Elements.{All-from_recursion, recursion_from_All}
 use Rattle.graph_nodes.specs.Graph.{Graph}
 use Rattle.stacks_vars.specs.declared.scopes.NodeAt.{NodeAt}
-use Rattle.partial_path.specs.declared.config.Spot.{Spot}
-use Rattle.partial_path.specs.declared.config.Spot.TheVariants.{Root, At}
+use Rattle.partial_path.specs.declared.config.Spot.TheVariants.{At}
 use Rattle.partial_path.specs.declared.config.Config.{Config}
 use Rattle.partial_path.specs.declared.config.EdgeAt.{EdgeAt}
 use Rattle.partial_path.specs.declared.bounds.Bounds.{Bounds}
@@ -123,3 +122,15 @@ module _ (bounds : Bounds) (files : List Graph) (c : Config) (runs : List EdgePa
       λ h. (exact hit).1 (Contains-from_IsIn (ends_of files runs) hit (from_definition hit h)),
     );
   }
+
+-- the same of runs from where a reference starts
+pub edges_from : (bounds : Bounds) (files : List Graph) (o : Option Config) (runs : List EdgePath)
+    → IsSomeAnd o (λ c. AreCompleteRuns bounds files c runs) → All (HasEdges files) runs
+edges_from bounds files None runs h = absurd h
+edges_from bounds files (Some c) runs h = has_edges bounds files c runs h
+
+pub definitions_from : (bounds : Bounds) (files : List Graph) (o : Option Config) (runs : List EdgePath) (found : List Hit)
+    → IsSomeAnd o (λ c. AreCompleteRuns bounds files c runs) → IsRising found → ((hit : Hit) → Contains found hit ↔ Contains (ends_of files runs) hit)
+    → IsSomeAnd o (λ c. AreDefinitions bounds files c found)
+definitions_from bounds files None runs found h rising exact = absurd h
+definitions_from bounds files (Some c) runs found h rising exact = are_definitions bounds files c runs h found rising exact

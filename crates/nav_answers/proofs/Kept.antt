@@ -1,12 +1,11 @@
 -- Going over the runs of a reference beside those paths that are kept of them.
-use Rattle.std.proofs.Common.{◌≡◌, refl, sym, ◌∙◌, ap, subst, ℕ, zero, suc, ◌+◌, ◌<◌, List, [], ◌∷◌, ◌++◌, map, length, take, drop, get_or, Bool, true, false, cond, ◌&&◌, eqb, eq-eqb, eqb-true, Option, Some, None, slice_get, inl, inr, arith}
-use Rattle.std.specs.Prelude.{filter, not}
-use Rattle.std.specs.Cmp.Lexicographic.{pointwise}
+use Rattle.std.proofs.Common.{◌≡◌, refl, sym, ◌∙◌, ap, ℕ, zero, suc, ◌+◌, ◌<◌, List, [], ◌∷◌, ◌++◌, map, length, take, drop, get_or, Bool, true, false, cond, eqb, eq-eqb, eqb-true, Option, Some, None, slice_get, inl, arith}
+use Rattle.std.specs.Prelude.{filter}
 use Rattle.std.specs.Option.{option_map_or}
-use Rattle.std.proofs.lemmas.Bool.{false≢true, and_parts, and_from, cases_Bool}
+use Rattle.std.proofs.lemmas.Bool.{false≢true, and_parts, and_from}
 use Rattle.std.proofs.lemmas.List.{take_more, drop_more, map-append}
 use Rattle.std.proofs.lemmas.List.Elements.{filter-append}
-use Rattle.std.proofs.lemmas.Option.{none-some, same_Some, slice_get_within}
+use Rattle.std.proofs.lemmas.Option.{none-some, same_Some}
 use Rattle.graph_nodes.specs.Graph.{Graph}
 use Rattle.partial_path.specs.declared.config.EdgeAt.{EdgeAt}
 use Rattle.shadowing.specs.declared.paths.EdgeStep.{EdgeStep}
@@ -99,7 +98,7 @@ module _ (files : List Graph) (all : List (List EdgeStep)) where
 
 -- so many runs were gone over, and so many kept paths: where the kept ones end, and which kept paths are left
 pub record IsUnderWay (files : List Graph) (runs : List EdgePath) (kept : List (List EdgeStep)) (i place : ℕ) (ends : List Hit) : Type 0 where
-  pub ends : ends ≡ ends_in files (run_paths files runs) (take i runs)
+  pub so_far : ends ≡ ends_in files (run_paths files runs) (take i runs)
   pub left : drop place kept ≡ filter (stays (run_paths files runs)) (run_paths files (drop i runs))
 
 module _ (files : List Graph) (runs : List EdgePath) (kept : List (List EdgeStep)) (i place : ℕ) (ends : List Hit) (run : EdgePath)
@@ -124,7 +123,7 @@ module _ (files : List Graph) (runs : List EdgePath) (kept : List (List EdgeStep
   taken t =
       let keeps = sym told ∙ t in
       record {
-        ends = ap (λ xs. xs ++ end_of run ∷ []) way.ends ∙ sym (more true keeps);
+        so_far = ap (λ xs. xs ++ end_of run ∷ []) way.so_far ∙ sym (more true keeps);
         left = drop_next kept place (run_path files run) (filter (stays (run_paths files runs)) (run_paths files (drop (i + 1) runs)))
             (here ∙ ap (λ b. cond b (run_path files run ∷ filter (stays (run_paths files runs)) (run_paths files (drop (i + 1) runs))) (filter (stays (run_paths files runs)) (run_paths files (drop (i + 1) runs)))) keeps);
       }
@@ -134,10 +133,18 @@ module _ (files : List Graph) (runs : List EdgePath) (kept : List (List EdgeStep
   passed t =
       let keeps = sym told ∙ t in
       record {
-        ends = way.ends ∙ sym (more false keeps ∙ append-none (ends_in files (run_paths files runs) (take i runs)));
+        so_far = way.so_far ∙ sym (more false keeps ∙ append-none (ends_in files (run_paths files runs) (take i runs)));
         left = here ∙ ap (λ b. cond b (run_path files run ∷ filter (stays (run_paths files runs)) (run_paths files (drop (i + 1) runs))) (filter (stays (run_paths files runs)) (run_paths files (drop (i + 1) runs)))) keeps;
       }
     where
       append-none : {X : Type 0} (xs : List X) → xs ++ [] ≡ xs
       append-none [] = refl
       append-none (x ∷ xs) = ap (λ ys. x ∷ ys) (append-none xs)
+
+-- the same by other names
+pub so_told : (files : List Graph) (runs : List EdgePath) (kept : List (List EdgeStep)) (i place next : ℕ) (ends more : List Hit)
+    → next ≡ place → more ≡ ends → IsUnderWay files runs kept i place ends → IsUnderWay files runs kept i next more
+so_told files runs kept i place next ends more p e way = record {
+  so_far = e ∙ way.so_far;
+  left = ap (λ n. drop n kept) p ∙ way.left;
+}

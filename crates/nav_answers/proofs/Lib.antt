@@ -4,3 +4,4 @@ pub mod Own
 pub mod Kept
 pub mod Exact
 pub mod OneReply
+pub mod Told

@@ -1,19 +1,18 @@
 -- The number of a file at a path, and the graphs of files.
-use Rattle.std.proofs.Common.{◌≡◌, refl, sym, ◌∙◌, ap, subst, ℕ, zero, suc, ◌+◌, ◌<◌, List, [], ◌∷◌, map, length, Bool, true, false, cond, ◌||◌, Option, Some, None, unwrap_or, slice_get, MatchOption, IfSome, arith}
+use Rattle.std.proofs.Common.{◌≡◌, refl, sym, ◌∙◌, ap, subst, ℕ, zero, suc, ◌+◌, ◌<◌, List, [], ◌∷◌, length, Bool, false, cond, Option, Some, None, unwrap_or, slice_get, MatchOption, IfSome, All, arith}
 use Rattle.std.specs.List.{AllByRecursion, position_from}
-use Rattle.std.specs.Option.{option_map, option_map_or}
-use Rattle.std.specs.Ordering.{is_lt, is_eq}
-use Rattle.std.specs.declared.cmp.Ordering.{Ordering}
+use Rattle.std.specs.Option.{option_map}
+use Rattle.std.specs.Ordering.{is_eq}
 use Rattle.std.specs.declared.cmp.Ordering.TheVariants.{Less, Equal}
-use Rattle.std.proofs.lemmas.Bool.{false≢true, or_parts}
+use Rattle.std.proofs.lemmas.Bool.{or_parts}
 use Rattle.std.proofs.lemmas.Cmp.{nat_list_cmp_total, tied_itself}
-use Rattle.std.proofs.lemmas.Option.{none-some, slice_get-map, slice_get_within}
-use Rattle.graph_nodes.specs.Graph.{Graph}
+use Rattle.std.proofs.lemmas.Option.{none-some, slice_get-map}
 use Rattle.partial_path.specs.PathSets.{FileRules}
-use Rattle.partial_path.specs.Sources.{graphs_of}
+use Rattle.std.proofs.lemmas.List.Elements.{All-from_recursion}
+use Rattle.partial_path.specs.Sources.{IsSourceFile, graphs_of}
 use Rattle.version_tree.specs.Contents.{FileRow, path_cmp, IsInOrder, has_path}
 use Rattle.version_tree.specs.Views.{path_at, file_at}
-use Rattle.version_tree.specs.Graphs.{GraphRow, row_graph, graph_rows}
+use Rattle.version_tree.specs.Graphs.{GraphRow, graph_rows}
 use Rattle.root_index.specs.Offers.{files_of}
 use Rattle.nav_answers.specs.Replies.{graphs_in, number_of}
 use Rattle.nav_answers.specs.Sources.{graphs_seen}
@@ -81,3 +80,11 @@ graph_there files n = slice_get-map (λ (f : FileRules). f.graph) files n
 pub same_graphs : (rows : List FileRow) → graphs_seen rows ≡ graphs_in (graph_rows rows)
 same_graphs [] = refl
 same_graphs (row ∷ rows) = ap (λ gs. row.file.graph ∷ gs) (same_graphs rows)
+
+-- what is said of the files of rows in a row's words
+pub sources_of : (rows : List FileRow) → AllByRecursion (λ (row : FileRow). IsSourceFile row.file) rows → All IsSourceFile (files_of rows)
+sources_of rows h = All-from_recursion IsSourceFile (files_of rows) (each rows h)
+  where
+    each : (rows : List FileRow) → AllByRecursion (λ (row : FileRow). IsSourceFile row.file) rows → AllByRecursion IsSourceFile (files_of rows)
+    each [] h = tt
+    each (row ∷ rows) h = (h.0, each rows h.1)

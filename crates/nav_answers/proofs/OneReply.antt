@@ -1,11 +1,9 @@
 -- Two replies to one query are equal.
-use Rattle.std.proofs.Common.{◌≡◌, refl, sym, ◌∙◌, ap, subst, ℕ, ◌<◌, List, [], ◌∷◌, map, Bool, true, false, Option, Some, None, IsSomeAnd, Result, Ok, Err, MatchResult, IsTrue, Contains, ◌↔◌, ◌⊎◌, inl, inr, arith}
+use Rattle.std.proofs.Common.{◌≡◌, refl, sym, ◌∙◌, ap, subst, List, [], ◌∷◌, map, Bool, true, false, Option, Some, None, IsSomeAnd, Result, Ok, Err, MatchResult, IsTrue, ◌↔◌, ◌⊎◌, inl, inr, arith}
 use Rattle.std.specs.List.{AllByRecursion}
-use Rattle.std.proofs.lemmas.Bool.{false≢true}
 use Rattle.graph_nodes.specs.Graph.{is_reference_kind, is_definition_kind}
 use Rattle.stacks_vars.specs.declared.scopes.NodeAt.{NodeAt}
 use Rattle.partial_path.specs.declared.config.Config.{Config}
-use Rattle.partial_path.specs.declared.bounds.Bounds.{Bounds}
 use Rattle.partial_path.specs.Step.{start}
 use Rattle.partial_path.specs.Counted.{IsCrowded, HasLimit}
 use Rattle.version_tree.specs.declared.row.Answer.{Answer}
@@ -14,7 +12,6 @@ use Rattle.whole_search.specs.declared.found.Hit.{Hit}
 use Rattle.whole_search.specs.Answers.{ComesBefore, IsRising, AreRows, IsDefinitionFrom, IsReferenceOf, IsAnyCrowded, HasAnyLimit}
 use Rattle.list_facts.specs.Members.{IsIn}
 use Rattle.list_facts.proofs.Members.{IsIn-from_Contains, Contains-from_IsIn, at_member}
-use Rattle.nav_answers.specs.declared.found.At.{At}
 use Rattle.nav_answers.specs.declared.found.AskFault.{AskFault}
 use Rattle.nav_answers.specs.declared.found.AskFault.TheVariants.{NoReference, NoDefinition}
 use Rattle.nav_answers.specs.Replies.{graphs_in, meant, row_of, hit_of, IsAnswer, IsReplyAbout, IsDefinitionReply, IsReferenceReply, IsDefineReply, IsReferencesReply}
@@ -64,7 +61,7 @@ same_answer : (is_row : Hit → Type 0) (has_limit : Type 0) (rows : List GraphR
     → IsAnswer is_row has_limit rows a → IsAnswer is_row has_limit rows b → a ≡ b
 same_answer is_row has_limit rows a b h k =
     let flag : a.limit ≡ b.limit = same_flag has_limit a.limit b.limit h.limit k.limit in
-    let told : a.rows ≡ b.rows = h.rows ∙ ap (map (row_of rows)) (same_rows is_row h.hits k.hits h.exact k.exact) ∙ sym k.rows in
+    let told : a.rows ≡ b.rows = h.told ∙ ap (map (row_of rows)) (same_rows is_row h.hits k.hits h.exact k.exact) ∙ sym k.told in
     (λ i. record { limit = flag i; rows = told i })
 
 module _ (is_row : Hit → Type 0) (has_limit is_crowded : Type 0) (rows : List GraphRow) where

@@ -1,5 +1,5 @@
 -- The paths that begin at a start of one file are that file's alone.
-use Rattle.std.proofs.Common.{◌≡◌, refl, sym, ◌∙◌, ap, subst, ℕ, zero, suc, ◌+◌, ◌<◌, List, [], ◌∷◌, ◌++◌, map, length, Bool, true, false, cond, Option, Some, None, slice_get, arith}
+use Rattle.std.proofs.Common.{◌≡◌, refl, sym, ◌∙◌, ap, ℕ, zero, suc, ◌+◌, ◌-◌, ◌<◌, List, [], ◌∷◌, ◌++◌, map, drop, Bool, true, false, cond, Option, Some, None, slice_get, arith}
 use Rattle.std.specs.Prelude.{filter, ◌&&◌, nat_eq, All}
 use Rattle.std.specs.List.{AllByRecursion}
 use Rattle.std.specs.Option.{option_map, option_map_or}
@@ -22,8 +22,8 @@ use Rattle.partial_path.specs.Spots.{node_at}
 use Rattle.partial_path.specs.Starts.{start_eq, rules_at, begins_at}
 use Rattle.partial_path.specs.PathSets.{FileRules, IsLandingRule}
 use Rattle.partial_path.specs.Inside.{file_of, start_inside}
-use Rattle.partial_path.specs.Sources.{IsSourceFile, asks_rule, is_asked, is_offered, numbered, rules_in, rules_after, rules_from, rules_offered}
-use Rattle.partial_path.specs.Offers.{is_shared, offers_left, offers_here, offers_behind}
+use Rattle.partial_path.specs.Sources.{IsSourceFile, asks_rule, is_asked, numbered, rules_in, rules_after, rules_from, rules_offered, rules_offered_after}
+use Rattle.partial_path.specs.Offers.{is_shared, offers_here}
 use Rattle.partial_path.proofs.Asking.{filter_twice}
 use Rattle.partial_path.proofs.Listing.{walks_start_in_0, list_offers, offers_from_is, IsAtFirst}
 use Rattle.partial_path.proofs.Standing.{and_assoc}
@@ -111,6 +111,15 @@ asked_alone files n f start first k sources alone here there =
     ∙ (λ i. slice_get (alone_in (sym here i) start first (there i)) k)
     ∙ at_alone n start first k f
 
+-- the same, where the file's rules that begin there are known
+pub asked_in : (files : List FileRules) (n : ℕ) (f : FileRules) (start : Start) (first : Option (List ℕ)) (k : ℕ) (run : List Rule) (found : Option Rule)
+    → All IsSourceFile files → is_shared start ≡ false → n ≡ file_of start → Some f ≡ slice_get files n → run ≡ rules_at (start_inside start) f.rules
+    → found ≡ slice_get (filter (asks_rule first) run) k → option_map (numbered n) found ≡ slice_get (rules_from files start first) k
+asked_in files n f start first k run found sources alone here there begins is =
+    sym (asked_alone files n f start first k sources alone here (sym there)
+    ∙ ap (λ rs. option_map (numbered n) (slice_get (filter (asks_rule first) rs) k)) (sym begins)
+    ∙ ap (option_map (numbered n)) (sym is))
+
 -- and without such a file there is none
 pub none_alone : (files : List FileRules) (n : ℕ) (start : Start) (first : Option (List ℕ)) (k : ℕ) → All IsSourceFile files → is_shared start ≡ false → n ≡ file_of start
     → slice_get files n ≡ None → slice_get (rules_from files start first) k ≡ None
@@ -130,5 +139,13 @@ pub offers_alone : (files : List FileRules) (n : ℕ) (start : Start) (symbols :
 offers_alone files n start symbols inside sources alone here first begun =
     ap (λ m. offers_here files symbols (list_offers m inside)) here
     ∙ sym (append-nil (offers_here files symbols (list_offers (file_of start) inside)))
-    ∙ sym (ap (λ b. offers_here files symbols (list_offers (file_of start) inside) ++ cond b _ []) (ap is_shared begun ∙ inside_shared start ∙ alone))
+    ∙ sym (ap (λ b. offers_here files symbols (list_offers (file_of start) inside) ++ cond b (rules_offered_after (file_of start + 1) (drop (file_of start + 1) files) inside.start symbols) []) (ap is_shared begun ∙ inside_shared start ∙ alone))
     ∙ offers_from_is files symbols start inside sources first begun
+
+-- one after another of a list
+pub get_first : {X : Type 0} (x : X) (xs : List X) (n : ℕ) → n ≡ 0 → slice_get (x ∷ xs) n ≡ Some x
+get_first x xs n e = ap (slice_get (x ∷ xs)) e
+
+pub get_later : {X : Type 0} (x : X) (xs : List X) (n : ℕ) → (n ≡ 0 → ⊥) → slice_get (x ∷ xs) n ≡ slice_get xs (n - 1)
+get_later x xs zero h = absurd (h refl)
+get_later x xs (suc n) h = ap (slice_get xs) (omega arith)

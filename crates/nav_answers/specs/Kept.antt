@@ -1,7 +1,6 @@
 -- What becomes of the runs of a reference: which of them are shadowed, and where the others end. No public clause
 -- cites this.
 use Rattle.std.specs.Prelude.{ℕ, List, map, filter, Bool, not, IsSome, All}
-use Rattle.std.specs.Str.{bytes_eq}
 use Rattle.std.specs.Cmp.Lexicographic.{pointwise}
 use Rattle.std.specs.Prelude.{◌&&◌, nat_eq, slice_get, false}
 use Rattle.std.specs.Option.{option_map_or}
@@ -11,7 +10,6 @@ use Rattle.partial_path.specs.declared.config.EdgeAt.{EdgeAt}
 use Rattle.shadowing.specs.declared.paths.EdgeStep.{EdgeStep}
 use Rattle.shadowing.specs.Shadow.{is_shadowed}
 use Rattle.stitcher.specs.declared.found.EdgePath.{EdgePath}
-use Rattle.stitcher.specs.Answers.{kept_edges}
 use Rattle.whole_search.specs.declared.found.Hit.{Hit}
 use Rattle.whole_search.specs.Answers.{path_of}
 use Rattle.nav_answers.specs.Replies.{hit_of}

@@ -2,8 +2,8 @@
 use Rattle.std.specs.Prelude.{Bool}
 use Rattle.graph_nodes.specs.declared.node.NodeKind.{NodeKind}
 use Rattle.graph_nodes.specs.Graph.{is_reference_kind, is_definition_kind}
-use Rattle.nav_answers.specs.declared.meant.Asked.{Asked}
-use Rattle.nav_answers.specs.declared.meant.Asked.TheVariants as asked
+use Rattle.nav_answers.specs.declared.meaning.Asked.{Asked}
+use Rattle.nav_answers.specs.declared.meaning.Asked.TheVariants as asked
 use Rattle.nav_answers.specs.declared.found.AskFault.{AskFault}
 use Rattle.nav_answers.specs.declared.found.AskFault.TheVariants.{NoReference, NoDefinition}
 

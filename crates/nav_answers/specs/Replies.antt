@@ -54,7 +54,7 @@ row_of rows hit = record {
 pub record IsAnswer (is_row : Hit → Type 0) (has_limit : Type 0) (rows : List GraphRow) (answer : Answer) : Type 0 where
   pub hits : List Hit
   pub exact : AreRows is_row hits
-  pub rows : answer.rows ≡ map (row_of rows) hits
+  pub told : answer.rows ≡ map (row_of rows) hits
   pub limit : IsTrue answer.limit ↔ has_limit
 
 -- a reply about a node that is there: crowded exactly where it is due, else the answer

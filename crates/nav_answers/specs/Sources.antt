@@ -1,17 +1,13 @@
 -- What a user sees as a source of stored paths: files by number, and the index of those from the root.
-use Rattle.std.specs.Prelude.{ℕ, List, Bool, false, Option, slice_get}
-use Rattle.std.specs.Option.{option_map_or}
+use Rattle.std.specs.Prelude.{ℕ, List}
 use Rattle.stacks_vars.specs.declared.items.SymbolItem.{SymbolItem}
-use Rattle.partial_path.specs.declared.config.EdgeAt.{EdgeAt}
 use Rattle.partial_path.specs.declared.file_list.ListOffers.{ListOffers}
 use Rattle.partial_path.specs.declared.offers.FileOffers.{FileOffers}
 use Rattle.partial_path.specs.Rules.{Rule}
-use Rattle.partial_path.specs.PathSets.{FileRules}
 use Rattle.partial_path.specs.Offers.{offers_here}
 use Rattle.graph_nodes.specs.Graph.{Graph}
 use Rattle.partial_path.specs.Sources.{graphs_of}
 use Rattle.version_tree.specs.Contents.{FileRow}
-use Rattle.root_index.specs.declared.offers.RootOffers.{RootOffers}
 use Rattle.root_index.specs.Roots.{RootPath}
 use Rattle.root_index.specs.Offers.{files_of}
 use Rattle.root_index.specs.Offers as roots

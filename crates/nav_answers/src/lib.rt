@@ -2,15 +2,15 @@
 //! referred to.
 #![tactic(auto)]
 
-mod define;
+mod defining;
 mod found;
 mod laws;
-mod meant;
+mod meaning;
 mod rows;
 mod source;
 
-pub use define::define;
+pub use defining::define;
 pub use found::{AskFault, At};
 pub use laws::queries_have_one_reply;
-pub use meant::definition_at;
+pub use meaning::definition_at;
 pub use version_tree::{Answer, Row};

@@ -1,4 +1,4 @@
-ghost use Rattle.std.specs.Prelude.{◌≡◌, ◌↔◌, map, All, Contains, IfOk, slice_get, option_copied};
+ghost use Rattle.std.specs.Prelude.{◌≡◌, ◌↔◌, map, All, Contains, IfOk, IsTrue, ◌<◌, length};
 ghost use Rattle.shadowing.specs.Shadow.{unshadowed};
 ghost use Rattle.whole_search.specs.declared.found.Hit.{Hit};
 ghost use Rattle.whole_search.specs.Answers.{IsRising, path_of, precedence_of, step_of};
@@ -61,7 +61,8 @@ fn ends_of(
 
 /// Whether the path at that place is by those edges; false where there is none.
 fn is_next(kept: &[EdgeList], place: usize, edges: &[EdgeAt]) -> bool
-    ensures { result ≡ is_next kept.now place edges.now }
+    ensures value { result ≡ is_next kept.now place edges.now }
+    ensures inside { IsTrue result → place < length kept.now }
 {
     match kept.get(place) {
         Some(path) => are_by(path.items(), edges),
@@ -73,7 +74,15 @@ fn is_next(kept: &[EdgeList], place: usize, edges: &[EdgeAt]) -> bool
 fn are_by(path: &[EdgeStep], edges: &[EdgeAt]) -> bool
     ensures { result ≡ are_by path.now edges.now }
 {
-    path.len() == edges.len() && path.iter().zip(edges).all(|(step, edge)| is_by(step, edge))
+    if path.len() != edges.len() {
+        return false;
+    }
+    for i in 0..edges.len() {
+        if !is_by(&path[i], &edges[i]) {
+            return false;
+        }
+    }
+    true
 }
 
 /// Whether the step is by that edge.

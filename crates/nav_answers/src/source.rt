@@ -1,4 +1,4 @@
-ghost use Rattle.std.specs.Prelude.{◌≡◌, [], ◌∷◌, slice_get, option_copied, option_map, filter, MatchOption, IsPermutation, All};
+ghost use Rattle.std.specs.Prelude.{◌≡◌, ◌<◌, ◌^◌, IfSome, [], ◌∷◌, slice_get, option_copied, option_map, filter, false, MatchOption, IsPermutation, All};
 ghost use Rattle.partial_path.specs.Inside.{file_of, start_inside};
 ghost use Rattle.partial_path.specs.Offers.{offers_here, is_shared};
 ghost use Rattle.partial_path.specs.Sources.{IsSourceFile, asks_rule, rules_from, rules_offered};
@@ -7,9 +7,7 @@ ghost use Rattle.root_index.specs.Offers.{files_of};
 ghost use Rattle.root_index.specs.Roots.{IsIndexOfView, root};
 ghost use Rattle.nav_answers.specs.Sources.{offers_left, seen_of};
 
-use partial_path::{
-    FileOffers, FilePaths, ListOffers, PartialPath, PathSource, Spot, Start, asks,
-};
+use partial_path::{FileOffers, FilePaths, ListOffers, PartialPath, PathSource, Spot, Start, asks};
 use root_index::{RootIndex, RootOffers};
 use stacks_vars::{NodeAt, Symbol, SymbolStack};
 use std::marker::Model;
@@ -24,6 +22,7 @@ pub enum ViewOffers {
 
 /// The stored paths of the files that a user sees: those of a file are found in the file's own order, those from the
 /// root by the index of the version.
+#[derive(Drop)]
 pub struct ViewSource<'a> {
     view: &'a View,
     index: &'a RootIndex,
@@ -123,7 +122,8 @@ impl<'a> PathSource for ViewSource<'a> {
 
 /// The paths of the file with that number; None where there is none.
 pub fn file_in(view: &View, file: usize) -> Option<&FilePaths>
-    ensures { option_copied result ≡ slice_get (files_of view.now) file }
+    ensures value { option_copied result ≡ slice_get (files_of view.now) file }
+    ensures small { IfSome result (λ _. file < 2 ^ 32) }
 {
     if file < view.row_count() as usize {
         Some(view.paths(file as u32).get())
@@ -176,11 +176,7 @@ fn path_inside<'a>(
 }
 
 /// The path at place `k` of those that can be met with that symbol in front.
-fn asked<'a>(
-    run: &'a [PartialPath],
-    first: Option<&Symbol>,
-    k: usize,
-) -> Option<&'a PartialPath>
+fn asked<'a>(run: &'a [PartialPath], first: Option<&Symbol>, k: usize) -> Option<&'a PartialPath>
     ensures { option_copied result ≡ slice_get (filter (asks_rule (option_copied first.entry)) run.now) k }
 {
     let mut left = k;

@@ -10,7 +10,7 @@ ghost use Rattle.nav_answers.specs.Replies.{IsDefineReply, IsDefinitionReply, ro
 ghost use Rattle.nav_answers.specs.Sources.{graphs_seen};
 
 use crate::found::{AskFault, At};
-use crate::meant::{Asked, meant};
+use crate::meaning::{Asked, meant};
 use crate::rows::rows_of;
 use crate::source::{ViewSource, file_in};
 use graph_nodes::Span;

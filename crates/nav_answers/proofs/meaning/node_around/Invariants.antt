@@ -2,7 +2,7 @@ use Rattle.std.proofs.Common.{◌≡◌, drop}
 use Rattle.std.specs.List.{position_from}
 use Rattle.nav_answers.specs.Kinds.{is_of}
 use Rattle.nav_answers.specs.Points.{is_there}
-use Rattle.nav_answers.proofs.meant.node_around.Given as goal
+use Rattle.nav_answers.proofs.meaning.node_around.Given as goal
 
 -- none of those passed is the one
 abbrev pub invariant-loop-n : goal.invariant-loop-n
