@@ -1,0 +1,9 @@
+use Rattle.std.proofs.Common.{drop}
+use Rattle.std.specs.Prelude.{option_copied}
+use Rattle.partial_path.specs.Sources.{asks_rule}
+use Rattle.partial_path.proofs.Asking.{IsLeft}
+use Rattle.nav_answers.proofs.source.asked.Given as goal
+
+-- what is asked for among all is what is left to ask for among those left
+abbrev pub invariant-loop-path : goal.invariant-loop-path
+invariant-loop-path l = IsLeft (asks_rule (option_copied l.first)) l.run (drop l.path-index l.run) l.k l.left

@@ -1,0 +1,6 @@
+pub mod Points
+pub mod Replies
+pub mod Laws
+pub mod Kinds
+pub mod Sources
+pub mod Kept

@@ -1,0 +1,7 @@
+ghost use Rattle.nav_answers.specs.Laws.{QueriesHaveOneReply};
+
+/// A law: two replies to one query over equal lists of files are equal. So the reply is told by what the user sees,
+/// the query and nothing else.
+pub fn queries_have_one_reply()
+    ensures { QueriesHaveOneReply }
+{}

@@ -1,0 +1,16 @@
+//! The queries of the server over what a user may see: where a reference is defined, and where a definition is
+//! referred to.
+#![tactic(auto)]
+
+mod defining;
+mod found;
+mod laws;
+mod meaning;
+mod rows;
+mod source;
+
+pub use defining::define;
+pub use found::{AskFault, At};
+pub use laws::queries_have_one_reply;
+pub use meaning::definition_at;
+pub use version_tree::{Answer, Row};

@@ -1,0 +1,284 @@
+ghost use Rattle.std.specs.Prelude.{◌≡◌, ◌<◌, ◌^◌, IfSome, [], ◌∷◌, slice_get, option_copied, option_map, filter, false, MatchOption, IsPermutation, All};
+ghost use Rattle.partial_path.specs.Inside.{file_of, start_inside};
+ghost use Rattle.partial_path.specs.Offers.{offers_here, is_shared};
+ghost use Rattle.partial_path.specs.Sources.{IsSourceFile, asks_rule, rules_from, rules_offered};
+ghost use Rattle.partial_path.specs.Spots.{node_at};
+ghost use Rattle.root_index.specs.Offers.{files_of};
+ghost use Rattle.root_index.specs.Roots.{IsIndexOfView, root};
+ghost use Rattle.nav_answers.specs.Sources.{offers_left, seen_of};
+
+use partial_path::{FileOffers, FilePaths, ListOffers, PartialPath, PathSource, Spot, Start, asks};
+use root_index::{RootIndex, RootOffers};
+use stacks_vars::{NodeAt, Symbol, SymbolStack};
+use std::marker::Model;
+use version_tree::View;
+
+/// Where a look-up stands: in one file, or among the paths from the root.
+#[derive(Clone, Copy, Debug)]
+pub enum ViewOffers {
+    Inside(ListOffers),
+    Roots(RootOffers),
+}
+
+/// The stored paths of the files that a user sees: those of a file are found in the file's own order, those from the
+/// root by the index of the version.
+#[derive(Drop)]
+pub struct ViewSource<'a> {
+    view: &'a View,
+    index: &'a RootIndex,
+}
+
+impl<'a> Model for ViewSource<'a> {
+    ghost use Rattle.root_index.specs.Roots.{IsIndexOfView};
+    ghost use Rattle.nav_answers.specs.Sources.{Seen, seen_of};
+
+    ghost Value = { Seen };
+
+    ghost view = { λ s. seen_of s.view.now s.index.now };
+
+    ghost invariant = { λ s. IsIndexOfView s.index.now s.view.now };
+}
+
+impl<'a> ViewSource<'a> {
+    ghost use Rattle.std.specs.Prelude.{◌≡◌};
+    ghost use Rattle.root_index.specs.Roots.{IsIndexOfView};
+    ghost use Rattle.nav_answers.specs.Sources.{seen_of};
+
+    /// What is seen, with the index of its version.
+    pub fn of(view: &'a View, index: &'a RootIndex) -> ViewSource<'a>
+        requires { IsIndexOfView index.now view.now }
+        ensures { result ≡ seen_of view.now index.now }
+    {
+        ViewSource { view, index }
+    }
+}
+
+impl<'a> PathSource for ViewSource<'a> {
+    ghost use Rattle.partial_path.specs.Sources.{rules_from};
+    ghost use Rattle.root_index.specs.Offers.{files_of};
+    ghost use Rattle.nav_answers.specs.Sources.{offers_left};
+
+    ghost files = { λ s. files_of s.rows };
+
+    ghost listed = { λ s start first. rules_from (files_of s.rows) start first };
+
+    fn path_from(
+        &self,
+        start: &Start,
+        first: Option<&Symbol>,
+        k: usize,
+    ) -> Option<(u32, &PartialPath)> {
+        are_sources(self.view);
+        path_at(self.view, self.index, *start, first, k)
+    }
+
+    type Offers = ViewOffers;
+
+    ghost offered = { λ s symbols at. offers_left s symbols at };
+
+    fn offers(&self, start: &Start, symbols: &SymbolStack) -> ViewOffers {
+        are_sources(self.view);
+        offers_from(self.view, self.index, *start, symbols)
+    }
+
+    fn next_offer(
+        &self,
+        symbols: &SymbolStack,
+        at: ViewOffers,
+    ) -> Option<(u32, &PartialPath, ViewOffers)> {
+        match at {
+            ViewOffers::Inside(at) => match next_inside(self.view, symbols, at) {
+                Some((file, path, after)) => Some((file, path, ViewOffers::Inside(after))),
+                None => None,
+            },
+            ViewOffers::Roots(at) => match self.index.next_offer(self.view, symbols, at) {
+                Some((file, path, after)) => Some((file, path, ViewOffers::Roots(after))),
+                None => None,
+            },
+        }
+    }
+
+    fn is_reference(&self, at: &NodeAt) -> bool {
+        match file_in(self.view, at.file as usize) {
+            Some(file) => file.is_reference(at.node),
+            None => false,
+        }
+    }
+
+    fn is_cut(&self, at: &NodeAt) -> bool {
+        match file_in(self.view, at.file as usize) {
+            Some(file) => file.is_cut(at.node),
+            None => false,
+        }
+    }
+
+    fn is_definition(&self, at: &NodeAt) -> bool {
+        match file_in(self.view, at.file as usize) {
+            Some(file) => file.is_definition(at.node),
+            None => false,
+        }
+    }
+}
+
+/// The paths of the file with that number; None where there is none.
+pub fn file_in(view: &View, file: usize) -> Option<&FilePaths>
+    ensures value { option_copied result ≡ slice_get (files_of view.now) file }
+    ensures small { IfSome result (λ _. file < 2 ^ 32) }
+{
+    if file < view.row_count() as usize {
+        Some(view.paths(file as u32).get())
+    } else {
+        None
+    }
+}
+
+/// Tells that each file that is seen is a checked graph with its path set, which the view says.
+pub fn are_sources(view: &View)
+    ensures { All IsSourceFile (files_of view.now) }
+{
+    view.row_count();
+}
+
+/// The path at place `k` of those that begin at the start and can be met with that symbol in front.
+fn path_at<'a>(
+    view: &'a View,
+    index: &RootIndex,
+    start: Start,
+    first: Option<&Symbol>,
+    k: usize,
+) -> Option<(u32, &'a PartialPath)>
+    requires { IsIndexOfView index.now view.now }
+    ensures { option_map (λ found. (found.0, found.1.now)) result ≡ slice_get (rules_from (files_of view.now) start (option_copied first.entry)) k }
+{
+    match start {
+        Start::Before(node) => path_inside(view, start, node, first, k),
+        Start::After(Spot::At(node)) => path_inside(view, start, node, first, k),
+        Start::After(Spot::Root) => path_of_root(view, index, first, k),
+    }
+}
+
+/// The same at a start that is in the file of this node.
+fn path_inside<'a>(
+    view: &'a View,
+    start: Start,
+    node: NodeAt,
+    first: Option<&Symbol>,
+    k: usize,
+) -> Option<(u32, &'a PartialPath)>
+    requires alone { is_shared start ≡ false }
+    requires file { node.file ≡ file_of start }
+    ensures { option_map (λ found. (found.0, found.1.now)) result ≡ slice_get (rules_from (files_of view.now) start (option_copied first.entry)) k }
+{
+    are_sources(view);
+    let file = file_in(view, node.file as usize)?;
+    let path = asked(file.paths_from(inside(start)), first, k)?;
+    Some((node.file, path))
+}
+
+/// The path at place `k` of those that can be met with that symbol in front.
+fn asked<'a>(run: &'a [PartialPath], first: Option<&Symbol>, k: usize) -> Option<&'a PartialPath>
+    ensures { option_copied result ≡ slice_get (filter (asks_rule (option_copied first.entry)) run.now) k }
+{
+    let mut left = k;
+    for path in run {
+        if !asks(path, first) {
+            continue;
+        }
+        if left == 0 {
+            return Some(path);
+        }
+        left -= 1;
+    }
+    None
+}
+
+/// The same at the root, which all files share.
+fn path_of_root<'a>(
+    view: &'a View,
+    index: &RootIndex,
+    first: Option<&Symbol>,
+    k: usize,
+) -> Option<(u32, &'a PartialPath)>
+    requires { IsIndexOfView index.now view.now }
+    ensures { option_map (λ found. (found.0, found.1.now)) result ≡ slice_get (rules_from (files_of view.now) root (option_copied first.entry)) k }
+{
+    let mut left = k;
+    let mut at = index.look(first, view);
+    while let Some(found) = index.next_path(first, view, at) {
+        if left == 0 {
+            return Some((found.0, found.1));
+        }
+        left -= 1;
+        at = found.2;
+    }
+    None
+}
+
+/// Before the first path that is offered at the start.
+fn offers_from(view: &View, index: &RootIndex, start: Start, symbols: &SymbolStack) -> ViewOffers
+    requires { IsIndexOfView index.now view.now }
+    ensures { IsPermutation (rules_offered (files_of view.now) start symbols.now) (offers_left (seen_of view.now index.now) symbols.now result) }
+{
+    match start {
+        Start::Before(node) => ViewOffers::Inside(offers_inside(view, start, node, symbols)),
+        Start::After(Spot::At(node)) => {
+            ViewOffers::Inside(offers_inside(view, start, node, symbols))
+        }
+        Start::After(Spot::Root) => ViewOffers::Roots(index.offers(view, symbols)),
+    }
+}
+
+/// The same at a start that is in the file of this node.
+fn offers_inside(view: &View, start: Start, node: NodeAt, _symbols: &SymbolStack) -> ListOffers
+    requires alone { is_shared start ≡ false }
+    requires file { node.file ≡ file_of start }
+    ensures { offers_here (files_of view.now) _symbols.now result ≡ rules_offered (files_of view.now) start _symbols.now }
+{
+    are_sources(view);
+    ListOffers {
+        file: node.file as usize,
+        inside: FileOffers::at(inside(start)),
+    }
+}
+
+/// The start by the numbers of its own file.
+fn inside(start: Start) -> Start
+    ensures { result ≡ start_inside start }
+{
+    match start {
+        Start::Before(node) => Start::Before(in_file_0(node)),
+        Start::After(Spot::At(node)) => Start::After(Spot::At(in_file_0(node))),
+        Start::After(Spot::Root) => Start::After(Spot::Root),
+    }
+}
+
+/// The node at the same position of file 0.
+fn in_file_0(node: NodeAt) -> NodeAt
+    ensures { result ≡ node_at 0 node.node }
+{
+    NodeAt {
+        file: 0,
+        node: node.node,
+    }
+}
+
+/// The path that comes next in a look-up in one file, with the file's number, and where the look-up stands after it.
+fn next_inside<'a>(
+    view: &'a View,
+    symbols: &SymbolStack,
+    at: ListOffers,
+) -> Option<(u32, &'a PartialPath, ListOffers)>
+    ensures { MatchOption result (offers_here (files_of view.now) symbols.now at ≡ []) (λ found. offers_here (files_of view.now) symbols.now at ≡ (found.0, found.1.now) ∷ offers_here (files_of view.now) symbols.now found.2) }
+{
+    let file = file_in(view, at.file)?;
+    match file.next_offer(symbols, at.inside) {
+        Some((path, inside)) => {
+            let after = ListOffers {
+                file: at.file,
+                inside,
+            };
+            Some((at.file as u32, path, after))
+        }
+        None => None,
+    }
+}
