@@ -3,8 +3,10 @@
 
 mod board;
 mod fault;
+mod laws;
 mod plain;
 
 pub use board::{Commits, Pinned, Pins};
 pub use fault::CommitFault;
+pub use laws::seats_keep_their_entries;
 pub use plain::PlainBoard;

@@ -1,0 +1,5 @@
+use Rattle.version_board.proofs.Machines.{core_law}
+use Rattle.version_board.proofs.laws.seats_keep_their_entries.Goals as goal
+
+pub returns : goal.returns
+returns c = core_law
