@@ -6,6 +6,8 @@ mod paths;
 #[cfg(test)]
 mod python;
 #[cfg(test)]
+mod queries;
+#[cfg(test)]
 mod roots;
 #[cfg(test)]
 mod stitched;

@@ -25,7 +25,7 @@ fn paths_on<L: Ledger>(
 }
 
 /// All paths of a graph.
-fn paths_in(alloc: Global, graph: FileGraph) -> Result<FilePaths, PathsFault> {
+pub fn paths_in(alloc: Global, graph: FileGraph) -> Result<FilePaths, PathsFault> {
     paths_on::<Brand>(alloc, graph, Blank::new(1))
 }
 

@@ -7,17 +7,17 @@ use std::alloc::Global;
 use std::test::Fail;
 use whole_search::{Hit, is_reference, search};
 
-const MEMBER_OF_AN_ARGUMENT: [(&str, &str); 1] = [(
+pub const MEMBER_OF_AN_ARGUMENT: [(&str, &str); 1] = [(
     "lib.py",
     "class C:\n    m = 1\ndef f(p):\n    return p\nf(C).m\n",
 )];
 
-const IMPORTS_IN_A_CIRCLE: [(&str, &str); 2] = [
+pub const IMPORTS_IN_A_CIRCLE: [(&str, &str); 2] = [
     ("a.py", "from b import *\nx\n"),
     ("b.py", "from a import *\nx = 1\n"),
 ];
 
-const PACKAGE: [(&str, &str); 3] = [
+pub const PACKAGE: [(&str, &str); 3] = [
     (
         "main.py",
         "from pkg.tools import Box as B\nb = B()\nb.size()\n",
@@ -29,7 +29,7 @@ const PACKAGE: [(&str, &str); 3] = [
     ),
 ];
 
-const ATTRIBUTE_OF_SELF: [(&str, &str); 1] = [(
+pub const ATTRIBUTE_OF_SELF: [(&str, &str); 1] = [(
     "acct.py",
     "class A:\n    def put(self, v):\n        self.v = v\n    def get(self):\n        return self.v\n",
 )];
@@ -69,7 +69,7 @@ fn node_at(graph: &FileGraph, definition: bool, line: u32, column: u32) -> Optio
 }
 
 /// The rows of a reference in file order, and whether a run was left out. No rows for another node.
-fn definitions(
+pub fn definitions(
     alloc: Global,
     graphs: &[FileGraph],
     file: u32,
@@ -108,7 +108,7 @@ fn push_references(
 
 /// The references that have this definition among their rows, in file order; and whether a run of any
 /// reference was left out.
-fn references(
+pub fn references(
     alloc: Global,
     graphs: &[FileGraph],
     definition: Hit,

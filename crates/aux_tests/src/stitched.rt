@@ -129,7 +129,7 @@ fn stitched(
 }
 
 /// The bounds that a text such as `129 edges 48 symbols` says.
-fn bounds_of(text: &str) -> Bounds {
+pub fn bounds_of(text: &str) -> Bounds {
     let (edges, rest) = text.split_once(" edges ").unwrap_or((text, ""));
     let (depth, _) = rest.split_once(" symbols").unwrap_or((rest, ""));
     Bounds {
@@ -151,7 +151,7 @@ fn row_answer(alloc: Global, row: &str) -> Result<String, Fail> {
 
 /// Whether the line is a row whose paths can be stored: a file with a chain of 16,383 edges or a ladder of 40 rungs
 /// is too heavy.
-fn is_stored(row: &str) -> bool {
+pub fn is_stored(row: &str) -> bool {
     !row.starts_with('#') && !row.contains("*16") && !row.contains("*40")
 }
 
@@ -169,7 +169,7 @@ fn worked_rows_are_stitched(rt: HostRuntime) -> Result<(), Fail> {
 
 /// Graphs of several files: by way of the root and of each other's scopes, with jumps between files, references that
 /// are cut nodes, rounds through the root, and a name that many files define.
-const FILES: &str = r"push x R; push a | 0>1, 1>root & pop a; pop x D | root>0, 0>1
+pub const FILES: &str = r"push x R; push a | 0>1, 1>root & pop a; pop x D | root>0, 0>1
 push x R; push a | 0>1, 1>root & pop a; push b | root>0, 0>1, 1>root & pop b; pop x D | root>0, 0>1
 push x R; push a | 0>1, 1>root & pop a; push a | root>0, 0>1, 1>root & pop a; pop x D | root>0, 0>1
 push x R; scope E | 0>1, 1>root & pop x D; push x R | root>0, 1>root & pop x D; pop x D | root>0/1, root>1

@@ -5,3 +5,5 @@ pub mod Kept
 pub mod Exact
 pub mod OneReply
 pub mod Told
+pub mod Asked
+pub mod Referred

@@ -88,3 +88,6 @@ sources_of rows h = All-from_recursion IsSourceFile (files_of rows) (each rows h
     each : (rows : List FileRow) → AllByRecursion (λ (row : FileRow). IsSourceFile row.file) rows → AllByRecursion IsSourceFile (files_of rows)
     each [] h = tt
     each (row ∷ rows) h = (h.0, each rows h.1)
+
+pub seen_there : (view : List FileRow) (n : ℕ) (f : FileRules) → file_at view n ≡ Some f → slice_get (graphs_seen view) n ≡ Some f.graph
+seen_there view n f e = graph_there (files_of view) n ∙ ap (option_map (λ (f : FileRules). f.graph)) (sym (file_there view n) ∙ e)

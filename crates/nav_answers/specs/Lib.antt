@@ -4,3 +4,4 @@ pub mod Laws
 pub mod Kinds
 pub mod Sources
 pub mod Kept
+pub mod Asking

@@ -2,10 +2,13 @@
 //! referred to.
 #![tactic(auto)]
 
+mod asking;
 mod defining;
 mod found;
 mod laws;
+mod listing;
 mod meaning;
+mod referring;
 mod rows;
 mod source;
 
@@ -13,4 +16,5 @@ pub use defining::define;
 pub use found::{AskFault, At};
 pub use laws::queries_have_one_reply;
 pub use meaning::definition_at;
+pub use referring::references;
 pub use version_tree::{Answer, Row};
