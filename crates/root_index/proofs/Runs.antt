@@ -1,5 +1,5 @@
 -- The paths that a look-up in an index meets: run by run, in the order of their keys.
-use Rattle.std.proofs.Common.{◌≡◌, refl, sym, ◌∙◌, ap, ℕ, ◌+◌, ◌-◌, ◌<◌, ◌≤◌, List, [], ◌∷◌, ◌++◌, length, take, drop, get_or, Bool, true, false, Some, None, arith, min, slice_get, inl, inr}
+use Rattle.std.proofs.Common.{◌≡◌, refl, sym, ◌∙◌, ap, ℕ, ◌+◌, ◌-◌, ◌<◌, ◌≤◌, List, [], ◌∷◌, ◌++◌, length, take, drop, get_or, Bool, true, false, Some, arith, min, slice_get, inl, inr}
 use Rattle.std.specs.Prelude.{filter, ◌&&◌, ◌||◌, nat_le, nat_eq}
 use Rattle.std.specs.Ordering.{ordering_index}
 use Rattle.std.specs.declared.cmp.Ordering.TheVariants.{Greater}
@@ -13,7 +13,7 @@ use Rattle.root_index.specs.Roots.{RootPath, root_key, AreByRank}
 use Rattle.root_index.specs.Inside.{key_order, is_at_key}
 use Rattle.root_index.specs.Offers.{asks, next_paths, paths_left, offers_at}
 use Rattle.partial_path.proofs.Halved.{side, at_is, filter_none}
-use Rattle.partial_path.proofs.Standing.{first_of, second_of, stands_is, stands_behind, stands_short, split_kept, next_taken, first_taken, no_first}
+use Rattle.partial_path.proofs.Standing.{first_of, second_of, stands_is, stands_behind, stands_short, split_kept, next_taken, first_taken}
 use Rattle.root_index.proofs.KeyOrders.{keys_rise, root_key_short}
 
 -- a path asks for exactly n symbols or for more
@@ -59,22 +59,18 @@ run_passed paths symbols n place end sorted h run none =
     next_run_is paths symbols n sorted h ∙ ap (λ ps. ps ++ filter (asks symbols (n + 1)) paths) (sym run ∙ ap (λ k. take k (drop place paths)) zero_left)
 
 -- else its first path comes next
-pub run_begun : (paths : List RootPath) (symbols : List SymbolItem) (n place end : ℕ) (p : RootPath) → AreByRank paths → n ≤ length symbols
+pub run_begun : (paths : List RootPath) (symbols : List SymbolItem) (n place end near : ℕ) (p : RootPath) → AreByRank paths → n ≤ length symbols
     → take (end - place) (drop place paths) ≡ filter (is_at_key (take n (texts symbols))) paths → place < end → end ≤ length paths → p ≡ get_or paths place p
-    → filter (asks symbols n) paths ≡ p ∷ paths_left (offers_at (place + 1) end (n + 1)) symbols paths
-run_begun paths symbols n place end p sorted h run some inside is =
+    → filter (asks symbols n) paths ≡ p ∷ paths_left (offers_at (place + 1) end (n + 1) near) symbols paths
+run_begun paths symbols n place end near p sorted h run some inside is =
     next_run_is paths symbols n sorted h
     ∙ ap (λ ps. ps ++ filter (asks symbols (n + 1)) paths) (sym run ∙ next_taken paths place end p some (omega (arith, some, inside)))
-    ∙ ap (λ q. q ∷ paths_left (offers_at (place + 1) end (n + 1)) symbols paths) (sym is)
+    ∙ ap (λ q. q ∷ paths_left (offers_at (place + 1) end (n + 1) near) symbols paths) (sym is)
 
 -- what comes next in the present run
-pub next_is_here : (paths : List RootPath) (at : RootOffers) (symbols : List SymbolItem) (p : RootPath) → Some p ≡ slice_get (next_paths at paths) 0 → at.place < at.end
-    → paths_left at symbols paths ≡ p ∷ paths_left (offers_at (at.place + 1) at.end at.asked) symbols paths
-next_is_here paths at symbols p e h =
-    let found = first_taken paths at.place (at.end - at.place) p (sym e) in
+pub next_is_here : (paths : List RootPath) (at : RootOffers) (symbols : List SymbolItem) (near : ℕ) (p : RootPath) → slice_get (next_paths at paths) 0 ≡ Some p → at.place < at.end
+    → paths_left at symbols paths ≡ p ∷ paths_left (offers_at (at.place + 1) at.end at.asked near) symbols paths
+next_is_here paths at symbols near p e h =
+    let found = first_taken paths at.place (at.end - at.place) p e in
     ap (λ ps. ps ++ filter (asks symbols at.asked) paths) (next_taken paths at.place at.end p h found.0)
-    ∙ ap (λ q. q ∷ paths_left (offers_at (at.place + 1) at.end at.asked) symbols paths) found.1
-
-pub none_here : (paths : List RootPath) (at : RootOffers) (symbols : List SymbolItem) → None ≡ slice_get (next_paths at paths) 0
-    → paths_left at symbols paths ≡ filter (asks symbols at.asked) paths
-none_here paths at symbols e = ap (λ ps. ps ++ filter (asks symbols at.asked) paths) (no_first (next_paths at paths) (sym e))
+    ∙ ap (λ q. q ∷ paths_left (offers_at (at.place + 1) at.end at.asked near) symbols paths) found.1

@@ -1,9 +1,9 @@
 -- The block in which the path at a place stands, by the places at which the blocks begin.
-use Rattle.std.proofs.Common.{◌≡◌, sym, ◌∙◌, ap, ℕ, ◌+◌, ◌-◌, ◌<◌, ◌≤◌, List, [], ◌∷◌, ◌++◌, length, take, drop, get_or, true, false, Some, arith, slice_get, append-nil, inl, inr}
-use Rattle.std.specs.Prelude.{nat_le}
+use Rattle.std.proofs.Common.{◌≡◌, sym, ◌∙◌, ap, ℕ, ◌+◌, ◌-◌, ◌<◌, ◌≤◌, Bool, List, [], ◌∷◌, ◌++◌, length, take, drop, get_or, true, false, Some, arith, slice_get, append-nil, inl, inr}
+use Rattle.std.specs.Prelude.{nat_le, nat_lt}
 use Rattle.std.specs.List.{prefix_len}
 use Rattle.std.specs.List.Sorted.{IsPartitionedBy}
-use Rattle.std.proofs.lemmas.Bool.{cases_lt}
+use Rattle.std.proofs.lemmas.Bool.{cases_lt, false_from_ne_true, true≢false}
 use Rattle.std.proofs.lemmas.Bool.Decides.{nat_tests}
 use Rattle.std.proofs.lemmas.List.{length-append, get_or_append_left, get_or-append-add, take_more, drop_all}
 use Rattle.std.proofs.lemmas.List.Concat.{flat_map-append}
@@ -21,6 +21,26 @@ to_le a b e = grind (arith, nat_tests, e)
 
 not_le : (a b : ℕ) → nat_le a b ≡ false → b < a
 not_le a b e = grind (arith, nat_tests, e)
+
+to_lt : (a b : ℕ) → a < b → nat_lt a b ≡ true
+to_lt a b h = grind (arith, nat_tests, h)
+
+not_lt : (a b : ℕ) → b ≤ a → nat_lt a b ≡ false
+not_lt a b h = grind (arith, nat_tests, h)
+
+-- whether there is a block that has begun, by how many have
+module _ (p : ℕ → Bool) (starts : List ℕ) where
+  pub past_all : (k : ℕ) → length starts ≤ k → nat_lt k (length starts) ≡ nat_lt k (prefix_len p starts)
+  past_all k h = let fits = prefix_len-le-length p starts in not_lt k (length starts) h ∙ sym (not_lt k (prefix_len p starts) (omega (arith, h, fits)))
+
+  pub begun_is : (k d : ℕ) → IsPartitionedBy p starts → k < length starts → p (get_or starts k d) ≡ nat_lt k (prefix_len p starts)
+  begun_is k d parted h = elim (cases_lt k (prefix_len p starts)) [
+    | inl below ↦ prefix_len_passes p starts k d below ∙ sym (to_lt k (prefix_len p starts) below)
+    | inr above ↦
+        false_from_ne_true (p (get_or starts k d))
+        (λ passes. true≢false (sym (parted (prefix_len p starts) k d above h passes) ∙ prefix_len_stops p starts d (omega (arith, above, h))))
+        ∙ sym (not_lt k (prefix_len p starts) above)
+  ]
 
 pub starts_parted : (starts : List ℕ) (blocks : List (List RootPath)) (place : ℕ) → AreStarts starts blocks → IsPartitionedBy (begins_by place) starts
 starts_parted starts blocks place are i j d le h e =

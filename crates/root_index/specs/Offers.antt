@@ -51,5 +51,5 @@ abbrev pub roots_offered : List FileRow → List SymbolItem → List (ℕ × Rul
 roots_offered view symbols = rules_offered (files_of view) root symbols
 
 -- a look-up that stands at that place
-abbrev pub offers_at : ℕ → ℕ → ℕ → RootOffers
-offers_at place end asked = record { place = place; end = end; asked = asked }
+abbrev pub offers_at : ℕ → ℕ → ℕ → ℕ → RootOffers
+offers_at place end asked near = record { place = place; end = end; asked = asked; near = near }

@@ -103,7 +103,9 @@ impl RootIndex {
     }
 
     /// A look at the paths from the root that the user may see and whose precondition asks for no symbol, or
-    /// for this one first; without one, at those alone that ask for none: before its first path.
+    /// for this one first; without one, at those alone that ask for none: before its first path. It is for
+    /// laws and tests. The index has its paths by key, and can't give them by file without memory or going
+    /// over all of a symbol's paths anew for each; so the look goes over the files of the view.
     pub fn look(&self, _symbol: Option<&Symbol>, view: &View) -> RootLook
         requires { IsIndexOfView self.now view.now }
         ensures { look_left (files_of view.now) (option_copied _symbol.entry) result ≡ roots_looked view.now (option_copied _symbol.entry) }
@@ -139,13 +141,14 @@ impl RootIndex {
             place: 0,
             end: 0,
             asked: 0,
+            near: 0,
         }
     }
 
     /// The path that comes next in the look-up, with its file's number in the view, and where the look-up
-    /// stands after it; None where no more is offered. It takes no memory. A path whose file isn't seen is
-    /// passed over, by halving over the view; within a run of equal keys a step halves over the blocks else,
-    /// and each of at most seven runs is found by halving.
+    /// stands after it; None where no more is offered. It takes no memory. The index is halved for each of at
+    /// most seven runs of equal keys; within a run a step takes constant time, and that of halving over the
+    /// view for the file's number. A path whose file isn't seen is passed over.
     pub fn next_offer(
         &self,
         view: &View,

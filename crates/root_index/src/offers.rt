@@ -1,5 +1,5 @@
 //! Taking from an index what it offers to a stack of symbols, path by path.
-ghost use Rattle.std.specs.Prelude.{◌≡◌, ◌≤◌, ◌<◌, ◌+◌, ◌-◌, [], ◌∷◌, length, take, drop, filter, slice_get, option_copied, MatchOption, IfSome};
+ghost use Rattle.std.specs.Prelude.{◌≡◌, ◌≤◌, ◌<◌, ◌+◌, ◌-◌, [], ◌∷◌, length, take, drop, filter, slice_get, None, Some, MatchOption, IfSome};
 ghost use Rattle.std.specs.List.{prefix_len};
 ghost use Rattle.std.specs.List.Sorted.{IsPartitionedBy};
 ghost use Rattle.std.specs.Ordering.{nat_cmp, is_lt, is_eq};
@@ -21,6 +21,8 @@ pub struct RootOffers {
     pub end: usize,
     /// Behind that run come the paths that ask for so many symbols or more.
     pub asked: usize,
+    /// The block of the last path, in which and behind which the next one is looked for first.
+    pub near: usize,
 }
 
 /// The path that comes next, whoever may see it, and where the look-up stands after it; None where there is
@@ -34,11 +36,12 @@ pub(crate) fn next_slot<'a>(
     ensures { MatchOption result (paths_left at symbols.now slots.now ≡ []) (λ found. paths_left at symbols.now slots.now ≡ found.0.now ∷ paths_left found.1 symbols.now slots.now) }
 {
     match next_here(slots, at) {
-        Some(slot) => {
+        Some((slot, near)) => {
             let after = RootOffers {
                 place: at.place + 1,
                 end: at.end,
                 asked: at.asked,
+                near,
             };
             Some((slot, after))
         }
@@ -46,13 +49,13 @@ pub(crate) fn next_slot<'a>(
     }
 }
 
-/// The next path of the present run; None where that is at its end.
-fn next_here(slots: &SlotList, at: RootOffers) -> Option<&Slot>
-    ensures value { option_copied result ≡ slice_get (next_paths at slots.now) 0 }
+/// The next path of the present run, and its block; None where that run is at its end.
+fn next_here(slots: &SlotList, at: RootOffers) -> Option<(&Slot, usize)>
+    ensures value { MatchOption result (slice_get (next_paths at slots.now) 0 ≡ None) (λ found. slice_get (next_paths at slots.now) 0 ≡ Some found.0.now) }
     ensures inside { IfSome result (λ _. at.place < at.end) }
 {
     if at.place < at.end {
-        slots.get(at.place)
+        slots.get(at.place, at.near)
     } else {
         None
     }
@@ -71,12 +74,14 @@ fn next_run<'a>(
     for asked in at.asked..most + 1 {
         let (place, end) = run_asking(slots, symbols, asked);
         if place < end {
+            let (slot, near) = slots.at(place, at.near);
             let after = RootOffers {
                 place: place + 1,
                 end,
                 asked: asked + 1,
+                near,
             };
-            return Some((slots.at(place), after));
+            return Some((slot, after));
         }
     }
     None

@@ -1,4 +1,4 @@
-ghost use Rattle.std.specs.Prelude.{◌≡◌, ◌≤◌, length, take};
+ghost use Rattle.std.specs.Prelude.{◌≡◌, ◌<◌, ◌≤◌, nat_lt, true, length, take};
 ghost use Rattle.std.specs.List.{prefix_len};
 ghost use Rattle.std.specs.List.Sorted.{IsPartitionedBy};
 ghost use Rattle.partial_path.specs.Keys.{key_size, texts};
@@ -34,7 +34,7 @@ impl Model for SlotList {
 }
 
 impl SlotList {
-    ghost use Rattle.std.specs.Prelude.{◌≡◌, ◌<◌, ◌≤◌, [], length, take, slice_get, Some, IfOk, option_copied};
+    ghost use Rattle.std.specs.Prelude.{◌≡◌, ◌<◌, ◌≤◌, [], length, take, slice_get, None, Some, IfOk, MatchOption};
     ghost use Rattle.std.specs.List.{prefix_len};
     ghost use Rattle.std.specs.List.Sorted.{IsPartitionedBy};
     ghost use Rattle.partial_path.specs.Keys.{key_size, texts};
@@ -70,25 +70,27 @@ impl SlotList {
         &self.blocks
     }
 
-    /// The path at that place; None past the last. It takes time that follows the logarithm of the number of
-    /// blocks.
-    pub(crate) fn get(&self, place: usize) -> Option<&Slot>
-        ensures { option_copied result ≡ slice_get self.now place }
+    /// The path at that place, and the number of its block; None past the last. It takes constant time where
+    /// that is the block told or the next one, else time that follows the logarithm of the number of blocks.
+    pub(crate) fn get(&self, place: usize, near: usize) -> Option<(&Slot, usize)>
+        ensures { MatchOption result (slice_get self.now place ≡ None) (λ found. slice_get self.now place ≡ Some found.0.now) }
     {
         if place < self.count {
-            Some(self.at(place))
+            Some(self.at(place, near))
         } else {
             None
         }
     }
 
-    /// The path at that place. It takes time that follows the logarithm of the number of blocks.
-    pub(crate) fn at(&self, place: usize) -> &Slot
+    /// The path at that place, and the number of its block. It takes constant time where that is the block
+    /// told or the next one, else time that follows the logarithm of the number of blocks.
+    pub(crate) fn at(&self, place: usize, near: usize) -> (&Slot, usize)
         requires { place < length self.now }
-        ensures { slice_get self.now place ≡ Some result.now }
+        ensures { slice_get self.now place ≡ Some result.0.now }
     {
-        let block = blocks_begun(self.starts.as_slice(), place) - 1;
-        &self.blocks.blocks()[block].slots()[place - self.starts[block]]
+        let block = blocks_near(self.starts.as_slice(), place, near) - 1;
+        let slot = &self.blocks.blocks()[block].slots()[place - self.starts[block]];
+        (slot, block)
     }
 
     /// How many paths stand before the key that the texts of the stack's first symbols make, so many of
@@ -107,6 +109,34 @@ impl SlotList {
         let block = found - 1;
         self.starts[block] + paths_within(blocks[block].slots(), symbols, count, closed)
     }
+}
+
+/// How many blocks begin no later than at the place: in constant time where the block told, or the next one,
+/// is the last of them, else by halving.
+fn blocks_near(starts: &[usize], place: usize, near: usize) -> usize
+    requires { IsPartitionedBy (begins_by place) starts.now }
+    ensures value { result ≡ prefix_len (begins_by place) starts.now }
+    ensures bound { result ≤ length starts.now }
+{
+    if !has_begun(starts, place, near) {
+        return blocks_begun(starts, place);
+    }
+    if !has_begun(starts, place, near + 1) {
+        return near + 1;
+    }
+    if !has_begun(starts, place, near + 2) {
+        return near + 2;
+    }
+    blocks_begun(starts, place)
+}
+
+/// Whether there is that block, and it begins no later than at the place.
+fn has_begun(starts: &[usize], place: usize, block: usize) -> bool
+    requires { IsPartitionedBy (begins_by place) starts.now }
+    ensures begun { result ≡ nat_lt block (prefix_len (begins_by place) starts.now) }
+    ensures there { result ≡ true → block < length starts.now }
+{
+    block < starts.len() && starts[block] <= place
 }
 
 /// How many blocks begin no later than at the place, by halving over the places at which they begin.

@@ -8,9 +8,9 @@ pub returns-then-place-end : goal.returns-then-place-end
 returns-then-place-end c =
     let few : c.loop-asked.asked ≤ length c.args.symbols.now = omega (arith, c.loop-asked-test.true, c.min-most.ensures, c.len.ensures) in
     c.loop-asked.invariant
-    ∙ run_begun c.args.slots.now c.args.symbols.now c.loop-asked.asked c.run_asking-place.result.0 c.run_asking-place.result.1 c.at.result.now
+    ∙ run_begun c.args.slots.now c.args.symbols.now c.loop-asked.asked c.run_asking-place.result.0 c.run_asking-place.result.1 c.at-near.result.1 c.at-near.result.0.now
     c.requires few c.run_asking-place.ensures.run c.if-place-end.true c.run_asking-place.ensures.bound
-    (sym (get_or_from_slice_get c.args.slots.now c.run_asking-place.result.0 c.at.result.now c.at.result.now c.at.ensures))
+    (sym (get_or_from_slice_get c.args.slots.now c.run_asking-place.result.0 c.at-near.result.0.now c.at-near.result.0.now c.at-near.ensures))
 
 -- it has none
 pub loop-asked-preserved : goal.loop-asked-preserved
