@@ -13,23 +13,37 @@ use crate::board::{Commits, Pinned, Pins};
 use crate::fault::CommitFault;
 use root_index::{RootIndex, rows_have_one_index};
 use std::alloc::{AllocError, Global};
+use std::marker::Model;
 use std::sync::Arc;
 use version_tree::{Edit, EditFault, EditList, Entry, Version};
 
-/// The board of one seat, whose name is 0. It sees all of its log, and pins the newest version.
+/// The board of one seat, whose name is 0. It sees all of its log, and pins the newest version. A contract sees its log.
 #[derive(Drop)]
 pub struct PlainBoard {
     log: Vec<Entry>,
     pinned: Pinned,
-    ghost version_is: { arc_value pinned.version ≡ version_of log.items },
-    ghost index_is: { arc_value pinned.index ≡ index_of (arc_value pinned.version).content.rows },
-    ghost all_own: { own 0 log.items ≡ log.items },
+}
+
+impl Model for PlainBoard {
+    ghost use Rattle.std.specs.Prelude.{◌≡◌, List};
+    ghost use Rattle.std.specs.Arc.{arc_value};
+    ghost use Rattle.version_tree.specs.declared.entry.Entry.{Entry};
+    ghost use Rattle.version_board.specs.Logs.{version_of, own};
+    ghost use Rattle.version_board.specs.Ranked.{index_of};
+
+    ghost Value = { List Entry };
+
+    ghost view = { λ b. b.log.items };
+
+    ghost invariant = { λ b. (arc_value b.pinned.version ≡ version_of b.log.items)
+        × (arc_value b.pinned.index ≡ index_of (arc_value b.pinned.version).content.rows)
+        × (own 0 b.log.items ≡ b.log.items) };
 }
 
 impl PlainBoard {
-    /// A board without entries. The one error is want of memory.
+    /// A board without entries, with the empty version pinned. The one error is want of memory.
     pub fn new(alloc: Global) -> Result<PlainBoard, AllocError>
-        ensures { IfOk result (λ b. b.log.items ≡ []) }
+        ensures { IfOk result (λ b. b ≡ []) }
     {
         let version = Arc::new(alloc, Version::empty(alloc, 0))?;
         let index = Arc::new(alloc, RootIndex::empty(alloc))?;
@@ -37,6 +51,15 @@ impl PlainBoard {
             log: Vec::new(alloc),
             pinned: Pinned { version, index },
         })
+    }
+
+    /// How many entries its log has; all are of its seat.
+    pub fn len(&self) -> u32
+        ensures count { result ≡ length self.now }
+        ensures all_own { own 0 self.now ≡ self.now }
+    {
+        let _ = &self.log;
+        self.pinned.version.number()
     }
 }
 
@@ -72,9 +95,9 @@ struct Prepared {
 impl PlainBoard {
     /// The version that the edits make of the head.
     fn amended(&self, alloc: Global, edits: &[Edit]) -> Result<Version, CommitFault>
-        ensures fit { IfOk result (λ _. refusal self.now.log.items edits.now ≡ None) }
-        ensures version { IfOk result (λ version. version ≡ record { number = length self.now.log.items + 1; content = edited_all edits.now (version_of self.now.log.items).content }) }
-        ensures refused { (e : Faults) → result ≡ Err (why.Edit e) → (refusal self.now.log.items edits.now ≡ Some e) × (e ≢ faults.NoMemory) }
+        ensures fit { IfOk result (λ _. refusal self.now edits.now ≡ None) }
+        ensures version { IfOk result (λ version. version ≡ record { number = length self.now + 1; content = edited_all edits.now (version_of self.now).content }) }
+        ensures refused { (e : Faults) → result ≡ Err (why.Edit e) → (refusal self.now edits.now ≡ Some e) × (e ≢ faults.NoMemory) }
         ensures stale { (n : ℕ) → result ≢ Err (why.Stale n) }
     {
         match self.pinned.version.amend(alloc, edits) {
@@ -90,13 +113,13 @@ impl PlainBoard {
         base: Option<u32>,
         edits: &[Edit],
     ) -> Result<Prepared, CommitFault>
-        ensures base { IfOk result (λ _. FitsHead base (length self.now.log.items)) }
-        ensures fit { IfOk result (λ _. refusal self.now.log.items edits.now ≡ None) }
+        ensures base { IfOk result (λ _. FitsHead base (length self.now)) }
+        ensures fit { IfOk result (λ _. refusal self.now edits.now ≡ None) }
         ensures edits { IfOk result (λ made. made.edits ≡ edits.now) }
-        ensures version { IfOk result (λ made. arc_value made.pinned.version ≡ record { number = length self.now.log.items + 1; content = edited_all edits.now (version_of self.now.log.items).content }) }
+        ensures version { IfOk result (λ made. arc_value made.pinned.version ≡ record { number = length self.now + 1; content = edited_all edits.now (version_of self.now).content }) }
         ensures index { IfOk result (λ made. arc_value made.pinned.index ≡ index_of (arc_value made.pinned.version).content.rows) }
-        ensures stale { (n : ℕ) → result ≡ Err (why.Stale n) → IsStale base (length self.now.log.items) n }
-        ensures refused { (e : Faults) → result ≡ Err (why.Edit e) → IsRefused base edits.now self.now.log.items e }
+        ensures stale { (n : ℕ) → result ≡ Err (why.Stale n) → IsStale base (length self.now) n }
+        ensures refused { (e : Faults) → result ≡ Err (why.Edit e) → IsRefused base edits.now self.now e }
     {
         rows_have_one_index();
         let head = self.pinned.version.number();
@@ -121,7 +144,7 @@ impl PlainBoard {
         next: &Version,
         edits: &[Edit],
     ) -> Result<RootIndex, AllocError>
-        requires { next.now.content ≡ edited_all edits.now (version_of self.now.log.items).content }
+        requires { next.now.content ≡ edited_all edits.now (version_of self.now).content }
         ensures { IfOk result (λ index. index ≡ index_of next.now.content.rows) }
     {
         rows_have_one_index();
@@ -133,14 +156,21 @@ impl PlainBoard {
 }
 
 impl PlainBoard {
-    /// Appends what was prepared.
+    /// Appends an entry with these edits and pins its version.
     #[tactic(auto, using(crate::proofs::Replayed::version_push, crate::proofs::Replayed::own_push))]
-    fn append(&mut self, made: Prepared)
-        requires room { vec_len self.old.log < vec_capacity self.old.log }
-        requires version { arc_value made.pinned.version ≡ record { number = length self.old.log.items + 1; content = edited_all made.edits (version_of self.old.log.items).content } }
-        requires index { arc_value made.pinned.index ≡ index_of (arc_value made.pinned.version).content.rows }
-        ensures { self.new.log.items ≡ self.old.log.items ++ entry 0 (length self.old.log.items) made.edits ∷ [] }
+    fn extended(
+        &mut self,
+        alloc: Global,
+        base: Option<u32>,
+        edits: &[Edit],
+    ) -> Result<(), CommitFault>
+        ensures ok { OnOk result (IsExtended 0 base edits.now self.old self.new) }
+        ensures stays { OnErr result (self.new ≡ self.old) }
+        ensures stale { (n : ℕ) → result ≡ Err (why.Stale n) → IsStale base (length self.old) n }
+        ensures refused { (e : Faults) → result ≡ Err (why.Edit e) → IsRefused base edits.now self.old e }
     {
+        let made = self.prepared(alloc, base, edits)?;
+        self.log.reserve(1)?;
         let serial = self.pinned.version.number();
         self.log.push_reserved(Entry {
             seat: 0,
@@ -148,33 +178,16 @@ impl PlainBoard {
             edits: made.edits,
         });
         self.pinned = made.pinned;
-    }
-
-    /// Appends an entry with these edits and pins its version.
-    fn extended(
-        &mut self,
-        alloc: Global,
-        base: Option<u32>,
-        edits: &[Edit],
-    ) -> Result<(), CommitFault>
-        ensures ok { OnOk result (IsExtended 0 base edits.now self.old.log.items self.new.log.items) }
-        ensures stays { OnErr result (self.new.log.items ≡ self.old.log.items) }
-        ensures stale { (n : ℕ) → result ≡ Err (why.Stale n) → IsStale base (length self.old.log.items) n }
-        ensures refused { (e : Faults) → result ≡ Err (why.Edit e) → IsRefused base edits.now self.old.log.items e }
-    {
-        let made = self.prepared(alloc, base, edits)?;
-        self.log.reserve(1)?;
-        self.append(made);
         Ok(())
     }
 }
 
 impl Pins for PlainBoard {
-    ghost log = { λ b. b.log.items };
+    ghost log = { λ b. b };
 
     ghost seat = { λ b. 0 };
 
-    ghost pin_at = { λ b. length b.log.items };
+    ghost pin_at = { λ b. length b };
 
     fn pin(&mut self) {}
 

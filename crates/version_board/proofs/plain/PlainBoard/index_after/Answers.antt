@@ -10,7 +10,7 @@ use Rattle.version_board.proofs.plain.PlainBoard.index_after.Goals as goal
 pub amended-requires-clause-index : goal.amended-requires-clause-index
 amended-requires-clause-index c =
     subst (λ (ps : List RootPath). IsIndexOf c.deref-2.result.now.content.rows ps)
-    (sym (c.deref.ensures ∙ (c.args.self.now.index_is ∙ ap (λ (v : Numbered). index_of v.content.rows) (sym c.deref-2.ensures))))
+    (sym (c.deref.ensures ∙ (c.self.invariant.1 ∙ ap (λ (v : Numbered). index_of v.content.rows) (sym c.deref-2.ensures))))
     (index_is c.deref-2.result.now.content.rows)
 
 pub returns : goal.returns

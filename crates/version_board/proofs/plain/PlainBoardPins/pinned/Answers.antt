@@ -6,5 +6,5 @@ use Rattle.version_board.proofs.plain.PlainBoardPins.pinned.Goals as goal
 
 pub returns-clause-index : goal.returns-clause-index
 returns-clause-index c =
-    subst (λ (ps : List RootPath). IsIndexOf (arc_value c.args.self.now.pinned.version).content.rows ps) (sym c.args.self.now.index_is)
-    (index_is (arc_value c.args.self.now.pinned.version).content.rows)
+    subst (λ (ps : List RootPath). IsIndexOf (arc_value c.self.inside.pinned.version).content.rows ps) (sym c.self.invariant.1)
+    (index_is (arc_value c.self.inside.pinned.version).content.rows)
