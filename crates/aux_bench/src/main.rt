@@ -10,16 +10,22 @@
 //! kept; `modules N` indexes N documents of the rest as modules of Python. They print how many files that gave.
 //! `stitch N` reads each line of the rest as a graph file, finds its paths, and asks node 0 of the first file N
 //! times by joining them; `search N` asks it N times by following the edges of the whole graph. They print how
-//! many runs, or rows, that gave.
+//! many runs, or rows, that gave. `commit N` makes a version of the graph files of the lines of the rest, behind a
+//! first line that it doesn't use, with its index of paths from the root, and then commits one file N times;
+//! `amend N` does so without the index. They print how many files there are then. `offers N` makes the same index,
+//! and asks it N times for each stack of the rest's first line, which are words of symbols with a dot between two:
+//! it prints how many paths it offers to all of them.
 #![tactic(auto)]
 
 mod graphs;
 mod modules;
 mod queries;
+mod roots;
 
 use graphs::{index, walk};
 use modules::{parsed, translated};
 use queries::{Asked, searched, stitched};
+use roots::{committed, offered};
 use std::io::{Read, Result as IoResult};
 use std::str;
 
@@ -41,6 +47,22 @@ fn print_indexed(rt: &HostRuntime, files: Option<usize>) -> IoResult<()> {
     match files {
         Some(files) => println!(rt; "files: {files}"),
         None => println!(rt; "not indexed"),
+    }
+}
+
+/// Prints how many files there are after the commits.
+fn print_committed(rt: &HostRuntime, files: Option<u32>) -> IoResult<()> {
+    match files {
+        Some(files) => println!(rt; "files: {files}"),
+        None => println!(rt; "not committed"),
+    }
+}
+
+/// Prints how many paths were offered.
+fn print_offered(rt: &HostRuntime, paths: Option<u32>) -> IoResult<()> {
+    match paths {
+        Some(paths) => println!(rt; "paths: {paths}"),
+        None => println!(rt; "not asked"),
     }
 }
 
@@ -96,6 +118,24 @@ fn run_case(rt: &HostRuntime, case: &[u8], text: &[u8]) -> IoResult<()> {
     if let Some(times) = times(case, "search ") {
         let asked = searched(alloc, text, times);
         return print_asked(rt, asked);
+    }
+    run_roots(rt, case, text)
+}
+
+/// Runs the case of an index of paths from the root on the text and prints what it gave.
+fn run_roots(rt: &HostRuntime, case: &[u8], text: &[u8]) -> IoResult<()> {
+    let alloc = rt.alloc();
+    if let Some(times) = times(case, "commit ") {
+        let files = committed(alloc, text, times, true);
+        return print_committed(rt, files);
+    }
+    if let Some(times) = times(case, "amend ") {
+        let files = committed(alloc, text, times, false);
+        return print_committed(rt, files);
+    }
+    if let Some(times) = times(case, "offers ") {
+        let paths = offered(alloc, text, times);
+        return print_offered(rt, paths);
     }
     println!(rt; "no such case")
 }
