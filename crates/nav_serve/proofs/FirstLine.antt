@@ -9,8 +9,8 @@ use Rattle.nav_io.specs.Reading.{Reading, ahead}
 use Rattle.nav_io.proofs.Cuts.{line_len-le}
 use Rattle.nav_proto.specs.declared.reply.Reply.{Reply}
 use Rattle.nav_serve.specs.declared.tasks.Task.TheVariants.{Once}
-use Rattle.nav_serve.specs.declared.halt.Halt.{Halt}
-use Rattle.nav_serve.specs.declared.halt.Halt.TheVariants.{SourceFailed, SinkFailed, NoMemory, LongLine}
+use Rattle.nav_session.specs.declared.halt.Halt.{Halt}
+use Rattle.nav_session.specs.declared.halt.Halt.TheVariants.{SourceFailed, SinkFailed, NoMemory, LongLine}
 use Rattle.nav_serve.specs.Files.{graph_line}
 use Rattle.nav_serve.specs.Once.{once_path, IsOnceReply, AnswersRest}
 use Rattle.nav_serve.specs.Reads.{ReadsLine, StopsAt}

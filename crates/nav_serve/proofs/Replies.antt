@@ -6,8 +6,8 @@ use Rattle.partial_path.specs.Step.{start}
 use Rattle.nav_io.specs.Reading.{Reading}
 use Rattle.nav_proto.specs.declared.reply.Reply.{Reply}
 use Rattle.nav_serve.specs.declared.tasks.Task.TheVariants.{Once}
-use Rattle.nav_serve.specs.declared.halt.Halt.{Halt}
-use Rattle.nav_serve.specs.declared.halt.Halt.TheVariants.{NoMemory}
+use Rattle.nav_session.specs.declared.halt.Halt.{Halt}
+use Rattle.nav_session.specs.declared.halt.Halt.TheVariants.{NoMemory}
 use Rattle.nav_serve.specs.declared.file.Refused.{Refused}
 use Rattle.nav_serve.specs.declared.file.Refused.TheVariants as refused
 use Rattle.nav_serve.specs.Files.{graph_line}

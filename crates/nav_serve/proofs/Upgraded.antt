@@ -9,8 +9,8 @@ use Rattle.nav_io.specs.Reading.{Reading}
 use Rattle.nav_proto.specs.declared.reply.Reply.{Reply}
 use Rattle.nav_proto.specs.Replies.{reply_text}
 use Rattle.nav_serve.specs.declared.tasks.Task.TheVariants.{Upgrade}
-use Rattle.nav_serve.specs.declared.halt.Halt.{Halt}
-use Rattle.nav_serve.specs.declared.halt.Halt.TheVariants.{SourceFailed, SinkFailed, NoMemory, LongLine}
+use Rattle.nav_session.specs.declared.halt.Halt.{Halt}
+use Rattle.nav_session.specs.declared.halt.Halt.TheVariants.{SourceFailed, SinkFailed, NoMemory, LongLine}
 use Rattle.nav_serve.specs.Files.{graph_line}
 use Rattle.nav_serve.specs.Upgrade.{upgrade_path, named_or_reply}
 use Rattle.nav_serve.specs.Reads.{ReadsLine, ReadsAs, StopsAt}
@@ -18,7 +18,8 @@ use Rattle.nav_serve.specs.declared.file.Refused.{Refused}
 use Rattle.nav_serve.specs.declared.file.Refused.TheVariants as refused
 use Rattle.nav_serve.specs.Refused.{parts, reply_of}
 use Rattle.nav_serve.specs.Serving.{StopsReading, AnswersText}
-use Rattle.nav_serve.specs.Taken.{with_newline, IsOutput, HasLongLine}
+use Rattle.nav_session.specs.Transcripts.{with_newline}
+use Rattle.nav_serve.specs.Taken.{IsOutput, HasLongLine}
 use Rattle.nav_serve.proofs.FirstLine.{fresh, short_line, prepend_known-nothing}
 
 -- the line that was read gives this text

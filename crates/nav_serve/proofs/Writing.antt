@@ -3,8 +3,8 @@ use Rattle.std.proofs.Common.{◌≡◌, ℕ, List, [], inr, refl, sym, subst, a
 use Rattle.std.specs.Io.KnownBytes.{append_known}
 use Rattle.nav_io.specs.Write.{HoldsPrefix}
 use Rattle.nav_serve.specs.declared.tasks.Task.{Task}
-use Rattle.nav_serve.specs.declared.halt.Halt.{Halt}
-use Rattle.nav_serve.specs.declared.halt.Halt.TheVariants.{SourceFailed, SinkFailed, NoMemory, LongLine}
+use Rattle.nav_session.specs.declared.halt.Halt.{Halt}
+use Rattle.nav_session.specs.declared.halt.Halt.TheVariants.{SourceFailed, SinkFailed, NoMemory, LongLine}
 use Rattle.nav_serve.specs.Serving.{Serves}
 use Rattle.nav_serve.specs.Taken.{IsOutput, IsBeginning, WritesOutput, WritesBeginning, HasLongLine}
 

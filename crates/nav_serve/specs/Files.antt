@@ -8,7 +8,7 @@ use Rattle.index_gate.specs.declared.fault.FileFault.{FileFault}
 use Rattle.index_gate.specs.Graphs.{graph_of_doc}
 use Rattle.nav_proto.specs.declared.reply.Reply.{Reply}
 use Rattle.nav_proto.specs.declared.reply.Reply.TheVariants.{BadRequest, BadFile}
-use Rattle.nav_serve.specs.BadFiles.{file_error}
+use Rattle.nav_session.specs.BadFiles.{file_error}
 
 -- the nodes and edges, or the reply to the document's fault
 abbrev pub or_refusal : List ℕ → Result Graph FileFault → Result (List Node × List Edge) Reply

@@ -1,6 +1,4 @@
 pub mod Words
-pub mod Halts
-pub mod BadFiles
 pub mod Files
 pub mod NodeLine
 pub mod Once

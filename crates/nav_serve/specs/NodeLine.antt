@@ -7,7 +7,7 @@ use Rattle.nav_proto.specs.declared.reply.Reply.TheVariants.{Plain, BadRequest}
 use Rattle.nav_proto.specs.declared.reply.PlainError.TheVariants.{BadJson}
 use Rattle.nav_serve.specs.declared.file.Refused.{Refused}
 use Rattle.nav_serve.specs.declared.file.Refused.TheVariants as refused
-use Rattle.nav_serve.specs.declared.halt.Halt.TheVariants as halt
+use Rattle.nav_session.specs.declared.halt.Halt.TheVariants as halt
 
 -- the reply to a line's fault; want of memory is no fault, and a definition never gives it
 abbrev pub reply_to : ProtoFault → Reply

@@ -6,8 +6,8 @@ use Rattle.nav_io.specs.Reading.{Reading, ahead, AfterLine, AfterError}
 use Rattle.nav_proto.specs.declared.reply.Reply.{Reply}
 use Rattle.nav_serve.specs.declared.file.Refused.{Refused}
 use Rattle.nav_serve.specs.declared.file.Refused.TheVariants as refused
-use Rattle.nav_serve.specs.declared.halt.Halt.{Halt}
-use Rattle.nav_serve.specs.declared.halt.Halt.TheVariants.{SourceFailed, SinkFailed, NoMemory, LongLine}
+use Rattle.nav_session.specs.declared.halt.Halt.{Halt}
+use Rattle.nav_session.specs.declared.halt.Halt.TheVariants.{SourceFailed, SinkFailed, NoMemory, LongLine}
 
 -- the reader went from old to new and the source from left to left', and next is the line or none
 pub record ReadsLine (old new : Reading) (left left' next : Option (List ℕ)) : Type 0 where

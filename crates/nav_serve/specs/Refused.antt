@@ -6,8 +6,8 @@ use Rattle.graph_nodes.specs.Graph.{Graph}
 use Rattle.nav_proto.specs.declared.reply.Reply.{Reply}
 use Rattle.nav_serve.specs.declared.file.Refused.{Refused}
 use Rattle.nav_serve.specs.declared.file.Refused.TheVariants as refused
-use Rattle.nav_serve.specs.declared.halt.Halt.{Halt}
-use Rattle.nav_serve.specs.declared.halt.Halt.TheVariants as halt
+use Rattle.nav_session.specs.declared.halt.Halt.{Halt}
+use Rattle.nav_session.specs.declared.halt.Halt.TheVariants as halt
 
 -- a reply is the one that is defined; a stop is for want of memory, which is free
 abbrev pub RefusesAs : {Y : Type 0} → Refused → Result Y Reply → Type 0

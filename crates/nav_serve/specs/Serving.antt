@@ -3,11 +3,12 @@ use Rattle.std.specs.Prelude.{◌≡◌, ℕ, List, Option, IfSome, Result, Ok, 
 use Rattle.nav_proto.specs.declared.reply.Reply.{Reply}
 use Rattle.nav_serve.specs.declared.tasks.Task.{Task}
 use Rattle.nav_serve.specs.declared.tasks.Task.TheVariants.{Once}
-use Rattle.nav_serve.specs.declared.halt.Halt.{Halt}
-use Rattle.nav_serve.specs.declared.halt.Halt.TheVariants.{SourceFailed, SinkFailed, NoMemory, LongLine}
+use Rattle.nav_session.specs.declared.halt.Halt.{Halt}
+use Rattle.nav_session.specs.declared.halt.Halt.TheVariants.{SourceFailed, SinkFailed, NoMemory, LongLine}
 use Rattle.nav_serve.specs.Once.{IsOnceReply}
 use Rattle.std.specs.Global.{Vec}
-use Rattle.nav_serve.specs.Taken.{with_newline, IsOutput, WritesOutput, WritesBeginning, StopsShort, HasLongLine}
+use Rattle.nav_session.specs.Transcripts.{with_newline}
+use Rattle.nav_serve.specs.Taken.{IsOutput, WritesOutput, WritesBeginning, StopsShort, HasLongLine}
 
 -- the reading of the task's input stopped for this reason
 abbrev pub StopsReading : Task → Option (List ℕ) → Option (List ℕ) → Halt → Type 0

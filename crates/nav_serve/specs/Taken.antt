@@ -6,15 +6,12 @@ use Rattle.graph_nodes.specs.declared.node.Edge.{Edge}
 use Rattle.nav_io.specs.Lines.{line_max, line_len, line_at_front, after_line, HasNoNewline}
 use Rattle.nav_proto.specs.declared.reply.Reply.{Reply}
 use Rattle.nav_proto.specs.Replies.{reply_text}
+use Rattle.nav_session.specs.Transcripts.{with_newline}
 use Rattle.nav_serve.specs.declared.tasks.Task.{Task}
 use Rattle.nav_serve.specs.declared.tasks.Task.TheVariants.{Once, Upgrade}
 use Rattle.nav_serve.specs.Files.{graph_line}
 use Rattle.nav_serve.specs.Once.{once_path, IsOnceReply}
 use Rattle.nav_serve.specs.Upgrade.{upgrade_text}
-
--- a text and the newline that ends it
-abbrev pub with_newline : List ℕ → List ℕ
-with_newline text = text ++ 10 ∷ []
 
 -- the output that answers the input of the task
 abbrev pub IsOutput : Task → List ℕ → List ℕ → Type 0

@@ -4,11 +4,10 @@ ghost use Rattle.nav_proto.specs.declared.reply.Reply.TheVariants.{BadFile};
 ghost use Rattle.nav_serve.specs.Files.{graph_line};
 ghost use Rattle.nav_serve.specs.Refused.{AnswersAs, parts};
 
-use crate::bad_file::file_error;
-use crate::halt::Halt;
 use graph_nodes::FileGraph;
 use index_gate::{ReadFault, read_document};
 use nav_proto::{FileError, Reply, ReplyText};
+use nav_session::{Halt, file_error};
 use std::alloc::{AllocError, Global};
 use version_tree::PathText;
 
@@ -37,7 +36,7 @@ impl Refused {
 impl From<AllocError> for Refused {
     ghost use Rattle.std.specs.Prelude.{◌≡◌};
     ghost use Rattle.nav_serve.specs.declared.file.Refused.TheVariants as refused;
-    ghost use Rattle.nav_serve.specs.declared.halt.Halt.TheVariants as halt;
+    ghost use Rattle.nav_session.specs.declared.halt.Halt.TheVariants as halt;
 
     ghost from_gives = { λ _ r. r ≡ refused.Halt halt.NoMemory };
 

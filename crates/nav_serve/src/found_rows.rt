@@ -1,13 +1,13 @@
 ghost use Rattle.std.specs.Prelude.{◌≡◌, [], ◌∷◌, IfOk, IfErr};
 ghost use Rattle.partial_path.specs.Spots.{node_at};
 ghost use Rattle.partial_path.specs.Step.{start};
-ghost use Rattle.nav_serve.specs.declared.halt.Halt.TheVariants as halt;
+ghost use Rattle.nav_session.specs.declared.halt.Halt.TheVariants as halt;
 ghost use Rattle.nav_serve.specs.Once.{AnswersFrom, answer_of, span_at};
 
-use crate::halt::Halt;
 use crate::once_input::ONCE_PATH;
 use graph_nodes::{FileGraph, Span};
 use nav_proto::{PlainError, Reply};
+use nav_session::Halt;
 use partial_path::Bounds;
 use std::alloc::{AllocError, Global};
 use version_tree::{Answer, PathText, Row, Rows};

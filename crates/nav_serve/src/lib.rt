@@ -1,15 +1,12 @@
 //! The program as a function: the words after its name, its input and output, and its status.
 #![tactic(auto)]
 
-mod bad_file;
 mod file;
 mod found_rows;
-mod halt;
 mod input_lines;
 mod laws;
 mod node_line;
 mod once_input;
-mod output;
 mod running;
 mod tasks;
 mod upgrade_input;

@@ -5,8 +5,8 @@ ghost use Rattle.nav_serve.specs.Once.{node_line};
 ghost use Rattle.nav_serve.specs.Refused.{AnswersAs};
 
 use crate::file::Refused;
-use crate::halt::Halt;
 use nav_proto::{PlainError, ProtoFault, Reply, ReplyText, read_node};
+use nav_session::Halt;
 use std::alloc::Global;
 
 /// The position of the node that the line asks for, or the reply that refuses it.

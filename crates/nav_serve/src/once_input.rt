@@ -2,15 +2,14 @@
 ghost use Rattle.std.specs.Prelude.{◌≡◌, ◌≤◌, ℕ, Err};
 ghost use Rattle.nav_io.specs.Faults.{HasRisen};
 ghost use Rattle.nav_serve.specs.declared.tasks.Task.TheVariants as task;
-ghost use Rattle.nav_serve.specs.declared.halt.Halt.TheVariants as halt;
+ghost use Rattle.nav_session.specs.declared.halt.Halt.TheVariants as halt;
 ghost use Rattle.nav_serve.specs.Serving.{AnswersOnce, AnswersText};
 
 use crate::found_rows::node_reply;
-use crate::halt::Halt;
 use crate::input_lines::{read_graph_line, read_node_line};
-use crate::output::reply_bytes;
 use nav_io::{LineReader, Source};
 use nav_proto::Reply;
+use nav_session::{Halt, reply_bytes};
 use std::alloc::Global;
 
 /// The path that `once` gives its graph.

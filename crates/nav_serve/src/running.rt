@@ -4,11 +4,11 @@ ghost use Rattle.nav_serve.specs.Words.{command_of, texts};
 ghost use Rattle.nav_serve.specs.Outside.{seen};
 ghost use Rattle.nav_serve.specs.Commands.{Does, HasCause, HasNoFault, Ends, is_refusal, may_end, parts_used};
 
-use crate::halt::BAD_WORDS;
 use crate::tasks::{Task, perform};
 use crate::words::{Command, command_of};
 use graph_nodes::Steps;
 use nav_io::{House, Sink, Source};
+use nav_session::BAD_WORDS;
 use std::alloc::Global;
 use std::sync::ledger::Ledger;
 

@@ -1,16 +1,15 @@
 //! The one body of the commands that read their input, answer it by one line, and end.
 ghost use Rattle.std.specs.Prelude.{◌≡◌, ◌≤◌, ℕ, IsTrue, Err};
 ghost use Rattle.nav_io.specs.Faults.{HasRisen};
-ghost use Rattle.nav_serve.specs.declared.halt.Halt.TheVariants as halt;
+ghost use Rattle.nav_session.specs.declared.halt.Halt.TheVariants as halt;
 ghost use Rattle.nav_serve.specs.Outside.{seen};
 ghost use Rattle.nav_serve.specs.Commands.{DoesTask, HasCause, HasNoFault, EndsTask, task_ends};
 ghost use Rattle.nav_serve.specs.Serving.{AnswersText, Serves};
 
-use crate::halt::{ANSWERED, Halt};
 use crate::once_input::once_text;
-use crate::output::write_line;
 use crate::upgrade_input::upgrade_text;
 use nav_io::{Sink, Source};
+use nav_session::{ANSWERED, Halt, write_line};
 use std::alloc::Global;
 
 /// What is to be answered.

@@ -2,14 +2,13 @@
 ghost use Rattle.std.specs.Prelude.{◌≡◌, ◌≤◌, ℕ, Err};
 ghost use Rattle.nav_io.specs.Faults.{HasRisen};
 ghost use Rattle.nav_serve.specs.declared.tasks.Task.TheVariants as task;
-ghost use Rattle.nav_serve.specs.declared.halt.Halt.TheVariants as halt;
+ghost use Rattle.nav_session.specs.declared.halt.Halt.TheVariants as halt;
 ghost use Rattle.nav_serve.specs.Serving.{AnswersText};
 
-use crate::halt::Halt;
 use crate::input_lines::read_graph_line;
-use crate::output::reply_bytes;
 use graph_json::print_named;
 use nav_io::{LineReader, Source};
+use nav_session::{Halt, reply_bytes};
 use std::alloc::Global;
 
 /// The path that `upgrade` gives its graph.

@@ -4,11 +4,12 @@ use Rattle.std.specs.Global.{Vec}
 use Rattle.nav_proto.specs.declared.reply.Reply.{Reply}
 use Rattle.nav_proto.specs.Replies.{reply_text}
 use Rattle.nav_serve.specs.declared.tasks.Task.TheVariants.{Once}
-use Rattle.nav_serve.specs.declared.halt.Halt.{Halt}
-use Rattle.nav_serve.specs.declared.halt.Halt.TheVariants.{NoMemory}
+use Rattle.nav_session.specs.declared.halt.Halt.{Halt}
+use Rattle.nav_session.specs.declared.halt.Halt.TheVariants.{NoMemory}
 use Rattle.nav_serve.specs.Once.{IsOnceReply}
 use Rattle.nav_serve.specs.Serving.{AnswersText, StopsReading}
-use Rattle.nav_serve.specs.Taken.{IsOutput, HasLongLine, with_newline}
+use Rattle.nav_session.specs.Transcripts.{with_newline}
+use Rattle.nav_serve.specs.Taken.{IsOutput, HasLongLine}
 use Rattle.nav_serve.proofs.once_input.once_text.Goals as goal
 
 output_of : (left : Option (List ℕ)) (reply : Reply) (text : List ℕ) → text ≡ reply_text reply

@@ -1,5 +1,5 @@
 -- The output is the text and its newline.
-use Rattle.nav_serve.specs.Taken.{with_newline}
+use Rattle.nav_session.specs.Transcripts.{with_newline}
 use Rattle.nav_serve.proofs.Writing.{served}
 use Rattle.nav_serve.proofs.tasks.serve.Goals as goal
 

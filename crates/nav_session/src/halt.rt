@@ -1,5 +1,5 @@
 ghost use Rattle.std.specs.Prelude.{◌≡◌, ℕ, IsTrue};
-ghost use Rattle.nav_serve.specs.Halts.{halt_of_line, halt_of_write, status_of};
+ghost use Rattle.nav_session.specs.Halts.{halt_of_line, halt_of_write, status_of};
 
 use nav_io::{LineError, NoMemory, WriteError};
 use std::alloc::{AllocError, AllocFailed};
@@ -73,7 +73,7 @@ impl From<WriteError> for Halt {
 }
 
 impl From<NoMemory> for Halt {
-    ghost use Rattle.nav_serve.specs.declared.halt.Halt.TheVariants as halt;
+    ghost use Rattle.nav_session.specs.declared.halt.Halt.TheVariants as halt;
 
     ghost from_gives = { λ _ s. s ≡ halt.NoMemory };
 
@@ -84,7 +84,7 @@ impl From<NoMemory> for Halt {
 
 impl From<AllocError> for Halt {
     ghost use Rattle.std.specs.Prelude.{◌≡◌};
-    ghost use Rattle.nav_serve.specs.declared.halt.Halt.TheVariants as halt;
+    ghost use Rattle.nav_session.specs.declared.halt.Halt.TheVariants as halt;
 
     ghost from_gives = { λ _ s. s ≡ halt.NoMemory };
 

@@ -3,8 +3,8 @@ ghost use Rattle.std.specs.Io.KnownBytes.{append_known};
 ghost use Rattle.nav_io.specs.Faults.{HasRisen};
 ghost use Rattle.nav_io.specs.Write.{HoldsPrefix};
 ghost use Rattle.nav_proto.specs.Replies.{reply_text};
-ghost use Rattle.nav_serve.specs.declared.halt.Halt.TheVariants as halt;
-ghost use Rattle.nav_serve.specs.Taken.{with_newline};
+ghost use Rattle.nav_session.specs.declared.halt.Halt.TheVariants as halt;
+ghost use Rattle.nav_session.specs.Transcripts.{with_newline};
 
 use crate::halt::Halt;
 use nav_io::{Sink, write_all};

@@ -1,6 +1,6 @@
 //! The faults of documents, as replies name them. This is the one place that knows both.
 ghost use Rattle.std.specs.Prelude.{◌≡◌};
-ghost use Rattle.nav_serve.specs.BadFiles.{shape_part, graph_error, text_error, module_error, table_error, file_error};
+ghost use Rattle.nav_session.specs.BadFiles.{shape_part, graph_error, text_error, module_error, table_error, file_error};
 
 use graph_json::{GraphTextFault, Part};
 use graph_nodes::GraphFault;

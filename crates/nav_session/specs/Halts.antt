@@ -4,8 +4,8 @@ use Rattle.nav_io.specs.declared.lines.LineError.{LineError}
 use Rattle.nav_io.specs.declared.lines.LineError.TheVariants as line
 use Rattle.nav_io.specs.declared.write.WriteError.{WriteError}
 use Rattle.nav_io.specs.declared.write.WriteError.TheVariants as write
-use Rattle.nav_serve.specs.declared.halt.Halt.{Halt}
-use Rattle.nav_serve.specs.declared.halt.Halt.TheVariants.{SourceFailed, SinkFailed, NoMemory, LongLine}
+use Rattle.nav_session.specs.declared.halt.Halt.{Halt}
+use Rattle.nav_session.specs.declared.halt.Halt.TheVariants.{SourceFailed, SinkFailed, NoMemory, LongLine}
 
 -- the status that tells of the halt
 abbrev pub status_of : Halt → ℕ

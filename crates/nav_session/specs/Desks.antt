@@ -1,0 +1,145 @@
+-- What a session keeps on its desk, and what a line makes of it.
+use Rattle.std.specs.Prelude.{◌≡◌, ℕ, List, length, Bool, true, false, Option, IfSome, Result, Ok, Err, take, if◌then◌else◌, MatchBool}
+use Rattle.std.specs.Option.{option_map}
+use Rattle.path_store.specs.Documents.{Doc}
+use Rattle.path_store.specs.Store.{Kept, swept}
+use Rattle.version_tree.specs.declared.entry.Entry.{Entry}
+use Rattle.version_tree.specs.Contents.{FileRow, replay, granted_rows}
+use Rattle.version_board.specs.Logs.{Begins, own}
+use Rattle.index_gate.specs.Indexed.{AddsMissing}
+use Rattle.nav_proto.specs.declared.proto_fault.ProtoFault.{ProtoFault}
+use Rattle.nav_proto.specs.declared.reply.Reply.{Reply}
+use Rattle.nav_proto.specs.declared.reply.Reply.TheVariants.{Version, Done, Rows, Plain, BadRequest, Stale, Twice, AbsentFile, AbsentGrant, TooManyFiles, TooHeavy, BadFile}
+use Rattle.nav_proto.specs.declared.reply.PlainError.{PlainError}
+use Rattle.nav_proto.specs.declared.reply.PlainError.TheVariants.{BadJson, NoUser, Forbidden, Spent, NoFile, NoReference, NoDefinition, Crowded}
+use Rattle.nav_proto.specs.declared.request.Request.{Request}
+use Rattle.nav_proto.specs.declared.request.Request.TheVariants as request
+use Rattle.nav_proto.specs.Replies.{reply_text}
+use Rattle.nav_proto.specs.Requests.{request_from}
+use Rattle.nav_session.specs.Requests.{docs_in}
+use Rattle.nav_session.specs.Sessions.{Session, asker_of, IsReplyTo}
+
+-- a desk: the documents that are kept with their paths, the user, where one is named, and what that one sees, where it
+-- was looked at
+pub record OnDesk : Type 0 where
+  pub store : List Kept
+  pub user : Option (List ℕ)
+  pub view : Option (List FileRow)
+
+-- the session of a desk at a board that has seen so many entries and pins so many
+abbrev pub session_at : ℕ → ℕ → Option (List ℕ) → Session
+session_at seen pin user = record { seen = seen; asker = option_map (asker_of pin) user }
+
+-- what the desk keeps of a view is what its user sees of the version that is pinned
+abbrev pub HasItsView : OnDesk → List Entry → ℕ → Type 0
+HasItsView desk log pin =
+    IfSome desk.view (λ rows. IfSome desk.user (λ user. rows ≡ granted_rows user (replay (take pin log))))
+
+-- the most that the documents may cost that are kept when a commit was accepted
+abbrev pub max_cost : ℕ
+max_cost = 48000000
+
+-- whether a commit with this reply was accepted, and whether its documents were indexed
+abbrev pub is_accepted : Reply → Bool
+is_accepted (Version n) = true
+is_accepted Done = false
+is_accepted (Rows answer) = false
+is_accepted (Plain error) = false
+is_accepted (BadRequest field) = false
+is_accepted (Stale head) = false
+is_accepted (Twice path) = false
+is_accepted (AbsentFile path) = false
+is_accepted (AbsentGrant user prefix) = false
+is_accepted (TooManyFiles files) = false
+is_accepted (TooHeavy weight) = false
+is_accepted (BadFile path fault) = false
+
+abbrev pub is_spent : PlainError → Bool
+is_spent BadJson = false
+is_spent NoUser = false
+is_spent Forbidden = false
+is_spent Spent = true
+is_spent NoFile = false
+is_spent NoReference = false
+is_spent NoDefinition = false
+is_spent Crowded = false
+
+abbrev pub is_indexed : Reply → Bool
+is_indexed (Version n) = true
+is_indexed Done = false
+is_indexed (Rows answer) = false
+is_indexed (Plain error) = is_spent error
+is_indexed (BadRequest field) = false
+is_indexed (Stale head) = true
+is_indexed (Twice path) = true
+is_indexed (AbsentFile path) = true
+is_indexed (AbsentGrant user prefix) = true
+is_indexed (TooManyFiles files) = true
+is_indexed (TooHeavy weight) = true
+is_indexed (BadFile path fault) = false
+
+-- the store with the documents that it lacked, and without the oldest ones where the commit was accepted
+pub record AddsDocs (docs : List Doc) (reply : Reply) (old new : List Kept) : Type 0 where
+  pub all : List Kept
+  pub adds : AddsMissing docs old all
+  pub kept : new ≡ if is_accepted reply then swept max_cost all else all
+
+-- what a request with this reply makes of the store: nothing, but where a commit's documents were indexed
+abbrev pub KeepsDocs : Request → Reply → List Kept → List Kept → Type 0
+KeepsDocs (request.Hello user) reply old new = new ≡ old
+KeepsDocs request.Pin reply old new = new ≡ old
+KeepsDocs (request.Commit base edits) reply old new =
+    MatchBool (is_indexed reply) (AddsDocs (docs_in edits) reply old new) (new ≡ old)
+KeepsDocs (request.Grant user prefix) reply old new = new ≡ old
+KeepsDocs (request.Revoke user prefix) reply old new = new ≡ old
+KeepsDocs (request.Deny user prefix) reply old new = new ≡ old
+KeepsDocs (request.Undeny user prefix) reply old new = new ≡ old
+KeepsDocs (request.Define path point bounds) reply old new = new ≡ old
+KeepsDocs (request.References path point bounds) reply old new = new ≡ old
+KeepsDocs request.Quit reply old new = new ≡ old
+
+abbrev pub KeepsDocsOf : Result Request ProtoFault → Reply → List Kept → List Kept → Type 0
+KeepsDocsOf (Ok request) reply old new = KeepsDocs request reply old new
+KeepsDocsOf (Err fault) reply old new = new ≡ old
+
+-- a session at one moment: its seat, what the seat has seen of the log and how much of it is pinned, and the desk
+pub record Moment : Type 0 where
+  pub seat : ℕ
+  pub log : List Entry
+  pub pin : ℕ
+  pub desk : OnDesk
+
+abbrev pub moment : ℕ → List Entry → ℕ → OnDesk → Moment
+moment seat log pin desk = record { seat = seat; log = log; pin = pin; desk = desk }
+
+-- the session as a transcript sees it
+abbrev pub session_of : Moment → Session
+session_of m = session_at (length m.log) m.pin m.desk.user
+
+-- what a reply is for, as a relation of the log, the session before, the reply and the session after
+abbrev pub ReplyOver : Type 1
+ReplyOver = List Entry → Session → Reply → Session → Type 0
+
+-- A reply was given: it is the one that is due over the log as it is then, and the desk's view is that of its user. A
+-- reply that accepts nothing leaves the seat's entries as they were.
+pub record Replies (IsDue : ReplyOver) (old new : Moment) (reply : Reply) : Type 0 where
+  pub due : IsDue new.log (session_of old) reply (session_of new)
+  pub view : HasItsView new.desk new.log new.pin
+  pub no_entry : is_accepted reply ≡ false → own old.seat new.log ≡ own old.seat old.log
+
+-- whatever comes of a line, the seat stays, and what is seen of the log begins with what was seen
+pub record GoesOn (old new : Moment) : Type 0 where
+  pub seat : new.seat ≡ old.seat
+  pub begins : Begins old.log new.log
+
+-- without a reply no entry of the seat was added
+pub record IsLeftOff (old new : Moment) : Type 0 where
+  pub no_entry : own old.seat new.log ≡ own old.seat old.log
+
+-- A line was answered with this text: that of the reply that is due, and the store keeps what it should.
+pub record Answers (line : List ℕ) (old new : Moment) (text : List ℕ) : Type 0 where
+  pub reply : Reply
+  pub printed : text ≡ reply_text reply
+  pub due : IsReplyTo old.seat new.log (session_of old) line reply (session_of new)
+  pub view : HasItsView new.desk new.log new.pin
+  pub store : KeepsDocsOf (request_from line) reply old.desk.store new.desk.store

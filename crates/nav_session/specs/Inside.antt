@@ -1,0 +1,62 @@
+-- What the parts of an answer do; no public clause cites this.
+use Rattle.std.specs.Prelude.{◌≡◌, ◌⊎◌, ℕ, List, [], ◌∷◌, length, true, false, if◌then◌else◌, Option, Some, None, MatchBool}
+use Rattle.partial_path.specs.PathSets.{FileRules}
+use Rattle.version_tree.specs.declared.edit.Edit.{Edit}
+use Rattle.version_tree.specs.declared.edit.Edit.TheVariants as edit
+use Rattle.nav_proto.specs.declared.request.FileEdit.{FileEdit}
+use Rattle.nav_proto.specs.declared.request.FileEdit.TheVariants as asked
+use Rattle.nav_proto.specs.declared.reply.PlainError.{PlainError}
+use Rattle.nav_proto.specs.declared.reply.PlainError.TheVariants.{NoUser, Forbidden}
+use Rattle.nav_session.specs.declared.drafts.Draft.{Draft}
+use Rattle.nav_session.specs.declared.drafts.Draft.TheVariants.{Put, Remove}
+use Rattle.path_store.specs.Store.{Kept, swept}
+use Rattle.index_gate.specs.Indexed.{AreFilesOf}
+use Rattle.version_board.specs.Logs.{own}
+use Rattle.nav_proto.specs.declared.request.Request.{Request}
+use Rattle.nav_proto.specs.declared.reply.Reply.{Reply}
+use Rattle.nav_proto.specs.Replies.{reply_text}
+use Rattle.nav_session.specs.Requests.{docs_in, is_operator}
+use Rattle.nav_session.specs.Sessions.{asker_of, IsJudged, IsCommitted, IsAnswered}
+use Rattle.nav_session.specs.Desks.{Moment, session_of, HasItsView, AddsDocs, KeepsDocs, Replies, is_accepted, is_indexed, max_cost}
+
+-- why the user may change nothing
+abbrev pub change_refusal : Option (List ℕ) → Option PlainError
+change_refusal None = Some NoUser
+change_refusal (Some user) = if is_operator user then None else Some Forbidden
+
+-- the edits of a commit without their documents
+abbrev pub draft_of : FileEdit → Draft
+draft_of (asked.Put path text) = Put path
+draft_of (asked.Remove path) = Remove path
+
+-- such edits with these files
+abbrev pub filled : List Draft → List FileRules → List Edit
+filled [] files = []
+filled (Put path ∷ drafts) [] = []
+filled (Put path ∷ drafts) (file ∷ files) = edit.Put path file ∷ filled drafts files
+filled (Remove path ∷ drafts) files = edit.Remove path ∷ filled drafts files
+
+-- edits came before the board, and the store was swept where they were accepted
+pub record PutsIn (base : Option ℕ) (edits : List Edit) (old new : Moment) (reply : Reply) : Type 0 where
+  pub judged : (user : List ℕ) → old.desk.user ≡ Some user
+      → IsJudged old.seat new.log (length old.log) (asker_of old.pin user) base edits reply (session_of new)
+  pub no_entry : is_accepted reply ≡ false → own old.seat new.log ≡ own old.seat old.log
+  pub indexed : is_indexed reply ≡ true
+  pub kept : new.desk.store ≡ if is_accepted reply then swept max_cost old.desk.store else old.desk.store
+  pub user : new.desk.user ≡ old.desk.user
+  pub no_view : new.desk.view ≡ None
+
+-- a commit of a user that may change anything was answered
+pub record CommitsAs (base : Option ℕ) (edits : List FileEdit) (old new : Moment) (reply : Reply) : Type 0 where
+  pub committed : (user : List ℕ) → old.desk.user ≡ Some user
+      → IsCommitted old.seat new.log (session_of old) (asker_of old.pin user) base edits reply (session_of new)
+  pub no_entry : is_accepted reply ≡ false → own old.seat new.log ≡ own old.seat old.log
+  pub store : MatchBool (is_indexed reply) (AddsDocs (docs_in edits) reply old.desk.store new.desk.store) (new.desk.store ≡ old.desk.store)
+  pub view : (new.desk.view ≡ None) ⊎ ((new.log ≡ old.log) × (new.pin ≡ old.pin) × (new.desk.view ≡ old.desk.view) × (new.desk.user ≡ old.desk.user))
+
+-- a request was answered with this text
+pub record Gives (request : Request) (old new : Moment) (text : List ℕ) : Type 0 where
+  pub reply : Reply
+  pub printed : text ≡ reply_text reply
+  pub replied : Replies (λ log before told after. IsAnswered old.seat log before request told after) old new reply
+  pub store : KeepsDocs request reply old.desk.store new.desk.store

@@ -1,0 +1,11 @@
+pub mod BadFiles
+pub mod Requests
+pub mod Refusals
+pub mod Sessions
+pub mod Transcripts
+pub mod Serving
+pub mod Desks
+pub mod Halts
+pub mod Laws
+pub mod Inside
+pub mod Turns

@@ -1,0 +1,174 @@
+ghost use Rattle.std.specs.Prelude.{◌≡◌, ◌≤◌, ◌+◌, ℕ, [], false, IfOk, OnOk, OnErr};
+ghost use Rattle.index_gate.specs.Indexed.{AreDocWeights, docs_of, missing};
+ghost use Rattle.nav_proto.specs.Replies.{reply_text};
+ghost use Rattle.nav_session.specs.Refusals.{fault_reply};
+ghost use Rattle.nav_session.specs.Requests.{docs_of_line, docs_of_request, ends_session, is_quit};
+ghost use Rattle.nav_session.specs.Sessions.{IsAnswered};
+ghost use Rattle.nav_session.specs.Desks.{HasItsView, KeepsDocs, Answers, Replies, GoesOn, IsLeftOff, moment};
+ghost use Rattle.nav_session.specs.Inside.{Gives};
+
+use crate::asking::{at_of, define, references};
+use crate::committing::commit;
+use crate::desk::Desk;
+use crate::judging::rule;
+use crate::pinning::{hello, pin};
+use crate::refusals::fault_reply;
+use crate::room::{Room, print};
+use crate::step::Step;
+use graph_nodes::Steps;
+use nav_io::Gate;
+use nav_proto::{ProtoFault, Reply, Request, print_reply, read_request};
+use std::alloc::{AllocError, Global};
+use std::sync::ledger::Ledger;
+use version_board::Commits;
+use version_tree::Edit;
+
+/// The reply to one line of a session, at the board of its seat.
+///
+/// The reply is the first of these: `bad_json` or `bad_request`; `ok` to `quit`; `no_user`, unless the line is `hello`;
+/// `forbidden`, for a change by another user than `operator`; `bad_file`, for the first document of a commit that has a
+/// fault; the board's refusal of the change, or the number of the version that it makes; the number of the version
+/// that `hello` and `pin` pin; what a query finds among the files that the user may see of the pinned version.
+///
+/// The one error is want of memory: then no entry of the line is in the log, and the desk isn't meant to be used again.
+/// The memory of the reply to a change is taken before it is committed.
+///
+/// A commit's documents are indexed, unless the desk keeps them, and are kept; after an accepted one the oldest go until
+/// all cost at most `MAX_COST`. Each walk that is made counts a step. The first query after `hello`, `pin` or a change
+/// looks at all files of the version once, the others only where their runs go.
+pub fn answer_line<R, B: Commits<R>, G: Gate, L: Ledger>(
+    rt: &R,
+    alloc: Global,
+    desk: &mut Desk,
+    board: &mut B,
+    gate: &G,
+    line: &[u8],
+    steps: &mut Steps<L>,
+) -> Result<Step, AllocError>
+    requires view { HasItsView desk.old (B.log board.old) (B.pin_at board.old) }
+
+    // The reply, and the log.
+    ensures goes_on { GoesOn (moment (B.seat board.old) (B.log board.old) (B.pin_at board.old) desk.old)
+        (moment (B.seat board.new) (B.log board.new) (B.pin_at board.new) desk.new) }
+    ensures reply { IfOk result (λ step. Answers line.now
+        (moment (B.seat board.old) (B.log board.old) (B.pin_at board.old) desk.old)
+        (moment (B.seat board.new) (B.log board.new) (B.pin_at board.new) desk.new) step.reply) }
+    ensures quit { IfOk result (λ step. step.quit ≡ is_quit line.now) }
+    ensures none { OnErr result (IsLeftOff (moment (B.seat board.old) (B.log board.old) (B.pin_at board.old) desk.old)
+        (moment (B.seat board.new) (B.log board.new) (B.pin_at board.new) desk.new)) }
+
+    // The steps.
+    ensures steps { (total : ℕ) → AreDocWeights (missing (docs_of desk.old.store) (docs_of_line line.now)) total
+        → steps.new ≤ steps.old + total }
+    ensures no_steps { OnOk result (docs_of_line line.now ≡ [] → steps.new ≡ steps.old) }
+{
+    let room = Room::new(alloc)?;
+    match read_request(alloc, line) {
+        Ok(request) => answer_request(rt, alloc, desk, board, gate, request, room, steps),
+        Err(ProtoFault::NoMemory) => Err(AllocError),
+        Err(fault) => refuse(alloc, fault),
+    }
+}
+
+/// What a line that is no request is answered with.
+fn refuse(alloc: Global, fault: ProtoFault) -> Result<Step, AllocError>
+    ensures reply { IfOk result (λ step. step.reply ≡ reply_text (fault_reply fault)) }
+    ensures quit { IfOk result (λ step. step.quit ≡ false) }
+{
+    Ok(Step {
+        reply: print_reply(alloc, &fault_reply(fault))?,
+        quit: false,
+    })
+}
+
+/// What a request is answered with, where room is taken for the reply to an accepted change.
+fn answer_request<R, B: Commits<R>, G: Gate, L: Ledger>(
+    rt: &R,
+    alloc: Global,
+    desk: &mut Desk,
+    board: &mut B,
+    gate: &G,
+    request: Request,
+    room: Room,
+    steps: &mut Steps<L>,
+) -> Result<Step, AllocError>
+    requires view { HasItsView desk.old (B.log board.old) (B.pin_at board.old) }
+    ensures goes_on { GoesOn (moment (B.seat board.old) (B.log board.old) (B.pin_at board.old) desk.old)
+        (moment (B.seat board.new) (B.log board.new) (B.pin_at board.new) desk.new) }
+    ensures reply { IfOk result (λ step. Gives request
+        (moment (B.seat board.old) (B.log board.old) (B.pin_at board.old) desk.old)
+        (moment (B.seat board.new) (B.log board.new) (B.pin_at board.new) desk.new) step.reply) }
+    ensures quit { IfOk result (λ step. step.quit ≡ ends_session request) }
+    ensures none { OnErr result (IsLeftOff (moment (B.seat board.old) (B.log board.old) (B.pin_at board.old) desk.old)
+        (moment (B.seat board.new) (B.log board.new) (B.pin_at board.new) desk.new)) }
+    ensures steps { (total : ℕ) → AreDocWeights (missing (docs_of desk.old.store) (docs_of_request request)) total
+        → steps.new ≤ steps.old + total }
+    ensures no_steps { OnOk result (docs_of_request request ≡ [] → steps.new ≡ steps.old) }
+{
+    let quit = ends_session(&request);
+    let reply = reply_to(rt, alloc, desk, board, gate, request, steps)?;
+    Ok(Step {
+        reply: print(alloc, room, &reply)?,
+        quit,
+    })
+}
+
+/// Whether the request ends the session.
+fn ends_session(request: &Request) -> bool
+    ensures { result ≡ ends_session request.now }
+{
+    matches!(request, Request::Quit)
+}
+
+/// The reply to a request. The one error is want of memory.
+fn reply_to<R, B: Commits<R>, G: Gate, L: Ledger>(
+    rt: &R,
+    alloc: Global,
+    desk: &mut Desk,
+    board: &mut B,
+    gate: &G,
+    request: Request,
+    steps: &mut Steps<L>,
+) -> Result<Reply, AllocError>
+    requires view { HasItsView desk.old (B.log board.old) (B.pin_at board.old) }
+    ensures goes_on { GoesOn (moment (B.seat board.old) (B.log board.old) (B.pin_at board.old) desk.old)
+        (moment (B.seat board.new) (B.log board.new) (B.pin_at board.new) desk.new) }
+    ensures reply { IfOk result (Replies (λ log before reply after. IsAnswered (B.seat board.old) log before request reply after)
+        (moment (B.seat board.old) (B.log board.old) (B.pin_at board.old) desk.old)
+        (moment (B.seat board.new) (B.log board.new) (B.pin_at board.new) desk.new)) }
+    ensures none { OnErr result (IsLeftOff (moment (B.seat board.old) (B.log board.old) (B.pin_at board.old) desk.old)
+        (moment (B.seat board.new) (B.log board.new) (B.pin_at board.new) desk.new)) }
+    ensures store { IfOk result (λ reply. KeepsDocs request reply desk.old.store desk.new.store) }
+    ensures steps { (total : ℕ) → AreDocWeights (missing (docs_of desk.old.store) (docs_of_request request)) total
+        → steps.new ≤ steps.old + total }
+    ensures no_steps { OnOk result (docs_of_request request ≡ [] → steps.new ≡ steps.old) }
+{
+    match request {
+        Request::Quit => Ok(Reply::Done),
+        Request::Hello { user } => Ok(hello(desk, board, user)),
+        Request::Pin => Ok(pin(desk, board)),
+        Request::Commit { base, edits } => commit(rt, alloc, desk, board, gate, base, edits, steps),
+        Request::Grant { user, prefix } => rule(rt, desk, board, Edit::Grant { user, prefix }),
+        Request::Revoke { user, prefix } => rule(rt, desk, board, Edit::Revoke { user, prefix }),
+        Request::Deny { user, prefix } => rule(rt, desk, board, Edit::Deny { user, prefix }),
+        Request::Undeny { user, prefix } => rule(rt, desk, board, Edit::Undeny { user, prefix }),
+        Request::Define { path, at, bounds } => define(
+            alloc,
+            desk,
+            board,
+            path.as_str(),
+            at_of(at),
+            bounds,
+        ),
+        Request::References { path, at, bounds } => references(
+            rt,
+            alloc,
+            desk,
+            board,
+            gate,
+            path.as_str(),
+            at_of(at),
+            bounds,
+        ),
+    }
+}

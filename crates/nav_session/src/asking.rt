@@ -1,0 +1,80 @@
+ghost use Rattle.std.specs.Prelude.{◌≡◌, IfOk};
+ghost use Rattle.nav_answers.specs.Replies.{IsDefineReply, IsReferencesReply};
+ghost use Rattle.partial_path.specs.Limits.{IsInRange};
+ghost use Rattle.nav_session.specs.Requests.{at_of};
+ghost use Rattle.nav_session.specs.Sessions.{IfNamed, Finds};
+ghost use Rattle.nav_session.specs.Desks.{Replies, HasItsView, moment};
+
+use crate::desk::Desk;
+use crate::refusals::query_reply;
+use nav_answers::At;
+use nav_io::Gate;
+use nav_proto::{Bounds, PlainError, Point, Reply};
+use std::alloc::{AllocError, Global};
+use version_board::Pins;
+
+/// Where a query stands in its file.
+pub fn at_of(point: Point) -> At
+    ensures { result ≡ at_of point }
+{
+    match point {
+        Point::Node(n) => At::Node(n),
+        Point::LineColumn(line, column) => At::Point(line, column),
+    }
+}
+
+/// The reply to `define`, where a user is named: what the reference there is defined by, among the files that the user
+/// may see of the pinned version. The one error is want of memory.
+pub fn define<B: Pins>(
+    alloc: Global,
+    desk: &mut Desk,
+    board: &B,
+    path: &str,
+    at: At,
+    bounds: Bounds,
+) -> Result<Reply, AllocError>
+    requires view { HasItsView desk.old (B.log board.now) (B.pin_at board.now) }
+    ensures reply { IfOk result (Replies (λ log before reply after. IfNamed before reply after
+        (λ asker. Finds IsDefineReply log before asker path.now at bounds reply after))
+        (moment (B.seat board.now) (B.log board.now) (B.pin_at board.now) desk.old)
+        (moment (B.seat board.now) (B.log board.now) (B.pin_at board.now) desk.new)) }
+    ensures store { desk.new.store ≡ desk.old.store }
+{
+    if !desk.has_user() {
+        return Ok(Reply::Plain(PlainError::NoUser));
+    }
+    let pinned = board.pinned();
+    let view = desk.take_view(alloc, &pinned.version)?;
+    let found = nav_answers::define(alloc, &view, &pinned.index, path, at, bounds);
+    desk.keep_view(view);
+    query_reply(found)
+}
+
+/// The reply to `references`, where a user is named: who refers to the definition there, among the files that the user
+/// may see of the pinned version. The one error is want of memory.
+pub fn references<R, B: Pins, G: Gate>(
+    rt: &R,
+    alloc: Global,
+    desk: &mut Desk,
+    board: &B,
+    gate: &G,
+    path: &str,
+    at: At,
+    bounds: Bounds,
+) -> Result<Reply, AllocError>
+    requires view { HasItsView desk.old (B.log board.now) (B.pin_at board.now) }
+    ensures reply { IfOk result (Replies (λ log before reply after. IfNamed before reply after
+        (λ asker. Finds IsReferencesReply log before asker path.now at bounds reply after))
+        (moment (B.seat board.now) (B.log board.now) (B.pin_at board.now) desk.old)
+        (moment (B.seat board.now) (B.log board.now) (B.pin_at board.now) desk.new)) }
+    ensures store { desk.new.store ≡ desk.old.store }
+{
+    if !desk.has_user() {
+        return Ok(Reply::Plain(PlainError::NoUser));
+    }
+    let pinned = board.pinned();
+    let view = desk.take_view(alloc, &pinned.version)?;
+    let found = nav_answers::references(rt, alloc, &view, &pinned.index, gate, path, at, bounds);
+    desk.keep_view(view);
+    query_reply(found)
+}

@@ -1,0 +1,120 @@
+ghost use Rattle.std.specs.Prelude.{◌≡◌, ◌≤◌, ◌+◌, ℕ, [], IfOk, OnOk, OnErr, MatchBool};
+ghost use Rattle.index_gate.specs.Indexed.{AreDocWeights, docs_of, missing};
+ghost use Rattle.version_board.specs.Logs.{own};
+ghost use Rattle.nav_proto.specs.declared.reply.Reply.TheVariants.{BadFile};
+ghost use Rattle.nav_session.specs.BadFiles.{file_error};
+ghost use Rattle.nav_session.specs.Requests.{docs_in};
+ghost use Rattle.nav_session.specs.Sessions.{IfOperator, IsCommitted};
+ghost use Rattle.nav_session.specs.Desks.{Replies, GoesOn, IsLeftOff, HasItsView, AddsDocs, is_indexed, moment};
+ghost use Rattle.nav_session.specs.Inside.{CommitsAs, PutsIn, filled};
+
+use crate::bad_file::file_error;
+use crate::desk::Desk;
+use crate::drafts::{Draft, drafts_of, edits_from};
+use crate::judging::judge;
+use graph_nodes::Steps;
+use index_gate::{FileFault, IndexFault, index_all};
+use nav_io::Gate;
+use nav_proto::{Edits, Reply};
+use partial_path::SharedPaths;
+use std::alloc::{AllocError, Global};
+use std::sync::ledger::Ledger;
+use version_board::Commits;
+use version_tree::PathText;
+
+/// The reply to `commit`, where the user may change anything: its documents are indexed, unless the desk keeps them, and
+/// then its edits come before the board. The one error is want of memory.
+#[tactic(auto, using(crate::proofs::Asked::operator_by, crate::proofs::Asked::refused_change))]
+pub fn commit<R, B: Commits<R>, G: Gate, L: Ledger>(
+    rt: &R,
+    alloc: Global,
+    desk: &mut Desk,
+    board: &mut B,
+    gate: &G,
+    base: Option<u32>,
+    edits: Edits,
+    steps: &mut Steps<L>,
+) -> Result<Reply, AllocError>
+    requires view { HasItsView desk.old (B.log board.old) (B.pin_at board.old) }
+    ensures goes_on { GoesOn (moment (B.seat board.old) (B.log board.old) (B.pin_at board.old) desk.old)
+        (moment (B.seat board.new) (B.log board.new) (B.pin_at board.new) desk.new) }
+    ensures reply { IfOk result (Replies (λ log before reply after. IfOperator before reply after
+        (λ asker. IsCommitted (B.seat board.old) log before asker base edits reply after))
+        (moment (B.seat board.old) (B.log board.old) (B.pin_at board.old) desk.old)
+        (moment (B.seat board.new) (B.log board.new) (B.pin_at board.new) desk.new)) }
+    ensures none { OnErr result (IsLeftOff (moment (B.seat board.old) (B.log board.old) (B.pin_at board.old) desk.old)
+        (moment (B.seat board.new) (B.log board.new) (B.pin_at board.new) desk.new)) }
+    ensures store { IfOk result (λ reply. MatchBool (is_indexed reply)
+        (AddsDocs (docs_in edits) reply desk.old.store desk.new.store) (desk.new.store ≡ desk.old.store)) }
+    ensures steps { (total : ℕ) → AreDocWeights (missing (docs_of desk.old.store) (docs_in edits)) total
+        → steps.new ≤ steps.old + total }
+    ensures no_steps { OnOk result (docs_in edits ≡ [] → steps.new ≡ steps.old) }
+{
+    match desk.change_refusal() {
+        Some(error) => Ok(Reply::Plain(error)),
+        None => commit_allowed(rt, alloc, desk, board, gate, base, edits, steps),
+    }
+}
+
+/// The reply to a commit of a user that may change anything.
+#[tactic(auto, using(crate::proofs::Committed::bad_file, crate::proofs::Committed::judged))]
+fn commit_allowed<R, B: Commits<R>, G: Gate, L: Ledger>(
+    rt: &R,
+    alloc: Global,
+    desk: &mut Desk,
+    board: &mut B,
+    gate: &G,
+    base: Option<u32>,
+    edits: Edits,
+    steps: &mut Steps<L>,
+) -> Result<Reply, AllocError>
+    ensures goes_on { GoesOn (moment (B.seat board.old) (B.log board.old) (B.pin_at board.old) desk.old)
+        (moment (B.seat board.new) (B.log board.new) (B.pin_at board.new) desk.new) }
+    ensures committed { IfOk result (CommitsAs base edits
+        (moment (B.seat board.old) (B.log board.old) (B.pin_at board.old) desk.old)
+        (moment (B.seat board.new) (B.log board.new) (B.pin_at board.new) desk.new)) }
+    ensures none { OnErr result (own (B.seat board.old) (B.log board.new) ≡ own (B.seat board.old) (B.log board.old)) }
+    ensures steps { (total : ℕ) → AreDocWeights (missing (docs_of desk.old.store) (docs_in edits)) total
+        → steps.new ≤ steps.old + total }
+    ensures no_steps { OnOk result (docs_in edits ≡ [] → steps.new ≡ steps.old) }
+{
+    let drafts = drafts_of(alloc, edits)?;
+    match index_all(rt, alloc, &drafts.docs, &mut desk.store, gate, steps) {
+        Ok(files) => put_in(rt, alloc, desk, board, base, drafts.drafts, files),
+        Err(IndexFault::BadFile { path, fault }) => bad_file(alloc, path.as_str(), fault),
+        Err(IndexFault::NoMemory) => Err(AllocError),
+    }
+}
+
+/// The reply to a commit with a document that has the fault.
+fn bad_file(alloc: Global, path: &str, fault: FileFault) -> Result<Reply, AllocError>
+    ensures { IfOk result (λ reply. reply ≡ BadFile path.now (file_error fault)) }
+{
+    Ok(Reply::BadFile {
+        path: PathText::of(alloc, path)?,
+        fault: file_error(fault),
+    })
+}
+
+/// The reply to a commit whose documents have these files.
+fn put_in<R, B: Commits<R>>(
+    rt: &R,
+    alloc: Global,
+    desk: &mut Desk,
+    board: &mut B,
+    base: Option<u32>,
+    drafts: Vec<Draft>,
+    files: Vec<SharedPaths>,
+) -> Result<Reply, AllocError>
+    ensures goes_on { GoesOn (moment (B.seat board.old) (B.log board.old) (B.pin_at board.old) desk.old)
+        (moment (B.seat board.new) (B.log board.new) (B.pin_at board.new) desk.new) }
+    ensures put { IfOk result (PutsIn base (filled drafts.items files.items)
+        (moment (B.seat board.old) (B.log board.old) (B.pin_at board.old) desk.old)
+        (moment (B.seat board.new) (B.log board.new) (B.pin_at board.new) desk.new)) }
+    ensures none { OnErr result (own (B.seat board.old) (B.log board.new) ≡ own (B.seat board.old) (B.log board.old)) }
+{
+    let edits = edits_from(alloc, drafts, files)?;
+    let reply = judge(rt, desk, board, base, &edits)?;
+    desk.sweep_after(&reply);
+    Ok(reply)
+}

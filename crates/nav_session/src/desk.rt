@@ -1,0 +1,133 @@
+ghost use Rattle.std.specs.Prelude.{◌≡◌, [], None, Some, is_some, IfOk, IfSome, if◌then◌else◌};
+ghost use Rattle.path_store.specs.Store.{swept};
+ghost use Rattle.version_tree.specs.Contents.{granted_rows};
+ghost use Rattle.nav_session.specs.Desks.{is_accepted, max_cost};
+ghost use Rattle.nav_session.specs.Inside.{change_refusal};
+
+use nav_proto::{PlainError, Reply};
+use path_store::PathStore;
+use std::alloc::{AllocError, Global};
+use std::marker::Model;
+use version_tree::{UserText, Version, View};
+
+/// The most that the documents may cost that are kept when a commit was accepted: the weights of their paths and their
+/// bytes together.
+pub const MAX_COST: u64 = 48_000_000;
+
+/// The user that may change a version.
+const OPERATOR: &str = "operator";
+
+/// What a session keeps between its lines: documents with their paths, which outlive it, its user, where one is named,
+/// and what that one sees of the version that its board pins, once it was looked at. A contract sees these three.
+#[derive(Drop)]
+pub struct Desk {
+    pub(crate) store: PathStore,
+    user: Option<UserText>,
+    view: Option<View>,
+}
+
+impl Model for Desk {
+    ghost use Rattle.index_gate.specs.Indexed.{AreIndexed};
+    ghost use Rattle.nav_session.specs.Desks.{OnDesk};
+
+    ghost Value = { OnDesk };
+
+    ghost view = { λ d. record { store = d.store; user = d.user; view = d.view } };
+
+    ghost invariant = { λ d. AreIndexed d.store };
+}
+
+impl Desk {
+    /// A desk that keeps nothing, with nobody named. It takes no memory.
+    pub fn new(alloc: Global) -> Desk
+        ensures { result ≡ record { store = []; user = None; view = None } }
+    {
+        Desk {
+            store: PathStore::new(alloc),
+            user: None,
+            view: None,
+        }
+    }
+
+    /// Names nobody any more, as at the beginning of a session; the documents stay. It takes no memory.
+    pub fn clear(&mut self)
+        ensures { self.new ≡ record { store = self.old.store; user = None; view = None } }
+    {
+        self.user = None;
+        self.view = None;
+    }
+
+    /// Names the user, who has looked at nothing yet.
+    pub(crate) fn name(&mut self, user: UserText)
+        ensures { self.new ≡ record { store = self.old.store; user = Some user; view = None } }
+    {
+        self.user = Some(user);
+        self.view = None;
+    }
+
+    /// Forgets what the user sees, before another version is pinned.
+    pub(crate) fn forget_view(&mut self)
+        ensures { self.new ≡ record { store = self.old.store; user = self.old.user; view = None } }
+    {
+        self.view = None;
+    }
+
+    /// Whether a user is named.
+    pub(crate) fn has_user(&self) -> bool
+        ensures { result ≡ is_some self.now.user }
+    {
+        let _ = &self.store;
+        self.user.is_some()
+    }
+
+    /// Why the user may change nothing; None where it may.
+    pub(crate) fn change_refusal(&self) -> Option<PlainError>
+        ensures { result ≡ change_refusal self.now.user }
+    {
+        let _ = &self.store;
+        match &self.user {
+            None => Some(PlainError::NoUser),
+            Some(user) if user.as_str() == OPERATOR => None,
+            Some(_) => Some(PlainError::Forbidden),
+        }
+    }
+
+    /// What the user sees of the version: the view that is kept, which is taken out, or one that is made. The one error
+    /// is want of memory.
+    pub(crate) fn take_view(&mut self, alloc: Global, version: &Version) -> Result<View, AllocError>
+        requires { IfSome self.old.view (λ rows. IfSome self.old.user (λ user. rows ≡ granted_rows user version.now.content)) }
+        ensures view { IfOk result (λ view. IfSome self.old.user (λ user. view ≡ granted_rows user version.now.content)) }
+        ensures rest { self.new ≡ record { store = self.old.store; user = self.old.user; view = None } }
+    {
+        match self.view.take() {
+            Some(view) => Ok(view),
+            None => version.view(alloc, self.user_text()),
+        }
+    }
+
+    /// Keeps the view.
+    pub(crate) fn keep_view(&mut self, view: View)
+        ensures { self.new ≡ record { store = self.old.store; user = self.old.user; view = Some view } }
+    {
+        self.view = Some(view);
+    }
+
+    /// The user's text, or none.
+    fn user_text(&self) -> &str
+        ensures { IfSome self.now.user (λ user. result.now ≡ user) }
+    {
+        match &self.user {
+            Some(user) => user.as_str(),
+            None => "",
+        }
+    }
+
+    /// Drops the oldest documents until all cost at most `MAX_COST`, where the reply accepts a commit. It takes no memory.
+    pub(crate) fn sweep_after(&mut self, reply: &Reply)
+        ensures { self.new ≡ record { store = if is_accepted reply.now then swept max_cost self.old.store else self.old.store; user = self.old.user; view = self.old.view } }
+    {
+        if let Reply::Version(_) = reply {
+            self.store.sweep(MAX_COST);
+        }
+    }
+}

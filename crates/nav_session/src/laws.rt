@@ -1,0 +1,11 @@
+ghost use Rattle.nav_session.specs.Laws.{LinesHaveOneScript};
+
+use nav_answers::queries_have_one_reply;
+
+/// A law of transcripts: where a log has only the entries of the session, as on a board of one seat, the lines have one
+/// text of replies. So what is written to an input is a function of the input.
+pub fn lines_have_one_script()
+    ensures { LinesHaveOneScript }
+{
+    queries_have_one_reply();
+}

@@ -1,0 +1,27 @@
+//! One session: each line of its input answered, in a transcript over the log of its board.
+#![tactic(auto)]
+
+mod answering;
+mod asking;
+mod bad_file;
+mod committing;
+mod desk;
+mod drafts;
+mod halt;
+mod judging;
+mod laws;
+mod output;
+mod pinning;
+mod refusals;
+mod room;
+mod serving;
+mod step;
+
+pub use answering::answer_line;
+pub use bad_file::file_error;
+pub use desk::{Desk, MAX_COST};
+pub use halt::{ANSWERED, BAD_WORDS, Halt};
+pub use laws::lines_have_one_script;
+pub use output::{reply_bytes, write_line};
+pub use serving::serve_session;
+pub use step::Step;

@@ -1,0 +1,48 @@
+ghost use Rattle.std.specs.Prelude.{◌≡◌, ◌≢◌, Err, IfOk};
+ghost use Rattle.nav_answers.specs.declared.found.AskFault.TheVariants as ask;
+ghost use Rattle.nav_session.specs.Refusals.{edit_reply, fault_reply, query_reply};
+
+use nav_answers::{Answer, AskFault};
+use nav_proto::{PlainError, ProtoFault, Reply};
+use std::alloc::AllocError;
+use version_tree::EditFault;
+
+/// The reply to a line that is no request. Want of memory is no fault of a line.
+pub fn fault_reply(fault: ProtoFault) -> Reply
+    ensures { result ≡ fault_reply fault }
+{
+    match fault {
+        ProtoFault::BadJson | ProtoFault::NoMemory => Reply::Plain(PlainError::BadJson),
+        ProtoFault::BadRequest(field) => Reply::BadRequest(field),
+    }
+}
+
+/// The reply to edits that have the fault on the head. Want of memory is no fault of edits.
+pub fn edit_reply(fault: EditFault) -> Reply
+    ensures { result ≡ edit_reply fault }
+{
+    match fault {
+        EditFault::Twice(path) => Reply::Twice(path),
+        EditFault::Absent(path) => Reply::AbsentFile(path),
+        EditFault::GrantAbsent(user, prefix) | EditFault::DenyAbsent(user, prefix) =>
+            Reply::AbsentGrant(user, prefix),
+        EditFault::TooManyFiles(files) => Reply::TooManyFiles(files),
+        EditFault::TooHeavy(weight) => Reply::TooHeavy(weight),
+        EditFault::Spent | EditFault::NoMemory => Reply::Plain(PlainError::Spent),
+    }
+}
+
+/// The reply to a query that found this; the one error is want of memory.
+pub fn query_reply(found: Result<Answer, AskFault>) -> Result<Reply, AllocError>
+    ensures reply { IfOk result (λ reply. reply ≡ query_reply found) }
+    ensures definite { IfOk result (λ _. found ≢ Err ask.NoMemory) }
+{
+    match found {
+        Ok(answer) => Ok(Reply::Rows(answer)),
+        Err(AskFault::NoFile) => Ok(Reply::Plain(PlainError::NoFile)),
+        Err(AskFault::NoReference) => Ok(Reply::Plain(PlainError::NoReference)),
+        Err(AskFault::NoDefinition) => Ok(Reply::Plain(PlainError::NoDefinition)),
+        Err(AskFault::Crowded) => Ok(Reply::Plain(PlainError::Crowded)),
+        Err(AskFault::NoMemory) => Err(AllocError),
+    }
+}

@@ -1,0 +1,10 @@
+use nav_proto::ReplyText;
+
+/// What a line is answered with.
+#[derive(Debug, Drop)]
+pub struct Step {
+    /// The reply's text, without a newline.
+    pub reply: ReplyText,
+    /// Whether the line ends the session.
+    pub quit: bool,
+}
