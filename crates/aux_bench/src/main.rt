@@ -14,20 +14,26 @@
 //! first line that it doesn't use, with its index of paths from the root, and then commits one file N times;
 //! `amend N` does so without the index. They print how many files there are then. `offers N` makes the same index,
 //! and asks it N times for each stack of the rest's first line, which are words of symbols with a dot between two:
-//! it prints how many paths it offers to all of them.
+//! it prints how many paths it offers to all of them. `define N` makes a version with the graphs of the lines, and asks
+//! its files in turn, N times in all, for the definitions of their node 0; `references N` asks for the references of
+//! their node 1. They print how many rows the last answer has.
 #![tactic(auto)]
 
 mod graphs;
 mod modules;
 mod queries;
 mod roots;
+mod views;
 
 use graphs::{index, walk};
 use modules::{parsed, translated};
 use queries::{Asked, searched, stitched};
 use roots::{committed, offered};
+use std::alloc::Global;
 use std::io::{Read, Result as IoResult};
 use std::str;
+use std::thread::Threads;
+use views::viewed;
 
 /// How many times the first line asks for this case.
 fn times(case: &[u8], word: &str) -> Option<u32> {
@@ -35,7 +41,7 @@ fn times(case: &[u8], word: &str) -> Option<u32> {
 }
 
 /// Prints the weight and the number of paths of a file.
-fn print_walked(rt: &HostRuntime, walked: Option<(u32, usize)>) -> IoResult<()> {
+fn print_walked(rt: &impl Print, walked: Option<(u32, usize)>) -> IoResult<()> {
     match walked {
         Some((weight, paths)) => println!(rt; "weight: {weight}, paths: {paths}"),
         None => println!(rt; "no graph"),
@@ -43,7 +49,7 @@ fn print_walked(rt: &HostRuntime, walked: Option<(u32, usize)>) -> IoResult<()> 
 }
 
 /// Prints how many files were indexed.
-fn print_indexed(rt: &HostRuntime, files: Option<usize>) -> IoResult<()> {
+fn print_indexed(rt: &impl Print, files: Option<usize>) -> IoResult<()> {
     match files {
         Some(files) => println!(rt; "files: {files}"),
         None => println!(rt; "not indexed"),
@@ -51,7 +57,7 @@ fn print_indexed(rt: &HostRuntime, files: Option<usize>) -> IoResult<()> {
 }
 
 /// Prints how many files there are after the commits.
-fn print_committed(rt: &HostRuntime, files: Option<u32>) -> IoResult<()> {
+fn print_committed(rt: &impl Print, files: Option<u32>) -> IoResult<()> {
     match files {
         Some(files) => println!(rt; "files: {files}"),
         None => println!(rt; "not committed"),
@@ -59,7 +65,7 @@ fn print_committed(rt: &HostRuntime, files: Option<u32>) -> IoResult<()> {
 }
 
 /// Prints how many paths were offered.
-fn print_offered(rt: &HostRuntime, paths: Option<u32>) -> IoResult<()> {
+fn print_offered(rt: &impl Print, paths: Option<u32>) -> IoResult<()> {
     match paths {
         Some(paths) => println!(rt; "paths: {paths}"),
         None => println!(rt; "not asked"),
@@ -67,7 +73,7 @@ fn print_offered(rt: &HostRuntime, paths: Option<u32>) -> IoResult<()> {
 }
 
 /// Prints what a reference was answered.
-fn print_asked(rt: &HostRuntime, asked: Option<Asked>) -> IoResult<()> {
+fn print_asked(rt: &impl Print, asked: Option<Asked>) -> IoResult<()> {
     match asked {
         Some(Asked::Found(count)) => println!(rt; "found: {count}"),
         Some(Asked::Crowded) => println!(rt; "crowded"),
@@ -76,9 +82,21 @@ fn print_asked(rt: &HostRuntime, asked: Option<Asked>) -> IoResult<()> {
     }
 }
 
+/// Prints how many rows the last answer has.
+fn print_rows(rt: &impl Print, rows: Option<usize>) -> IoResult<()> {
+    match rows {
+        Some(rows) => println!(rt; "rows: {rows}"),
+        None => println!(rt; "not asked"),
+    }
+}
+
 /// Runs the case on the text and prints what it gave.
-fn run_case(rt: &HostRuntime, case: &[u8], text: &[u8]) -> IoResult<()> {
-    let alloc = rt.alloc();
+fn run_case<R: Threads + Sync + Print>(
+    rt: &R,
+    alloc: Global,
+    case: &[u8],
+    text: &[u8],
+) -> IoResult<()> {
     if let Some(times) = times(case, "parse ") {
         return match parsed(alloc, text, times) {
             Ok(module) => println!(rt; "statements: {}", module.body.len()),
@@ -119,12 +137,16 @@ fn run_case(rt: &HostRuntime, case: &[u8], text: &[u8]) -> IoResult<()> {
         let asked = searched(alloc, text, times);
         return print_asked(rt, asked);
     }
-    run_roots(rt, case, text)
+    run_versions(rt, alloc, case, text)
 }
 
-/// Runs the case of an index of paths from the root on the text and prints what it gave.
-fn run_roots(rt: &HostRuntime, case: &[u8], text: &[u8]) -> IoResult<()> {
-    let alloc = rt.alloc();
+/// Runs the case of a version and its index of paths from the root on the text and prints what it gave.
+fn run_versions<R: Threads + Sync + Print>(
+    rt: &R,
+    alloc: Global,
+    case: &[u8],
+    text: &[u8],
+) -> IoResult<()> {
     if let Some(times) = times(case, "commit ") {
         let files = committed(alloc, text, times, true);
         return print_committed(rt, files);
@@ -136,6 +158,14 @@ fn run_roots(rt: &HostRuntime, case: &[u8], text: &[u8]) -> IoResult<()> {
     if let Some(times) = times(case, "offers ") {
         let paths = offered(alloc, text, times);
         return print_offered(rt, paths);
+    }
+    if let Some(times) = times(case, "define ") {
+        let rows = viewed(rt, alloc, text, times, false);
+        return print_rows(rt, rows);
+    }
+    if let Some(times) = times(case, "references ") {
+        let rows = viewed(rt, alloc, text, times, true);
+        return print_rows(rt, rows);
     }
     println!(rt; "no such case")
 }
@@ -152,5 +182,5 @@ fn main(rt: HostRuntime) -> IoResult<()> {
     } else {
         &input[end..]
     };
-    run_case(&rt, &input[..end], text)
+    run_case(&rt, rt.alloc(), &input[..end], text)
 }

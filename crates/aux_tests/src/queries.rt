@@ -8,13 +8,15 @@ use crate::stitched::{FILES, bounds_of, is_stored};
 use aux_graph_text::{ANSWERED, files_of};
 use graph_nodes::FileGraph;
 use nav_answers::{Answer, AskFault, At, Row, define, definition_at};
-use nav_io::Unguarded;
+use nav_io::{Gate, Unguarded};
 use partial_path::{Bounds, SharedPaths};
 use py_graph::translate;
 use py_subset::parse;
 use root_index::RootIndex;
 use std::alloc::Global;
+use std::sync::atomic::{AtomicU64, Ordering};
 use std::test::Fail;
+use std::thread::{Threads, available_parallelism, yield_now};
 use version_tree::{Edit, PathText, UserText, Version};
 use whole_search::Hit;
 
@@ -57,7 +59,8 @@ fn place_of(text: &str) -> At {
 }
 
 /// What the user is answered of the version to a query such as `define a.py 4:5`.
-fn asked(
+fn asked<R: Threads + Sync>(
+    rt: &R,
     alloc: Global,
     version: &Version,
     user: &str,
@@ -73,7 +76,7 @@ fn asked(
         "define" => told(alloc, define(alloc, &view, &index, path, at, bounds)),
         "references" => told(
             alloc,
-            nav_answers::references(&(), alloc, &view, &index, &Unguarded, path, at, bounds),
+            nav_answers::references(rt, alloc, &view, &index, &Unguarded, path, at, bounds),
         ),
         _ => match definition_at(&view, path, at) {
             Ok(node) => Ok(format!(in alloc; "{node}")?),
@@ -90,6 +93,9 @@ fn graph_at(path: &str) -> &'static str {
         "lib/use.sg.json" => "push x R; push a | 0>1, 1>root",
         "crowd.sg.json" => "push x R; scope *13; pop x D | 0>1, 1-13 *2, 13>14 *3",
         "deep.sg.json" => "push x R; scope; push a; pop x D | 0>1, 1>2, 2>1, 1>3",
+        "many.sg.json" => {
+            "push x R *7; push y R *6; scope; pop x D; pop y D | 0>13, 1>13, 2>13, 3>13, 4>13, 5>13, 6>13, 7>13, 8>13, 9>13, 10>13, 11>13, 12>13, 13>14, 13>15"
+        }
         "two.sg.json" => {
             "push x R; scope; pop x D; pop x D; push x R | 0>1, 1>2/1, 1>3/2, 1>3/2, 4>2"
         }
@@ -125,11 +131,11 @@ fn version_of(alloc: Global, words: &str) -> Result<Version, Fail> {
 }
 
 /// What is answered to a row such as `WORDS / USER QUERY`.
-fn row_answer(alloc: Global, row: &str) -> Result<String, Fail> {
+fn row_answer<R: Threads + Sync>(rt: &R, alloc: Global, row: &str) -> Result<String, Fail> {
     let (words, rest) = row.split_once(" / ").unwrap_or((row, ""));
     let (user, query) = rest.split_once(' ').unwrap_or((rest, ""));
     let version = version_of(alloc, words)?;
-    asked(alloc, &version, user, query, Bounds::usual())
+    asked(rt, alloc, &version, user, query, Bounds::usual())
 }
 
 /// Files and grants, a user with a query, and the answer. What a user doesn't see changes nothing for it.
@@ -161,13 +167,16 @@ const ROWS: &str =
 +lib/use.sg.json +app/alias.sg.json +lib/def.sg.json +deep.sg.json / operator references lib/def.sg.json 1 => lib/use.sg.json 0 limit
 +two.sg.json / operator define two.sg.json 0 => two.sg.json 3 whole
 +two.sg.json / operator references two.sg.json 3 => two.sg.json 0 whole
-+two.sg.json / operator references two.sg.json 2 => two.sg.json 4 whole";
++two.sg.json / operator references two.sg.json 2 => two.sg.json 4 whole
++many.sg.json / operator references many.sg.json 14 => many.sg.json 0 many.sg.json 1 many.sg.json 2 many.sg.json 3 many.sg.json 4 many.sg.json 5 many.sg.json 6 whole
++many.sg.json +crowd.sg.json / operator references many.sg.json 15 => a reference has too many runs
++many.sg.json +deep.sg.json / operator references many.sg.json 15 => many.sg.json 7 many.sg.json 8 many.sg.json 9 many.sg.json 10 many.sg.json 11 many.sg.json 12 limit";
 
 #[test]
 fn users_are_answered_by_what_they_see(rt: HostRuntime) -> Result<(), Fail> {
     for row in ROWS.split('\n') {
         let (row, wanted) = row.split_once(" => ").unwrap_or((row, "no arrow"));
-        assert_eq!(rt; row_answer(rt.alloc(), row)?.as_str(), wanted, "{row}");
+        assert_eq!(rt; row_answer(&rt, rt.alloc(), row)?.as_str(), wanted, "{row}");
     }
     Ok(())
 }
@@ -183,7 +192,12 @@ fn module_paths(alloc: Global, path: &str, text: &str) -> Result<SharedPaths, Fa
 }
 
 /// What the operator is answered of modules, each of a path and a text.
-fn project_answer(alloc: Global, texts: &[(&str, &str)], query: &str) -> Result<String, Fail> {
+fn project_answer<R: Threads + Sync>(
+    rt: &R,
+    alloc: Global,
+    texts: &[(&str, &str)],
+    query: &str,
+) -> Result<String, Fail> {
     let mut edits = Vec::new(alloc);
     for (path, text) in texts {
         let paths = module_paths(alloc, path, text)?;
@@ -191,7 +205,7 @@ fn project_answer(alloc: Global, texts: &[(&str, &str)], query: &str) -> Result<
         edits.push(Edit::Put { path, paths })?;
     }
     let version = Version::empty(alloc, 0).amend(alloc, edits.as_slice())?;
-    asked(alloc, &version, "operator", query, Bounds::usual())
+    asked(rt, alloc, &version, "operator", query, Bounds::usual())
 }
 
 #[test]
@@ -236,7 +250,7 @@ fn python_projects_are_asked_at_points(rt: HostRuntime) -> Result<(), Fail> {
     ];
     for (texts, query, wanted) in rows {
         assert_eq!(rt;
-            project_answer(rt.alloc(), texts, query)?.as_str(),
+            project_answer(&rt, rt.alloc(), texts, query)?.as_str(),
             wanted,
             "{query}"
         );
@@ -261,12 +275,13 @@ fn version_with(alloc: Global, text: &str) -> Result<Version, Fail> {
 }
 
 /// What is answered to the first file's first node, as the rows of the worked graphs state it.
-fn worked_answer(alloc: Global, row: &str) -> Result<String, Fail> {
+fn worked_answer<R: Threads + Sync>(rt: &R, alloc: Global, row: &str) -> Result<String, Fail> {
     let (graph, bounds) = row
         .split_once(" within ")
         .unwrap_or((row, "128 edges 48 symbols"));
     let version = version_with(alloc, graph)?;
     asked(
+        rt,
         alloc,
         &version,
         "operator",
@@ -301,7 +316,7 @@ fn worked_rows_are_answered(rt: HostRuntime) -> Result<(), Fail> {
         let (graph, wanted) = row.split_once(" => ").unwrap_or((row, "no arrow"));
         let wanted = wanted_answer(rt.alloc(), wanted)?;
         assert_eq!(rt;
-            worked_answer(rt.alloc(), graph)?.as_str(),
+            worked_answer(&rt, rt.alloc(), graph)?.as_str(),
             wanted.as_str(),
             "{graph}"
         );
@@ -332,7 +347,8 @@ fn searched(
 }
 
 /// The answers of both about the node, where they differ; `kind` says what is asked.
-fn difference(
+fn difference<R: Threads + Sync>(
+    rt: &R,
     alloc: Global,
     graphs: &[FileGraph],
     version: &Version,
@@ -342,7 +358,14 @@ fn difference(
     let path = path_at(alloc, at.file)?;
     let query = format!(in alloc; "{kind} {path} {}", at.node)?;
     let one = searched(alloc, graphs, at, kind == "references")?;
-    let two = asked(alloc, version, "operator", query.as_str(), Bounds::usual())?;
+    let two = asked(
+        rt,
+        alloc,
+        version,
+        "operator",
+        query.as_str(),
+        Bounds::usual(),
+    )?;
     if one.as_str() == two.as_str() {
         return Ok(String::new(alloc));
     }
@@ -350,7 +373,7 @@ fn difference(
 }
 
 /// The answers of both to each reference and each definition of the files, where they differ.
-fn differences(alloc: Global, text: &str) -> Result<String, Fail> {
+fn differences<R: Threads + Sync>(rt: &R, alloc: Global, text: &str) -> Result<String, Fail> {
     let mut told = String::new(alloc);
     let graphs = files_of(alloc, text)?;
     let version = version_with(alloc, text)?;
@@ -359,10 +382,17 @@ fn differences(alloc: Global, text: &str) -> Result<String, Fail> {
             let kind = &graph.node(node).kind;
             let at = Hit { file, node };
             if kind.is_reference() {
-                told.push_str(difference(alloc, &graphs, &version, at, "define")?.as_str())?;
+                told.push_str(difference(rt, alloc, &graphs, &version, at, "define")?.as_str())?;
             }
             if kind.is_definition() {
-                told.push_str(difference(alloc, &graphs, &version, at, "references")?.as_str())?;
+                told.push_str(difference(
+                    rt,
+                    alloc,
+                    &graphs,
+                    &version,
+                    at,
+                    "references",
+                )?.as_str())?;
             }
         }
     }
@@ -370,16 +400,71 @@ fn differences(alloc: Global, text: &str) -> Result<String, Fail> {
 }
 
 /// What is different in the graphs of several files.
-fn all_differences(alloc: Global) -> Result<String, Fail> {
+fn all_differences<R: Threads + Sync>(rt: &R, alloc: Global) -> Result<String, Fail> {
     let mut told = String::new(alloc);
     for text in FILES.split('\n') {
-        told.push_str(differences(alloc, text)?.as_str())?;
+        told.push_str(differences(rt, alloc, text)?.as_str())?;
     }
     Ok(told)
 }
 
 #[test]
 fn queries_answer_as_the_search_does(rt: HostRuntime) -> Result<(), Fail> {
-    assert_eq!(rt; all_differences(rt.alloc())?.as_str(), "");
+    assert_eq!(rt; all_differences(&rt, rt.alloc())?.as_str(), "");
+    Ok(())
+}
+
+/// A gate at which each job waits until a second one has begun, for so many turns at most.
+#[derive(Drop)]
+struct Meeting {
+    begun: AtomicU64,
+    missed: AtomicU64,
+}
+
+/// How often a job looks for the other one.
+const TURNS: u32 = 1_000_000;
+
+impl Gate for Meeting {
+    fn enter(&self, _job: usize) {
+        self.begun.fetch_add(1, Ordering::SeqCst);
+        for _ in 0..TURNS {
+            if self.begun.load(Ordering::SeqCst) >= 2 {
+                return;
+            }
+            yield_now();
+        }
+        self.missed.fetch_add(1, Ordering::SeqCst);
+    }
+
+    fn leave(&self, _job: usize) {}
+}
+
+/// How many jobs met no other one, of the two references of a file.
+fn missed<R: Threads + Sync>(rt: &R, alloc: Global) -> Result<u64, Fail> {
+    let version = version_of(alloc, "+two.sg.json")?;
+    let index = RootIndex::afresh(alloc, &version)?;
+    let view = version.view(alloc, "operator")?;
+    let gate = Meeting {
+        begun: AtomicU64::new(0),
+        missed: AtomicU64::new(0),
+    };
+    nav_answers::references(
+        rt,
+        alloc,
+        &view,
+        &index,
+        &gate,
+        "two.sg.json",
+        At::Node(3),
+        Bounds::usual(),
+    )?;
+    Ok(gate.missed.load(Ordering::SeqCst))
+}
+
+/// On one processor there is one thread, so the first job meets no other one.
+#[test]
+fn two_references_are_asked_at_once(rt: HostRuntime) -> Result<(), Fail> {
+    let alone = available_parallelism(&rt)?.get() == 1;
+    assert_eq!(rt; missed(&rt, rt.alloc())?, u64::from(alone));
     Ok(())
 }

@@ -7,3 +7,4 @@ pub mod OneReply
 pub mod Told
 pub mod Asked
 pub mod Referred
+pub mod Shared

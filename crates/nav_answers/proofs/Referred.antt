@@ -1,5 +1,5 @@
 -- What was told of all references of files tells the references of a definition.
-use Rattle.std.proofs.Common.{◌≡◌, refl, sym, ◌∙◌, subst, List, [], ◌∷◌, map, Bool, true, eqb, eq-eqb, eqb-true, Option, Some, None, IsSomeAnd, IsTrue, Contains, ◌↔◌, All, Ok, Err}
+use Rattle.std.proofs.Common.{◌≡◌, refl, sym, ◌∙◌, subst, List, [], ◌∷◌, map, Bool, true, eqb, eq-eqb, eqb-true, Option, Some, None, IsSomeAnd, IsTrue, Contains, ◌↔◌, Ok, Err}
 use Rattle.std.specs.Prelude.{filter}
 use Rattle.std.specs.List.{AllByRecursion, list_any}
 use Rattle.std.proofs.lemmas.Bool.{and_parts, and_from}
@@ -151,8 +151,3 @@ pub any_crowded_told : (bounds : Bounds) (view : List FileRow) (node : NodeAt) �
 any_crowded_told bounds view node h =
     subst (λ (gs : List Graph). IsReplyAbout (IsReferenceOf bounds gs (hit_of node)) (HasAnyLimit bounds gs) (IsAnyCrowded bounds gs) (graph_rows view) (Err Crowded))
     (same_graphs view) (h, refl)
-
--- of these references it was told, of each what is so
-pub record AreTold (bounds : Bounds) (files : List Graph) (definition : Hit) (all : List NodeAt) (told : List Told) : Type 0 where
-  pub asked : asked_in told ≡ all
-  pub each : All (IsTold bounds files definition) told

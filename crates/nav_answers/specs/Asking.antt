@@ -1,5 +1,6 @@
 -- Asking all references of files which of them a definition is one of. No public clause cites this.
-use Rattle.std.specs.Prelude.{ℕ, ◌+◌, List, [], ◌∷◌, ◌++◌, map, filter, Bool, ◌&&◌, nat_eq, IsTrue, IsSomeAnd, ◌↔◌, if◌then◌else◌}
+use Rattle.std.specs.Prelude.{◌≡◌, ℕ, ◌+◌, ◌*◌, ◌≤◌, List, [], ◌∷◌, ◌++◌, length, map, filter, All, slice_get, Some, Bool, ◌&&◌, nat_eq, IsTrue, IsSomeAnd, ◌↔◌, if◌then◌else◌, Vec, Result, MatchResult}
+use Rattle.std.specs.Global.{Global}
 use Rattle.graph_nodes.specs.declared.node.Node.{Node}
 use Rattle.graph_nodes.specs.Graph.{Graph, is_reference_kind}
 use Rattle.graph_nodes.specs.Whole.{is_reference_of}
@@ -10,7 +11,9 @@ use Rattle.partial_path.specs.Spots.{node_at}
 use Rattle.partial_path.specs.Step.{start}
 use Rattle.partial_path.specs.Counted.{IsCrowded, HasLimit}
 use Rattle.whole_search.specs.declared.found.Hit.{Hit}
-use Rattle.whole_search.specs.Answers.{IsDefinitionFrom}
+use Rattle.stitcher.specs.declared.found.StitchFault.{StitchFault}
+use Rattle.stitcher.specs.declared.found.StitchFault.TheVariants.{Crowded}
+use Rattle.whole_search.specs.Answers.{IsDefinitionFrom, IsAnyCrowded}
 use Rattle.nav_answers.specs.declared.asking.Told.{Told}
 use Rattle.nav_answers.specs.Replies.{hit_of}
 
@@ -50,3 +53,14 @@ rows_in told = map (λ (t : Told). hit_of t.reference) (filter (λ (t : Told). t
 -- whether the one node is the other
 abbrev pub same_hit : Hit → Hit → Bool
 same_hit hit other = nat_eq other.file hit.file && nat_eq other.node hit.node
+
+-- what is told of the references at the places first, first + step and so on, in their order: of each what is so
+pub record IsShare (so : Told → Type 0) (all : List NodeAt) (step first : ℕ) (told : List Told) : Type 0 where
+  pub asked : (k : ℕ) (t : Told) → slice_get told k ≡ Some t → slice_get all (k * step + first) ≡ Some t.reference
+  pub each : All so told
+  pub whole : length all ≤ length told * step + first
+
+-- what one thread tells in the end: that, or its fault
+abbrev pub IsDone : Bounds → List Graph → Hit → List NodeAt → ℕ → ℕ → Result (Vec Told Global) StitchFault → Type 0
+IsDone bounds files definition all step first share =
+    MatchResult share (λ told. IsShare (IsTold bounds files definition) all step first told.items) (λ fault. fault ≡ Crowded → IsAnyCrowded bounds files)

@@ -1,9 +1,9 @@
-ghost use Rattle.std.specs.Prelude.{◌≡◌, Err, All, IfOk, IsTrue};
+ghost use Rattle.std.specs.Prelude.{◌≡◌, Err, IfOk, IsTrue};
 ghost use Rattle.std.specs.List.{list_any};
 ghost use Rattle.graph_nodes.specs.Whole.{is_reference_of};
 ghost use Rattle.root_index.specs.Roots.{IsIndexOfView};
 ghost use Rattle.whole_search.specs.Answers.{IsAnyCrowded};
-ghost use Rattle.nav_answers.specs.Asking.{IsReferenceIn, IsTold, asked_in, rows_in, same_hit};
+ghost use Rattle.nav_answers.specs.Asking.{IsTold, rows_in, same_hit};
 ghost use Rattle.nav_answers.specs.Sources.{graphs_seen};
 ghost use Rattle.nav_answers.specs.declared.asking.Told.{Told};
 
@@ -18,6 +18,15 @@ use stitcher::StitchFault;
 use version_tree::View;
 use whole_search::Hit;
 
+/// What is asked of each reference of the files that are seen: whether this definition is one of its definitions.
+#[derive(Drop)]
+pub struct Query<'a> {
+    pub view: &'a View,
+    pub index: &'a RootIndex,
+    pub definition: Hit,
+    pub bounds: Bounds,
+}
+
 /// What is told of a reference: whether the definition that is asked about is one of its definitions, and whether a
 /// run of it was left out for its length or depth.
 #[derive(Clone, Copy, Debug)]
@@ -27,57 +36,27 @@ pub struct Told {
     pub limit: bool,
 }
 
-/// What is told of each of these references, in their order. Each is a job between `enter` and `leave` of the gate,
-/// with its place among them as its number.
-pub fn ask_all<G: Gate>(
-    alloc: Global,
-    view: &View,
-    index: &RootIndex,
-    gate: &G,
-    all: &[NodeAt],
-    definition: Hit,
-    bounds: Bounds,
-) -> Result<Vec<Told>, StitchFault>
-    requires index { IsIndexOfView index.now view.now }
-    requires references { All (IsReferenceIn (graphs_seen view.now)) all.now }
-    ensures asked { IfOk result (λ told. asked_in told.items ≡ all.now) }
-    ensures told { IfOk result (λ told. All (IsTold bounds (graphs_seen view.now) definition) told.items) }
-    ensures crowded { result ≡ Err StitchFault.Crowded → IsAnyCrowded bounds (graphs_seen view.now) }
-{
-    let mut told = Vec::with_capacity(alloc, all.len())?;
-    for reference in all {
-        let job = told.len();
-        told.push(ask(
-            alloc, view, index, gate, job, *reference, definition, bounds,
-        )?)?;
-    }
-    Ok(told)
-}
-
 /// What is told of the reference, as the job of that number.
-fn ask<G: Gate>(
+pub fn ask<G: Gate>(
     alloc: Global,
-    view: &View,
-    index: &RootIndex,
+    query: &Query,
     gate: &G,
     job: usize,
     reference: NodeAt,
-    definition: Hit,
-    bounds: Bounds,
 ) -> Result<Told, StitchFault>
-    requires index { IsIndexOfView index.now view.now }
-    requires reference { IsTrue (is_reference_of (graphs_seen view.now) reference.file reference.node) }
+    requires index { IsIndexOfView query.now.index.now query.now.view.now }
+    requires reference { IsTrue (is_reference_of (graphs_seen query.now.view.now) reference.file reference.node) }
     ensures asked { IfOk result (λ told. told.reference ≡ reference) }
-    ensures told { IfOk result (IsTold bounds (graphs_seen view.now) definition) }
-    ensures crowded { result ≡ Err StitchFault.Crowded → IsAnyCrowded bounds (graphs_seen view.now) }
+    ensures told { IfOk result (IsTold query.now.bounds (graphs_seen query.now.view.now) query.now.definition) }
+    ensures crowded { result ≡ Err StitchFault.Crowded → IsAnyCrowded query.now.bounds (graphs_seen query.now.view.now) }
 {
     gate.enter(job);
-    let found = definitions_of(alloc, view, index, reference, bounds);
+    let found = definitions_of(alloc, query.view, query.index, reference, query.bounds);
     gate.leave(job);
     match found {
         Ok(found) => Ok(Told {
             reference,
-            refers: is_among(found.rows.items(), definition),
+            refers: is_among(found.rows.items(), query.definition),
             limit: found.limit,
         }),
         Err(fault) => Err(fault),

@@ -10,6 +10,7 @@ mod listing;
 mod meaning;
 mod referring;
 mod rows;
+mod sharing;
 mod source;
 
 pub use defining::define;

@@ -5,20 +5,22 @@ ghost use Rattle.whole_search.specs.Answers.{AreReferences, HasAnyLimit, IsAnyCr
 ghost use Rattle.nav_answers.specs.Replies.{IsReferenceReply, IsReferencesReply};
 ghost use Rattle.nav_answers.specs.Sources.{graphs_seen};
 
-use crate::asking::{ask_all, has_limit, rows_in};
+use crate::asking::{Query, has_limit, rows_in};
 use crate::defining::answer_of;
 use crate::found::{AskFault, At};
 use crate::listing::all_references;
 use crate::meaning::{Asked, meant};
 use crate::rows::hit_of;
+use crate::sharing::ask_all;
 use nav_io::Gate;
 use partial_path::Bounds;
 use root_index::RootIndex;
 use stacks_vars::NodeAt;
 use std::alloc::Global;
+use std::thread::Threads;
 use stitcher::StitchFault;
 use version_tree::{Answer, View};
-use whole_search::{Found, Hit, Hits};
+use whole_search::{Found, Hits};
 
 /// Who refers to the definition that is meant in the file with the path: a row for each reference of the files that
 /// are seen that has it among its definitions, in file order, and whether a run of any reference of the files was
@@ -29,9 +31,11 @@ use whole_search::{Found, Hit, Hits};
 /// decide the answer.
 ///
 /// Each reference of the files is asked once, as a job between `enter` and `leave` of the gate, with its place
-/// among them as its number. They are asked one after the other.
-pub fn references<R, G: Gate>(
-    _rt: &R,
+/// among them as its number. They are asked on as many threads as the machine has processors, at most eight and no
+/// more than there are references; where a thread can't be made, the caller does its work. Which thread is the first
+/// to end decides nothing.
+pub fn references<R: Threads + Sync, G: Gate + Sync>(
+    rt: &R,
     alloc: Global,
     view: &View,
     index: &RootIndex,
@@ -44,13 +48,14 @@ pub fn references<R, G: Gate>(
     ensures { result ≢ Err AskFault.NoMemory → IsReferencesReply bounds (graph_rows view.now) path.now at result }
 {
     match meant(view, Asked::Definition, path, at) {
-        Ok(node) => references_to(alloc, view, index, gate, node, bounds),
+        Ok(node) => references_to(rt, alloc, view, index, gate, node, bounds),
         Err(fault) => Err(fault),
     }
 }
 
 /// The same of the definition at a node.
-fn references_to<G: Gate>(
+fn references_to<R: Threads + Sync, G: Gate + Sync>(
+    rt: &R,
     alloc: Global,
     view: &View,
     index: &RootIndex,
@@ -61,30 +66,34 @@ fn references_to<G: Gate>(
     requires { IsIndexOfView index.now view.now }
     ensures { result ≢ Err AskFault.NoMemory → IsReferenceReply bounds (graph_rows view.now) node result }
 {
-    match references_of(alloc, view, index, gate, hit_of(node), bounds) {
+    let query = Query {
+        view,
+        index,
+        definition: hit_of(node),
+        bounds,
+    };
+    match references_of(rt, alloc, &query, gate) {
         Ok(found) => Ok(answer_of(alloc, view, &found)?),
         Err(StitchFault::Crowded) => Err(AskFault::Crowded),
         Err(StitchFault::NoMemory) => Err(AskFault::NoMemory),
     }
 }
 
-/// The references of a definition among those of the files that are seen.
-fn references_of<G: Gate>(
+/// The references of the definition among those of the files that are seen.
+fn references_of<R: Threads + Sync, G: Gate + Sync>(
+    rt: &R,
     alloc: Global,
-    view: &View,
-    index: &RootIndex,
+    query: &Query,
     gate: &G,
-    definition: Hit,
-    bounds: Bounds,
 ) -> Result<Found, StitchFault>
-    requires { IsIndexOfView index.now view.now }
-    ensures rows { IfOk result (λ found. AreReferences bounds (graphs_seen view.now) definition found.rows) }
-    ensures limit { IfOk result (λ found. IsTrue found.limit ↔ HasAnyLimit bounds (graphs_seen view.now)) }
-    ensures crowded { result ≡ Err StitchFault.Crowded → IsAnyCrowded bounds (graphs_seen view.now) }
-    ensures not_crowded { OnOk result (¬ IsAnyCrowded bounds (graphs_seen view.now)) }
+    requires { IsIndexOfView query.now.index.now query.now.view.now }
+    ensures rows { IfOk result (λ found. AreReferences query.now.bounds (graphs_seen query.now.view.now) query.now.definition found.rows) }
+    ensures limit { IfOk result (λ found. IsTrue found.limit ↔ HasAnyLimit query.now.bounds (graphs_seen query.now.view.now)) }
+    ensures crowded { result ≡ Err StitchFault.Crowded → IsAnyCrowded query.now.bounds (graphs_seen query.now.view.now) }
+    ensures not_crowded { OnOk result (¬ IsAnyCrowded query.now.bounds (graphs_seen query.now.view.now)) }
 {
-    let all = all_references(alloc, view)?;
-    let told = ask_all(alloc, view, index, gate, &all, definition, bounds)?;
+    let all = all_references(alloc, query.view)?;
+    let told = ask_all(rt, alloc, query, gate, &all)?;
     let limit = has_limit(&told);
     let rows = rows_in(alloc, &told)?;
     Ok(Found {

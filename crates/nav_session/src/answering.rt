@@ -20,6 +20,7 @@ use nav_io::Gate;
 use nav_proto::{ProtoFault, Reply, Request, print_reply, read_request};
 use std::alloc::{AllocError, Global};
 use std::sync::ledger::Ledger;
+use std::thread::Threads;
 use version_board::Commits;
 use version_tree::Edit;
 
@@ -36,7 +37,7 @@ use version_tree::Edit;
 /// A commit's documents are indexed, unless the desk keeps them, and are kept; after an accepted one the oldest go until
 /// all cost at most `MAX_COST`. Each walk that is made counts a step. The first query after `hello`, `pin` or a change
 /// looks at all files of the version once, the others only where their runs go.
-pub fn answer_line<R, B: Commits<R>, G: Gate, L: Ledger>(
+pub fn answer_line<R: Threads + Sync, B: Commits<R>, G: Gate + Sync, L: Ledger>(
     rt: &R,
     alloc: Global,
     desk: &mut Desk,
@@ -82,7 +83,7 @@ fn refuse(alloc: Global, fault: ProtoFault) -> Result<Step, AllocError>
 }
 
 /// What a request is answered with, where room is taken for the reply to an accepted change.
-fn answer_request<R, B: Commits<R>, G: Gate, L: Ledger>(
+fn answer_request<R: Threads + Sync, B: Commits<R>, G: Gate + Sync, L: Ledger>(
     rt: &R,
     alloc: Global,
     desk: &mut Desk,
@@ -121,7 +122,7 @@ fn ends_session(request: &Request) -> bool
 }
 
 /// The reply to a request. The one error is want of memory.
-fn reply_to<R, B: Commits<R>, G: Gate, L: Ledger>(
+fn reply_to<R: Threads + Sync, B: Commits<R>, G: Gate + Sync, L: Ledger>(
     rt: &R,
     alloc: Global,
     desk: &mut Desk,

@@ -11,6 +11,7 @@ use nav_answers::At;
 use nav_io::Gate;
 use nav_proto::{Bounds, PlainError, Point, Reply};
 use std::alloc::{AllocError, Global};
+use std::thread::Threads;
 use version_board::Pins;
 
 /// Where a query stands in its file.
@@ -52,7 +53,7 @@ pub fn define<B: Pins>(
 
 /// The reply to `references`, where a user is named: who refers to the definition there, among the files that the user
 /// may see of the pinned version. The one error is want of memory.
-pub fn references<R, B: Pins, G: Gate>(
+pub fn references<R: Threads + Sync, B: Pins, G: Gate + Sync>(
     rt: &R,
     alloc: Global,
     desk: &mut Desk,

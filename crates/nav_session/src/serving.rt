@@ -16,6 +16,7 @@ use graph_nodes::Steps;
 use nav_io::{Gate, LineReader, Sink, Source};
 use std::alloc::Global;
 use std::sync::ledger::Ledger;
+use std::thread::Threads;
 use version_board::Commits;
 
 /// The most lines of a session.
@@ -57,7 +58,14 @@ impl End {
 /// - 5: memory was refused.
 /// - 6: the next line is longer than a line may be; all before it are answered.
 /// - 7: 1,000,000 lines are answered, and more input stands behind them.
-pub fn serve_session<R, B: Commits<R>, S: Source, K: Sink, G: Gate, L: Ledger>(
+pub fn serve_session<
+    R: Threads + Sync,
+    B: Commits<R>,
+    S: Source,
+    K: Sink,
+    G: Gate + Sync,
+    L: Ledger,
+>(
     rt: &R,
     alloc: Global,
     desk: &mut Desk,
@@ -91,7 +99,7 @@ pub fn serve_session<R, B: Commits<R>, S: Source, K: Sink, G: Gate, L: Ledger>(
 }
 
 // Answers line by line, where the desk has nobody named.
-fn serve_lines<R, B: Commits<R>, S: Source, K: Sink, G: Gate, L: Ledger>(
+fn serve_lines<R: Threads + Sync, B: Commits<R>, S: Source, K: Sink, G: Gate + Sync, L: Ledger>(
     rt: &R,
     alloc: Global,
     desk: &mut Desk,
@@ -127,7 +135,7 @@ fn serve_lines<R, B: Commits<R>, S: Source, K: Sink, G: Gate, L: Ledger>(
 }
 
 // Reads the next line and answers it; none where the input ends.
-fn answer_next<R, B: Commits<R>, S: Source, G: Gate, L: Ledger>(
+fn answer_next<R: Threads + Sync, B: Commits<R>, S: Source, G: Gate + Sync, L: Ledger>(
     rt: &R,
     alloc: Global,
     desk: &mut Desk,

@@ -13,23 +13,23 @@ use Rattle.nav_answers.proofs.Referred.{are_references, flag, none_crowded}
 use Rattle.nav_answers.proofs.referring.references_of.Goals as goal
 
 pub ask_all-requires-clause-references : goal.ask_all-requires-clause-references
-ask_all-requires-clause-references g c =
-    subst (λ (all : List NodeAt). All (IsReferenceIn (graphs_seen c.args.view.now)) all) (sym (c.deref.ensures.value ∙ c.in_ok-all.ensures))
-    (All-from_recursion (IsReferenceIn (graphs_seen c.args.view.now)) (references_from 0 (graphs_seen c.args.view.now)) (all_are (graphs_seen c.args.view.now)))
+ask_all-requires-clause-references g c _ _ =
+    subst (λ (all : List NodeAt). All (IsReferenceIn (graphs_seen c.args.query.now.view.now)) all) (sym (c.deref.ensures.value ∙ c.in_ok-all.ensures))
+    (All-from_recursion (IsReferenceIn (graphs_seen c.args.query.now.view.now)) (references_from 0 (graphs_seen c.args.query.now.view.now)) (all_are (graphs_seen c.args.query.now.view.now)))
 
 pub returns-clause-rows : goal.returns-clause-rows
 returns-clause-rows g c =
-    subst (λ (hits : List Hit). AreReferences c.args.bounds (graphs_seen c.args.view.now) c.args.definition hits) (sym (c.of.ensures ∙ c.in_ok-rows.ensures ∙ ap rows_in c.deref-3.ensures.value))
-    (are_references c.args.bounds (graphs_seen c.args.view.now) c.args.definition c.in_ok-told.told.items (c.in_ok-told.ensures.asked ∙ c.deref.ensures.value ∙ c.in_ok-all.ensures)
-    (recursion_from_All (IsTold c.args.bounds (graphs_seen c.args.view.now) c.args.definition) c.in_ok-told.told.items c.in_ok-told.ensures.told))
+    subst (λ (hits : List Hit). AreReferences c.args.query.now.bounds (graphs_seen c.args.query.now.view.now) c.args.query.now.definition hits) (sym (c.of.ensures ∙ c.in_ok-rows.ensures ∙ ap rows_in c.deref-3.ensures.value))
+    (are_references c.args.query.now.bounds (graphs_seen c.args.query.now.view.now) c.args.query.now.definition c.in_ok-told.told.items (c.in_ok-told.ensures.asked ∙ c.deref.ensures.value ∙ c.in_ok-all.ensures)
+    (recursion_from_All (IsTold c.args.query.now.bounds (graphs_seen c.args.query.now.view.now) c.args.query.now.definition) c.in_ok-told.told.items c.in_ok-told.ensures.told))
 
 pub returns-clause-limit : goal.returns-clause-limit
 returns-clause-limit g c =
-    subst (λ (b : Bool). IsTrue b ↔ HasAnyLimit c.args.bounds (graphs_seen c.args.view.now)) (sym (c.has_limit-limit.ensures ∙ ap (list_any (λ (t : Told). t.limit)) c.deref-2.ensures.value))
-    (flag c.args.bounds (graphs_seen c.args.view.now) c.args.definition c.in_ok-told.told.items (c.in_ok-told.ensures.asked ∙ c.deref.ensures.value ∙ c.in_ok-all.ensures)
-    (recursion_from_All (IsTold c.args.bounds (graphs_seen c.args.view.now) c.args.definition) c.in_ok-told.told.items c.in_ok-told.ensures.told))
+    subst (λ (b : Bool). IsTrue b ↔ HasAnyLimit c.args.query.now.bounds (graphs_seen c.args.query.now.view.now)) (sym (c.has_limit-limit.ensures ∙ ap (list_any (λ (t : Told). t.limit)) c.deref-2.ensures.value))
+    (flag c.args.query.now.bounds (graphs_seen c.args.query.now.view.now) c.args.query.now.definition c.in_ok-told.told.items (c.in_ok-told.ensures.asked ∙ c.deref.ensures.value ∙ c.in_ok-all.ensures)
+    (recursion_from_All (IsTold c.args.query.now.bounds (graphs_seen c.args.query.now.view.now) c.args.query.now.definition) c.in_ok-told.told.items c.in_ok-told.ensures.told))
 
 pub returns-clause-not_crowded : goal.returns-clause-not_crowded
 returns-clause-not_crowded g c =
-    none_crowded c.args.bounds (graphs_seen c.args.view.now) c.args.definition c.in_ok-told.told.items (c.in_ok-told.ensures.asked ∙ c.deref.ensures.value ∙ c.in_ok-all.ensures)
-    (recursion_from_All (IsTold c.args.bounds (graphs_seen c.args.view.now) c.args.definition) c.in_ok-told.told.items c.in_ok-told.ensures.told)
+    none_crowded c.args.query.now.bounds (graphs_seen c.args.query.now.view.now) c.args.query.now.definition c.in_ok-told.told.items (c.in_ok-told.ensures.asked ∙ c.deref.ensures.value ∙ c.in_ok-all.ensures)
+    (recursion_from_All (IsTold c.args.query.now.bounds (graphs_seen c.args.query.now.view.now) c.args.query.now.definition) c.in_ok-told.told.items c.in_ok-told.ensures.told)

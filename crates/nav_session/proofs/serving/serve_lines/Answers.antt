@@ -24,7 +24,7 @@ loop-init g c = record {
 }
 
 pub answer_next-requires : goal.answer_next-requires
-answer_next-requires g c = record { view = c.loop.invariant.under_way.view }
+answer_next-requires g c = (search, (search, c.loop.invariant.under_way.view))
 
 pub returns-in_err-turn-clause-served : goal.returns-in_err-turn-clause-served
 returns-in_err-turn-clause-served g c =

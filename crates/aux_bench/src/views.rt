@@ -1,0 +1,121 @@
+//! The cases of queries over what a user sees.
+
+ghost use Rattle.std.specs.Prelude.{◌≡◌, ◌<◌};
+ghost use Rattle.root_index.specs.Roots.{IsIndexOfView};
+
+use crate::graphs::graph;
+use file_paths::enumerate;
+use graph_nodes::Steps;
+use nav_answers::{Answer, AskFault, At, define, references};
+use nav_io::Unguarded;
+use partial_path::{Bounds, SharedPaths};
+use root_index::RootIndex;
+use std::alloc::Global;
+use std::marker::Brand;
+use std::sync::ledger::{Blank, Ledger};
+use std::thread::Threads;
+use version_tree::{Edit, PathText, Version, View};
+
+/// The node of each file that is asked for its definitions, and the one that is asked for its references.
+const REFERENCE: At = At::Node(0);
+
+const DEFINITION: At = At::Node(1);
+
+/// A path for each line of the text that isn't empty.
+fn paths(alloc: Global, text: &[u8]) -> Option<Vec<String>> {
+    let mut paths = Vec::new(alloc);
+    for line in text.split(|b| *b == b'\n') {
+        if !line.is_empty() {
+            let number = paths.len();
+            paths
+                .push(format!(in alloc; "f{number}.sg.json").ok()?)
+                .ok()?;
+        }
+    }
+    Some(paths)
+}
+
+/// The edits that put the graphs of the lines, each a graph file, at these paths.
+fn edits<L: Ledger>(alloc: Global, paths: &[String], text: &[u8], blank: Blank) -> Option<Vec<Edit>>
+    requires name { blank.name ≡ L.name }
+    requires parts { blank.parts ≡ L.parts }
+    requires some { 0 < blank.parts }
+{
+    let mut steps = Steps::<L>::new(blank);
+    let mut edits = Vec::new(alloc);
+    for (path, line) in paths.iter().zip(text.split(|b| *b == b'\n')) {
+        let file = enumerate(alloc, graph(alloc, line)?, &mut steps).ok()?;
+        let paths = SharedPaths::of(alloc, file).ok()?;
+        let path = PathText::of(alloc, path.as_str()).ok()?;
+        edits.push(Edit::Put { path, paths }).ok()?;
+    }
+    Some(edits)
+}
+
+/// The version with these graphs.
+fn version_of(alloc: Global, paths: &[String], text: &[u8]) -> Option<Version> {
+    let edits = edits::<Brand>(alloc, paths, text, Blank::new(1))?;
+    Version::empty(alloc, 0).amend(alloc, edits.as_slice()).ok()
+}
+
+/// How many rows the answer has.
+fn rows(answer: Result<Answer, AskFault>) -> usize {
+    match answer {
+        Ok(answer) => answer.rows.items().len(),
+        Err(_) => 0,
+    }
+}
+
+/// Asks the files in turn, so many times in all, for the definitions of their node 0 or for the references of their
+/// node 1, over a version with the graphs of the lines: how many rows that gave the last time. `None` where a line is
+/// no graph or is too heavy, or memory is refused.
+pub fn viewed<R: Threads + Sync>(
+    rt: &R,
+    alloc: Global,
+    text: &[u8],
+    times: u32,
+    refers: bool,
+) -> Option<usize> {
+    let paths = paths(alloc, text)?;
+    let version = version_of(alloc, &paths, text)?;
+    asked(rt, alloc, &version, &paths, times, refers)
+}
+
+fn asked<R: Threads + Sync>(
+    rt: &R,
+    alloc: Global,
+    version: &Version,
+    paths: &[String],
+    times: u32,
+    refers: bool,
+) -> Option<usize> {
+    let index = RootIndex::afresh(alloc, version).ok()?;
+    let view = version.view(alloc, "operator").ok()?;
+    if paths.is_empty() {
+        return None;
+    }
+    let mut last = 0;
+    for n in 0..times {
+        let path = paths[n as usize % paths.len()].as_str();
+        last = asked_once(rt, alloc, &view, &index, path, refers);
+    }
+    Some(last)
+}
+
+fn asked_once<R: Threads + Sync>(
+    rt: &R,
+    alloc: Global,
+    view: &View,
+    index: &RootIndex,
+    path: &str,
+    refers: bool,
+) -> usize
+    requires { IsIndexOfView index.now view.now }
+{
+    let bounds = Bounds::usual();
+    if refers {
+        rows(references(rt, alloc, view, index, &Unguarded, path, DEFINITION, bounds))
+    } else {
+        rows(define(alloc, view, index, path, REFERENCE, bounds))
+    }
+}
