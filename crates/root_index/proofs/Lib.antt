@@ -1,5 +1,6 @@
 mod Amended
 mod Gathered
+mod Grouped
 mod InBlocks
 mod KeyOrders
 mod KeyRuns

@@ -10,9 +10,9 @@ use Rattle.root_index.specs.Blocks.{IsBlock, IsEndOf, IsStrict, all_paths, first
 use Rattle.root_index.proofs.KeyOrders.{rank_cmp_total}
 use Rattle.root_index.proofs.InBlocks.{around, put_into, taken_from}
 use Rattle.root_index.proofs.Ranked.{out_at, taken_out}
-use Rattle.root_index.proofs.Sized.{some_place}
+use Rattle.root_index.proofs.Sized.{blocks_filled, some_place}
 
-begun : (q : RootPath → Bool) (m : List RootPath) → first_passes q m ≡ true → 0 < prefix_len q m
+pub begun : (q : RootPath → Bool) (m : List RootPath) → first_passes q m ≡ true → 0 < prefix_len q m
 begun q [] e = absurd (false≢true e)
 begun q (x ∷ xs) e = let more : prefix_len q (x ∷ xs) ≡ 1 + prefix_len q xs = ap (λ b. cond b (1 + prefix_len q xs) 0) e in omega (arith, more)
 
@@ -32,7 +32,7 @@ place_found p blocks n o m sizes sorted count some here place =
       record {
         in_range = inside;
         inside = λ d. let e : length m ≡ length (get_or blocks (n - 1) d) = ap length (get_or_read blocks (n - 1) m inside here d) in omega (arith, e, fits, place);
-        here = some_place p blocks (n - 1) sizes sorted more
+        here = some_place p blocks (n - 1) (blocks_filled blocks sizes) sorted more
             ∙ ap (λ xs. length (all_paths (take (n - 1) blocks)) + prefix_len (is_up_to p) xs) same
             ∙ ap (λ k. length (all_paths (take (n - 1) blocks)) + k) (sym place);
       },

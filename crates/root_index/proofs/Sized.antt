@@ -30,15 +30,15 @@ parted_up_to p ps sorted i j d le h e =
     up_front (rank_cmp (rank (get_or ps i d)) (rank p)) (rank_cmp (rank (get_or ps j d)) (rank p)) (searchable_from_sorted rank_cmp_total rank ps (rank p) sorted i j d le h) e
 
 -- the place that the halving found
-pub no_place : (p : RootPath) (blocks : List (List RootPath)) → All IsBlock blocks → AreByRank (all_paths blocks) → prefix_len (first_passes (is_up_to p)) blocks ≡ 0
+pub no_place : (p : RootPath) (blocks : List (List RootPath)) → All HasSome blocks → AreByRank (all_paths blocks) → prefix_len (first_passes (is_up_to p)) blocks ≡ 0
     → prefix_len (is_up_to p) (all_paths blocks) ≡ 0
 no_place p blocks sizes sorted none =
-    end_is (is_up_to p) blocks (blocks_filled blocks sizes) (parted_up_to p (all_paths blocks) sorted) ∙ ap (λ n. end_in (is_up_to p) n blocks) none
+    end_is (is_up_to p) blocks sizes (parted_up_to p (all_paths blocks) sorted) ∙ ap (λ n. end_in (is_up_to p) n blocks) none
 
-pub some_place : (p : RootPath) (blocks : List (List RootPath)) (k : ℕ) → All IsBlock blocks → AreByRank (all_paths blocks) → prefix_len (first_passes (is_up_to p)) blocks ≡ suc k
+pub some_place : (p : RootPath) (blocks : List (List RootPath)) (k : ℕ) → All HasSome blocks → AreByRank (all_paths blocks) → prefix_len (first_passes (is_up_to p)) blocks ≡ suc k
     → prefix_len (is_up_to p) (all_paths blocks) ≡ length (all_paths (take k blocks)) + prefix_len (is_up_to p) (get_or blocks k [])
 some_place p blocks k sizes sorted some =
-    end_is (is_up_to p) blocks (blocks_filled blocks sizes) (parted_up_to p (all_paths blocks) sorted) ∙ ap (λ n. end_in (is_up_to p) n blocks) some
+    end_is (is_up_to p) blocks sizes (parted_up_to p (all_paths blocks) sorted) ∙ ap (λ n. end_in (is_up_to p) n blocks) some
 
 -- the last paths are cut off, as a block of their own
 pub cut_off : (slots rest last whole : List RootPath) (blocks more : List (List RootPath)) (at : ℕ) → rest ≡ take at slots → last ≡ drop at slots → more ≡ blocks ++ last ∷ []
@@ -56,12 +56,12 @@ half_block slots last n count many is =
     record { some = omega (arith, cut, same, count, many); few = omega (arith, cut, same, count, many) }
 
 -- where a key ends, by the blocks that begin within it
-pub none_within : (t : RootPath → Bool) (blocks : List (List RootPath)) (n : ℕ) (ps : List RootPath) → All IsBlock blocks → all_paths blocks ≡ ps → IsPartitionedBy t ps
+pub none_within : (t : RootPath → Bool) (blocks : List (List RootPath)) (n : ℕ) (ps : List RootPath) → All HasSome blocks → all_paths blocks ≡ ps → IsPartitionedBy t ps
     → n ≡ prefix_len (first_passes t) blocks → n ≡ 0 → 0 ≡ prefix_len t ps
 none_within t blocks n ps sizes whole parted count none =
-    sym (ap (prefix_len t) (sym whole) ∙ end_is t blocks (blocks_filled blocks sizes) (subst (IsPartitionedBy t) (sym whole) parted) ∙ ap (λ k. end_in t k blocks) (sym count ∙ none))
+    sym (ap (prefix_len t) (sym whole) ∙ end_is t blocks sizes (subst (IsPartitionedBy t) (sym whole) parted) ∙ ap (λ k. end_in t k blocks) (sym count ∙ none))
 
-pub some_within : (t : RootPath → Bool) (blocks : List (List RootPath)) (n start o : ℕ) (m ps : List RootPath) → All IsBlock blocks → all_paths blocks ≡ ps → IsPartitionedBy t ps
+pub some_within : (t : RootPath → Bool) (blocks : List (List RootPath)) (n start o : ℕ) (m ps : List RootPath) → All HasSome blocks → all_paths blocks ≡ ps → IsPartitionedBy t ps
     → n ≡ prefix_len (first_passes t) blocks → (n ≡ 0 → ⊥) → m ≡ get_or blocks (n - 1) m → start ≡ length (all_paths (take (n - 1) blocks)) → o ≡ prefix_len t m
     → start + o ≡ prefix_len t ps
 some_within t blocks n start o m ps sizes whole parted count some here at place =
@@ -70,6 +70,6 @@ some_within t blocks n start o m ps sizes whole parted count some here at place 
     let more : prefix_len (first_passes t) blocks ≡ suc (n - 1) = omega (arith, count, some) in
     let same : get_or blocks (n - 1) [] ≡ m = sym (get_or_read blocks (n - 1) m inside here []) in
     let told : prefix_len t ps ≡ length (all_paths (take (n - 1) blocks)) + prefix_len t m
-    = ap (prefix_len t) (sym whole) ∙ end_is t blocks (blocks_filled blocks sizes) (subst (IsPartitionedBy t) (sym whole) parted) ∙ ap (λ k. end_in t k blocks) more
+    = ap (prefix_len t) (sym whole) ∙ end_is t blocks sizes (subst (IsPartitionedBy t) (sym whole) parted) ∙ ap (λ k. end_in t k blocks) more
     ∙ ap (λ b. length (all_paths (take (n - 1) blocks)) + prefix_len t b) same in
     omega (arith, told, at, place)

@@ -9,6 +9,7 @@ use Rattle.std.proofs.lemmas.List.{length-append, get_or_append_left, get_or-app
 use Rattle.std.proofs.lemmas.List.Concat.{flat_map-append}
 use Rattle.std.proofs.lemmas.List.Sums.{prefix_len_passes, prefix_len_stops, prefix_len-le-length}
 use Rattle.std.proofs.lemmas.Option.{slice_get-get_or}
+use Rattle.version_tree.proofs.Joined.{slice_get-left}
 use Rattle.root_index.specs.Roots.{RootPath}
 use Rattle.root_index.specs.Blocks.{AreStarts, all_paths, begins_by}
 use Rattle.root_index.proofs.InBlocks.{around, further}
@@ -29,11 +30,11 @@ not_lt : (a b : ℕ) → b ≤ a → nat_lt a b ≡ false
 not_lt a b h = grind (arith, nat_tests, h)
 
 -- whether there is a block that has begun, by how many have
-module _ (p : ℕ → Bool) (starts : List ℕ) where
+module _ {X : Type 0} (p : X → Bool) (starts : List X) where
   pub past_all : (k : ℕ) → length starts ≤ k → nat_lt k (length starts) ≡ nat_lt k (prefix_len p starts)
   past_all k h = let fits = prefix_len-le-length p starts in not_lt k (length starts) h ∙ sym (not_lt k (prefix_len p starts) (omega (arith, h, fits)))
 
-  pub begun_is : (k d : ℕ) → IsPartitionedBy p starts → k < length starts → p (get_or starts k d) ≡ nat_lt k (prefix_len p starts)
+  pub begun_is : (k : ℕ) (d : X) → IsPartitionedBy p starts → k < length starts → p (get_or starts k d) ≡ nat_lt k (prefix_len p starts)
   begun_is k d parted h = elim (cases_lt k (prefix_len p starts)) [
     | inl below ↦ prefix_len_passes p starts k d below ∙ sym (to_lt k (prefix_len p starts) below)
     | inr above ↦
@@ -135,3 +136,9 @@ module _ (starts : List ℕ) (blocks : List (List RootPath)) (place n : ℕ) (ar
       ∙ ap (λ ps. get_or ps (length (all_paths (take (n - 1) blocks)) + (place - start)) x) (whole_is m here)
       ∙ get_or-append-add (all_paths (take (n - 1) blocks)) (m ++ all_paths (drop (n - 1 + 1) blocks)) (place - start) x
       ∙ get_or_append_left m (all_paths (drop (n - 1 + 1) blocks)) x (place - start) within ∙ sym there)
+
+-- the first of all paths
+pub first_there : (blocks : List (List RootPath)) (m : List RootPath) (x : RootPath) → m ≡ get_or blocks 0 m → 0 < length (all_paths blocks) → slice_get m 0 ≡ Some x
+    → slice_get (all_paths blocks) 0 ≡ Some x
+first_there [] m x here some there = absurd (omega (arith, some))
+first_there (b ∷ bs) m x here some there = slice_get-left b (all_paths bs) 0 x (ap (λ (ps : List RootPath). slice_get ps 0) (sym here) ∙ there)

@@ -1,5 +1,6 @@
 pub mod Amended
 pub mod Blocks
+pub mod Groups
 pub mod Inside
 pub mod Looks
 pub mod Offers

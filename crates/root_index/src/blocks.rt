@@ -1,4 +1,4 @@
-ghost use Rattle.std.specs.Prelude.{◌≡◌, ◌≤◌, ◌<◌, ◌+◌, ◌++◌, length, take, drop, IfOk, OnOk, All};
+ghost use Rattle.std.specs.Prelude.{◌≡◌, ◌≤◌, ◌<◌, ◌+◌, ◌++◌, nat_lt, true, length, take, drop, IfOk, OnOk, All};
 ghost use Rattle.std.specs.List.{prefix_len};
 ghost use Rattle.std.specs.List.Sorted.{IsPartitionedBy};
 ghost use Rattle.root_index.specs.Roots.{AreByRank};
@@ -15,6 +15,8 @@ use std::marker::Model;
 #[derive(Drop)]
 pub(crate) struct Blocks {
     blocks: Vec<Block>,
+    // The block that was changed last, where the next place is looked for first; at first there is none.
+    near: usize,
 }
 
 impl Model for Blocks {
@@ -42,6 +44,7 @@ impl Blocks {
     {
         Blocks {
             blocks: Vec::new(alloc),
+            near: 0,
         }
     }
 
@@ -49,9 +52,9 @@ impl Blocks {
     pub(crate) fn of(alloc: Global, slots: Vec<Slot>) -> Result<Blocks, AllocError>
         ensures { IfOk result (λ blocks. all_paths blocks ≡ slots.items) }
     {
-        Ok(Blocks {
-            blocks: in_blocks(alloc, slots)?,
-        })
+        let blocks = in_blocks(alloc, slots)?;
+        let near = blocks.len();
+        Ok(Blocks { blocks, near })
     }
 
     /// The same blocks once more, not copied. The one error is want of memory.
@@ -59,10 +62,41 @@ impl Blocks {
         ensures { IfOk result (λ blocks. blocks ≡ self.now) }
     {
         let mut blocks = Vec::new(alloc);
+        let near = self.blocks.len();
+        blocks.reserve(near)?;
         for block in &self.blocks {
             blocks.push(block.share()?)?;
         }
-        Ok(Blocks { blocks })
+        Ok(Blocks { blocks, near })
+    }
+
+    /// How many blocks there are.
+    pub(crate) fn len(&self) -> usize
+        ensures count { result ≡ length self.now }
+        ensures some { 0 < length self.now → 0 < length (all_paths self.now) }
+        ensures none { length self.now ≡ 0 → all_paths self.now ≡ [] }
+    {
+        self.blocks.len()
+    }
+
+    /// The first blocks, so many, and the others, of which there is one. The one error is want of memory.
+    pub(crate) fn cut(self, at: usize) -> Result<(Blocks, Blocks), AllocError>
+        requires { at < length self }
+        ensures paths { IfOk result (λ parts. all_paths parts.0 ++ all_paths parts.1 ≡ all_paths self) }
+        ensures count { IfOk result (λ parts. length parts.0 ≡ at) }
+        ensures some { IfOk result (λ parts. 0 < length (all_paths parts.1)) }
+    {
+        let Blocks { mut blocks, near } = self;
+        let last = blocks.split_off(at)?;
+        let rest = Blocks { blocks, near };
+        let end = last.len();
+        Ok((
+            rest,
+            Blocks {
+                blocks: last,
+                near: end,
+            },
+        ))
     }
 
     /// The blocks.
@@ -80,6 +114,7 @@ impl Blocks {
         ensures count { IfOk result (λ found. found.1 ≡ length (all_paths self.now)) }
     {
         let mut starts = Vec::new(alloc);
+        starts.reserve(self.blocks.len())?;
         let mut count: usize = 0;
         for block in &self.blocks {
             starts.push(count)?;
@@ -88,15 +123,15 @@ impl Blocks {
         Ok((starts, count))
     }
 
-    /// How many blocks begin no higher than the path, by halving.
+    /// How many blocks begin no higher than the path: in constant time where the one that was changed last is
+    /// the last of them, else by halving.
     fn blocks_up_to(&self, slot: &Slot) -> usize
         requires { AreByRank (all_paths self.now) }
         ensures value { result ≡ prefix_len (first_passes (is_up_to slot.now)) self.now }
         ensures bound { result ≤ length self.now }
         ensures sizes { All IsBlock self.now }
     {
-        self.blocks
-            .partition_point(|block| is_up_to(block.first(), slot))
+        begun_near(self.blocks.as_slice(), slot, self.near)
     }
 
     /// The place behind those paths that stand no higher than this one, by halving; None where there are none.
@@ -172,11 +207,52 @@ impl Blocks {
         requires { i < length self }
         ensures { IfOk result (λ after. all_paths after ≡ all_paths (take i self) ++ (slots.items ++ all_paths (drop (i + 1) self))) }
     {
-        let Blocks { mut blocks } = self;
+        let Blocks { mut blocks, .. } = self;
         let parts = in_blocks(alloc, slots)?;
         replace(&mut blocks, i, parts)?;
-        Ok(Blocks { blocks })
+        Ok(Blocks { blocks, near: i })
     }
+}
+
+/// How many of the blocks begin no higher than the path: in constant time where the block told is the last of
+/// them, else by halving.
+fn begun_near(blocks: &[Block], slot: &Slot, near: usize) -> usize
+    requires { IsPartitionedBy (first_passes (is_up_to slot.now)) blocks.now }
+    ensures value { result ≡ prefix_len (first_passes (is_up_to slot.now)) blocks.now }
+    ensures bound { result ≤ length blocks.now }
+{
+    if !has_begun(blocks, slot, near) {
+        return begun(blocks, slot);
+    }
+    if !has_begun(blocks, slot, near + 1) {
+        return near + 1;
+    }
+    begun(blocks, slot)
+}
+
+/// Whether there is that block, and it begins no higher than the path.
+fn has_begun(blocks: &[Block], slot: &Slot, block: usize) -> bool
+    requires { IsPartitionedBy (first_passes (is_up_to slot.now)) blocks.now }
+    ensures begun { result ≡ nat_lt block (prefix_len (first_passes (is_up_to slot.now)) blocks.now) }
+    ensures there { result ≡ true → block < length blocks.now }
+{
+    block < blocks.len() && begins_up_to(&blocks[block], slot)
+}
+
+/// How many of the blocks begin no higher than the path, by halving.
+fn begun(blocks: &[Block], slot: &Slot) -> usize
+    requires { IsPartitionedBy (first_passes (is_up_to slot.now)) blocks.now }
+    ensures value { result ≡ prefix_len (first_passes (is_up_to slot.now)) blocks.now }
+    ensures bound { result ≤ length blocks.now }
+{
+    blocks.partition_point(|block| begins_up_to(block, slot))
+}
+
+/// Whether the block's first path stands no higher than the other.
+fn begins_up_to(block: &Block, slot: &Slot) -> bool
+    ensures { result ≡ first_passes (is_up_to slot.now) block.now }
+{
+    is_up_to(block.first(), slot)
 }
 
 /// How many of the paths, which are in order, stand no higher than this one, by halving.
@@ -189,7 +265,7 @@ fn paths_up_to(slots: &[Slot], slot: &Slot) -> usize
 }
 
 /// Whether the first path stands no higher than the second.
-fn is_up_to(other: &Slot, slot: &Slot) -> bool
+pub(crate) fn is_up_to(other: &Slot, slot: &Slot) -> bool
     ensures { result ≡ is_up_to slot.now other.now }
 {
     other.order(slot).is_le()

@@ -1,9 +1,9 @@
-use crate::blocks::Blocks;
 use crate::file_handle::FileHandle;
+use crate::group_list::GroupList;
+use crate::groups::Groups;
 use crate::looks::{RootLook, next_looked};
 use crate::offers::{RootOffers, next_slot};
 use crate::slot::Slot;
-use crate::slot_list::SlotList;
 use partial_path::{PartialPath, Spot, Start};
 use stacks_vars::{Symbol, SymbolStack};
 use std::alloc::{AllocError, Global};
@@ -17,7 +17,7 @@ const FEW_EDITS: usize = 64;
 /// the order of their files. It holds them without a copy. A contract sees them as a list.
 #[derive(Drop)]
 pub struct RootIndex {
-    slots: SlotList,
+    slots: GroupList,
 }
 
 impl Model for RootIndex {
@@ -44,7 +44,7 @@ impl RootIndex {
         ensures index { IsIndexOf [] result }
     {
         RootIndex {
-            slots: SlotList::new(alloc),
+            slots: GroupList::new(alloc),
         }
     }
 
@@ -54,17 +54,17 @@ impl RootIndex {
     {
         let mut slots = slots_of(alloc, version)?;
         slots.sort_unstable_by(|a, b| a.order(b));
-        let blocks = Blocks::of(alloc, slots)?;
+        let groups = Groups::of(alloc, slots)?;
         Ok(RootIndex {
-            slots: SlotList::of(alloc, blocks)?,
+            slots: GroupList::of(alloc, groups)?,
         })
     }
 
     /// The index of the version that the edits make of the old one, of which this is the index. It shares
     /// with this index all blocks of up to 64 paths in which the edited files have no paths, before or
     /// after. The one error is want of memory. Of few edits it takes time that follows the number of paths
-    /// from the root that the edited files have, before and after, and of blocks; of more than 64 it makes the
-    /// index afresh.
+    /// from the root that the edited files have, before and after, and of groups of up to 16 blocks; of more
+    /// than 64 it makes the index afresh.
     pub fn amended(
         &self,
         alloc: Global,
@@ -79,11 +79,11 @@ impl RootIndex {
         if edits.len() > FEW_EDITS {
             return RootIndex::afresh(alloc, new);
         }
-        let blocks = self.slots.blocks().share(alloc)?;
-        let blocks = without_edited(alloc, blocks, old, edits)?;
-        let blocks = with_edited(alloc, blocks, new, edits)?;
+        let groups = self.slots.groups().share(alloc)?;
+        let groups = without_edited(alloc, groups, old, edits)?;
+        let groups = with_edited(alloc, groups, new, edits)?;
         Ok(RootIndex {
-            slots: SlotList::of(alloc, blocks)?,
+            slots: GroupList::of(alloc, groups)?,
         })
     }
 
@@ -202,15 +202,15 @@ fn slots_of(alloc: Global, version: &Version) -> Result<Vec<Slot>, AllocError>
 /// one error is want of memory.
 fn without_edited(
     alloc: Global,
-    blocks: Blocks,
+    groups: Groups,
     old: &Version,
     edits: &[Edit],
-) -> Result<Blocks, AllocError>
-    requires { IsIndexOf old.now.content.rows (all_paths blocks) }
-    ensures { IfOk result (λ rest. all_paths rest ≡ other_paths edits.now (all_paths blocks)) }
+) -> Result<Groups, AllocError>
+    requires { IsIndexOf old.now.content.rows (all_paths groups) }
+    ensures { IfOk result (λ rest. all_paths rest ≡ other_paths edits.now (all_paths groups)) }
 {
     let _count = old.row_count();
-    let mut rest = blocks;
+    let mut rest = groups;
     for edit in edits {
         if let Some(path) = path_of(edit) {
             rest = without_path(alloc, rest, old, path)?;
@@ -222,33 +222,33 @@ fn without_edited(
 /// These paths without those of the version's file at that path. The one error is want of memory.
 fn without_path(
     alloc: Global,
-    blocks: Blocks,
+    groups: Groups,
     old: &Version,
     path: &str,
-) -> Result<Blocks, AllocError>
-    requires order { AreByRank (all_paths blocks) }
-    requires strict { IsStrict (all_paths blocks) }
-    requires from { AreFrom old.now.content.rows (all_paths blocks) }
-    ensures { IfOk result (λ rest. all_paths rest ≡ without_file path.now (all_paths blocks)) }
+) -> Result<Groups, AllocError>
+    requires order { AreByRank (all_paths groups) }
+    requires strict { IsStrict (all_paths groups) }
+    requires from { AreFrom old.now.content.rows (all_paths groups) }
+    ensures { IfOk result (λ rest. all_paths rest ≡ without_file path.now (all_paths groups)) }
 {
     let _count = old.row_count();
     match old.paths_at(path) {
         Some(paths) => {
             let file = FileHandle::of(alloc, path, paths)?;
-            without_file(alloc, blocks, &file)
+            without_file(alloc, groups, &file)
         }
-        None => Ok(blocks),
+        None => Ok(groups),
     }
 }
 
 /// These paths without those of the file, which has all that have its path. The one error is want of memory.
-fn without_file(alloc: Global, blocks: Blocks, file: &FileHandle) -> Result<Blocks, AllocError>
-    requires order { AreByRank (all_paths blocks) }
-    requires strict { IsStrict (all_paths blocks) }
-    requires from { AreOf file.now (all_paths blocks) }
-    ensures { IfOk result (λ rest. all_paths rest ≡ without_file file.now.path (all_paths blocks)) }
+fn without_file(alloc: Global, groups: Groups, file: &FileHandle) -> Result<Groups, AllocError>
+    requires order { AreByRank (all_paths groups) }
+    requires strict { IsStrict (all_paths groups) }
+    requires from { AreOf file.now (all_paths groups) }
+    ensures { IfOk result (λ rest. all_paths rest ≡ without_file file.now.path (all_paths groups)) }
 {
-    let mut rest = blocks;
+    let mut rest = groups;
     let paths = file.paths().get().paths();
     for place in 0..paths.len() {
         if is_from_root(&paths[place]) {
@@ -261,16 +261,16 @@ fn without_file(alloc: Global, blocks: Blocks, file: &FileHandle) -> Result<Bloc
 /// These paths with those of the version's files that an edit puts. The one error is want of memory.
 fn with_edited(
     alloc: Global,
-    blocks: Blocks,
+    groups: Groups,
     new: &Version,
     edits: &[Edit],
-) -> Result<Blocks, AllocError>
-    requires { AreByRank (all_paths blocks) }
+) -> Result<Groups, AllocError>
+    requires { AreByRank (all_paths groups) }
     ensures order { IfOk result (λ more. AreByRank (all_paths more)) }
-    ensures all { IfOk result (λ more. IsPermutation (all_roots (touched_rows edits.now new.now.content.rows) ++ all_paths blocks) (all_paths more)) }
+    ensures all { IfOk result (λ more. IsPermutation (all_roots (touched_rows edits.now new.now.content.rows) ++ all_paths groups) (all_paths more)) }
 {
     let _count = new.row_count();
-    let mut more = blocks;
+    let mut more = groups;
     for i in 0..edits.len() {
         if let Some(path) = path_of(&edits[i]) {
             if !is_touched(&edits[..i], path) {
@@ -282,28 +282,28 @@ fn with_edited(
 }
 
 /// These paths with those of the version's file at that path. The one error is want of memory.
-fn with_path(alloc: Global, blocks: Blocks, new: &Version, path: &str) -> Result<Blocks, AllocError>
-    requires { AreByRank (all_paths blocks) }
+fn with_path(alloc: Global, groups: Groups, new: &Version, path: &str) -> Result<Groups, AllocError>
+    requires { AreByRank (all_paths groups) }
     ensures order { IfOk result (λ more. AreByRank (all_paths more)) }
-    ensures all { IfOk result (λ more. IsPermutation (all_roots (rows_at path.now new.now.content.rows) ++ all_paths blocks) (all_paths more)) }
+    ensures all { IfOk result (λ more. IsPermutation (all_roots (rows_at path.now new.now.content.rows) ++ all_paths groups) (all_paths more)) }
 {
     let _count = new.row_count();
     match new.paths_at(path) {
         Some(paths) => {
             let file = FileHandle::of(alloc, path, paths)?;
-            with_file(alloc, blocks, &file)
+            with_file(alloc, groups, &file)
         }
-        None => Ok(blocks),
+        None => Ok(groups),
     }
 }
 
 /// These paths with those of the file that begin at the root. The one error is want of memory.
-fn with_file(alloc: Global, blocks: Blocks, file: &FileHandle) -> Result<Blocks, AllocError>
-    requires { AreByRank (all_paths blocks) }
+fn with_file(alloc: Global, groups: Groups, file: &FileHandle) -> Result<Groups, AllocError>
+    requires { AreByRank (all_paths groups) }
     ensures order { IfOk result (λ more. AreByRank (all_paths more)) }
-    ensures all { IfOk result (λ more. IsPermutation (roots_of file.now ++ all_paths blocks) (all_paths more)) }
+    ensures all { IfOk result (λ more. IsPermutation (roots_of file.now ++ all_paths groups) (all_paths more)) }
 {
-    let mut more = blocks;
+    let mut more = groups;
     let paths = file.paths().get().paths();
     for place in 0..paths.len() {
         if is_from_root(&paths[place]) {

@@ -4,6 +4,9 @@
 mod block;
 mod blocks;
 mod file_handle;
+mod group;
+mod group_list;
+mod groups;
 mod index;
 mod laws;
 mod looks;

@@ -8,8 +8,8 @@ ghost use Rattle.root_index.specs.Roots.{AreByRank, root_key};
 ghost use Rattle.root_index.specs.Offers.{asks, next_paths, paths_left, offers_at};
 ghost use Rattle.root_index.specs.Inside.{key_order, is_before_key, is_at_key};
 
+use crate::group_list::GroupList;
 use crate::slot::Slot;
-use crate::slot_list::SlotList;
 use partial_path::KEY_SIZE;
 use stacks_vars::SymbolStack;
 
@@ -21,14 +21,14 @@ pub struct RootOffers {
     pub end: usize,
     /// Behind that run come the paths that ask for so many symbols or more.
     pub asked: usize,
-    /// The block of the last path, in which and behind which the next one is looked for first.
+    /// The group of the last path, in which and behind which the next one is looked for first.
     pub near: usize,
 }
 
 /// The path that comes next, whoever may see it, and where the look-up stands after it; None where there is
 /// no more. The paths are in order.
 pub(crate) fn next_slot<'a>(
-    slots: &'a SlotList,
+    slots: &'a GroupList,
     symbols: &SymbolStack,
     at: RootOffers,
 ) -> Option<(&'a Slot, RootOffers)>
@@ -49,8 +49,8 @@ pub(crate) fn next_slot<'a>(
     }
 }
 
-/// The next path of the present run, and its block; None where that run is at its end.
-fn next_here(slots: &SlotList, at: RootOffers) -> Option<(&Slot, usize)>
+/// The next path of the present run, and its group; None where that run is at its end.
+fn next_here(slots: &GroupList, at: RootOffers) -> Option<(&Slot, usize)>
     ensures value { MatchOption result (slice_get (next_paths at slots.now) 0 ≡ None) (λ found. slice_get (next_paths at slots.now) 0 ≡ Some found.0.now) }
     ensures inside { IfSome result (λ _. at.place < at.end) }
 {
@@ -63,7 +63,7 @@ fn next_here(slots: &SlotList, at: RootOffers) -> Option<(&Slot, usize)>
 
 /// The first path of the runs to come, and where the look-up stands after it; None where they have none.
 fn next_run<'a>(
-    slots: &'a SlotList,
+    slots: &'a GroupList,
     symbols: &SymbolStack,
     at: RootOffers,
 ) -> Option<(&'a Slot, RootOffers)>
@@ -89,7 +89,7 @@ fn next_run<'a>(
 
 /// Where the paths stand whose key is made of the texts of the stack's first symbols, so many of them: from
 /// which place on, and before which. They are found by halving.
-fn run_asking(slots: &SlotList, symbols: &SymbolStack, count: usize) -> (usize, usize)
+fn run_asking(slots: &GroupList, symbols: &SymbolStack, count: usize) -> (usize, usize)
     requires order { AreByRank slots.now }
     requires count { count ≤ key_size }
     ensures run { take (result.1 - result.0) (drop result.0 slots.now) ≡ filter (is_at_key (take count (texts symbols.now))) slots.now }

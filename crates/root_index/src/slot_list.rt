@@ -34,22 +34,11 @@ impl Model for SlotList {
 }
 
 impl SlotList {
-    ghost use Rattle.std.specs.Prelude.{◌≡◌, ◌<◌, ◌≤◌, [], length, take, slice_get, None, Some, IfOk, MatchOption};
+    ghost use Rattle.std.specs.Prelude.{◌≡◌, ◌<◌, ◌≤◌, length, take, slice_get, Some, IfOk};
     ghost use Rattle.std.specs.List.{prefix_len};
     ghost use Rattle.std.specs.List.Sorted.{IsPartitionedBy};
     ghost use Rattle.partial_path.specs.Keys.{key_size, texts};
     ghost use Rattle.root_index.specs.Blocks.{all_paths, is_within_key};
-
-    /// No paths. It takes no memory.
-    pub(crate) fn new(alloc: Global) -> SlotList
-        ensures { result ≡ [] }
-    {
-        SlotList {
-            blocks: Blocks::new(alloc),
-            starts: Vec::new(alloc),
-            count: 0,
-        }
-    }
 
     /// The paths of these blocks. The one error is want of memory.
     pub(crate) fn of(alloc: Global, blocks: Blocks) -> Result<SlotList, AllocError>
@@ -70,27 +59,36 @@ impl SlotList {
         &self.blocks
     }
 
-    /// The path at that place, and the number of its block; None past the last. It takes constant time where
-    /// that is the block told or the next one, else time that follows the logarithm of the number of blocks.
-    pub(crate) fn get(&self, place: usize, near: usize) -> Option<(&Slot, usize)>
-        ensures { MatchOption result (slice_get self.now place ≡ None) (λ found. slice_get self.now place ≡ Some found.0.now) }
+    /// How many paths there are.
+    pub(crate) fn len(&self) -> usize
+        ensures { result ≡ length self.now }
     {
-        if place < self.count {
-            Some(self.at(place, near))
-        } else {
-            None
-        }
+        self.count
     }
 
-    /// The path at that place, and the number of its block. It takes constant time where that is the block
-    /// told or the next one, else time that follows the logarithm of the number of blocks.
-    pub(crate) fn at(&self, place: usize, near: usize) -> (&Slot, usize)
-        requires { place < length self.now }
-        ensures { slice_get self.now place ≡ Some result.0.now }
+    /// The blocks, which held the paths.
+    pub(crate) fn into_blocks(self) -> Blocks
+        ensures { all_paths result ≡ self }
     {
-        let block = blocks_near(self.starts.as_slice(), place, near) - 1;
-        let slot = &self.blocks.blocks()[block].slots()[place - self.starts[block]];
-        (slot, block)
+        let SlotList { blocks, .. } = self;
+        blocks
+    }
+
+    /// The first path.
+    pub(crate) fn first(&self) -> &Slot
+        requires { 0 < length self.now }
+        ensures { slice_get self.now 0 ≡ Some result.now }
+    {
+        self.blocks.blocks()[0].first()
+    }
+
+    /// The path at that place, by halving over the blocks.
+    pub(crate) fn at(&self, place: usize) -> &Slot
+        requires { place < length self.now }
+        ensures { slice_get self.now place ≡ Some result.now }
+    {
+        let block = blocks_begun(self.starts.as_slice(), place) - 1;
+        &self.blocks.blocks()[block].slots()[place - self.starts[block]]
     }
 
     /// How many paths stand before the key that the texts of the stack's first symbols make, so many of
@@ -111,9 +109,9 @@ impl SlotList {
     }
 }
 
-/// How many blocks begin no later than at the place: in constant time where the block told, or the next one,
-/// is the last of them, else by halving.
-fn blocks_near(starts: &[usize], place: usize, near: usize) -> usize
+/// How many blocks, or groups of them, begin no later than at the place: in constant time where the one told, or
+/// the next one, is the last of them, else by halving.
+pub(crate) fn blocks_near(starts: &[usize], place: usize, near: usize) -> usize
     requires { IsPartitionedBy (begins_by place) starts.now }
     ensures value { result ≡ prefix_len (begins_by place) starts.now }
     ensures bound { result ≤ length starts.now }
@@ -177,7 +175,7 @@ fn begins_within(block: &Block, symbols: &SymbolStack, count: usize, closed: boo
 }
 
 /// Whether the path stands before the key, or at it where that is closed.
-fn is_within_key(slot: &Slot, symbols: &SymbolStack, count: usize, closed: bool) -> bool
+pub(crate) fn is_within_key(slot: &Slot, symbols: &SymbolStack, count: usize, closed: bool) -> bool
     requires { count ≤ key_size }
     ensures { result ≡ is_within_key closed (take count (texts symbols.now)) slot.now }
 {

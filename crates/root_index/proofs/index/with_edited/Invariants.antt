@@ -9,5 +9,5 @@ use Rattle.root_index.proofs.index.with_edited.Given as goal
 abbrev pub invariant-loop-i : goal.invariant-loop-i
 invariant-loop-i l = record {
   order : AreByRank (all_paths l.more);
-  all : IsPermutation (all_roots (touched_rows (take l.i l.edits) l.new.content.rows) ++ all_paths l.fn.blocks) (all_paths l.more);
+  all : IsPermutation (all_roots (touched_rows (take l.i l.edits) l.new.content.rows) ++ all_paths l.fn.groups) (all_paths l.more);
 }

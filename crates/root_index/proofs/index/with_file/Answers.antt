@@ -16,7 +16,7 @@ pub loop-place-preserved : goal.loop-place-preserved
 loop-place-preserved c =
     let rules_are : c.paths-paths.result.now ≡ c.args.file.now.file.rules
     = c.paths-paths.ensures.value ∙ ap (λ (f : FileRules). f.rules) (c.get.ensures.value ∙ c.paths.ensures) in
-    let whole : List RootPath = roots_of c.args.file.now ++ all_paths c.args.blocks in
+    let whole : List RootPath = roots_of c.args.file.now ++ all_paths c.args.groups in
     elim c.if-is_from_root.branch [
       | then-is_from_root+in_ok-share+in_ok-more w ↦
           let slot_is : w.of.result ≡ root_path c.args.file.now.path c.loop-place.place (slice_get c.paths-paths.result.now c.loop-place.place)

@@ -8,5 +8,5 @@ use Rattle.root_index.proofs.index.with_file.Given as goal
 abbrev pub invariant-loop-place : goal.invariant-loop-place
 invariant-loop-place l = record {
   order : AreByRank (all_paths l.more);
-  all : IsPermutation (roots_of l.file ++ all_paths l.fn.blocks) (roots_from l.file.path l.place (drop l.place l.paths) ++ all_paths l.more);
+  all : IsPermutation (roots_of l.file ++ all_paths l.fn.groups) (roots_from l.file.path l.place (drop l.place l.paths) ++ all_paths l.more);
 }

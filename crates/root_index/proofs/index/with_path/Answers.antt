@@ -9,4 +9,4 @@ returns-in_ok-file-in-Some-clause-all c =
 
 pub returns-in-None-clause-all : goal.returns-in-None-clause-all
 returns-in-None-clause-all c =
-    no_file_in c.args.path.now c.args.new.now.content.rows (all_paths c.args.blocks) c.row_count-count.ensures.rows.order c.in-None.ensures
+    no_file_in c.args.path.now c.args.new.now.content.rows (all_paths c.args.groups) c.row_count-count.ensures.rows.order c.in-None.ensures

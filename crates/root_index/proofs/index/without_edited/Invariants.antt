@@ -5,4 +5,4 @@ use Rattle.root_index.proofs.index.without_edited.Given as goal
 
 -- the paths of the files that an earlier edit touches are out
 abbrev pub invariant-loop-edit : goal.invariant-loop-edit
-invariant-loop-edit l = all_paths l.rest ≡ other_paths (take l.edit-index l.edits) (all_paths l.fn.blocks)
+invariant-loop-edit l = all_paths l.rest ≡ other_paths (take l.edit-index l.edits) (all_paths l.fn.groups)

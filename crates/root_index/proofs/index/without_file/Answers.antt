@@ -11,15 +11,15 @@ use Rattle.root_index.proofs.index.without_file.Goals as goal
 use Rattle.root_index.proofs.index.without_file.Goals.{then-is_from_root+in_ok-share+in_ok-rest, else-is_from_root}
 
 pub loop-place-init : goal.loop-place-init
-loop-place-init c = sym (none_yet c.args.file.now (all_paths c.args.blocks))
+loop-place-init c = sym (none_yet c.args.file.now (all_paths c.args.groups))
 
 pub without-requires-clause-order : goal.without-requires-clause-order
 without-requires-clause-order c =
-    subst AreByRank (sym c.loop-place.invariant) (order_kept (is_left c.args.file.now c.loop-place.place) (all_paths c.args.blocks) c.requires.order)
+    subst AreByRank (sym c.loop-place.invariant) (order_kept (is_left c.args.file.now c.loop-place.place) (all_paths c.args.groups) c.requires.order)
 
 pub without-requires-clause-strict : goal.without-requires-clause-strict
 without-requires-clause-strict c =
-    subst IsStrict (sym c.loop-place.invariant) (strict_kept (is_left c.args.file.now c.loop-place.place) (all_paths c.args.blocks) c.requires.strict)
+    subst IsStrict (sym c.loop-place.invariant) (strict_kept (is_left c.args.file.now c.loop-place.place) (all_paths c.args.groups) c.requires.strict)
 
 -- a path from the root is taken out; at another's place none stands
 pub loop-place-preserved : goal.loop-place-preserved
@@ -32,12 +32,12 @@ loop-place-preserved c =
           = w.of.ensures ∙ ap (λ (f : FileRow). root_path f.path c.loop-place.place (slice_get f.file.rules c.loop-place.place)) w.in_ok-share.ensures in
           ap all_paths w.rest-is ∙ w.in_ok-rest.ensures
           ∙ (λ i. filter (λ (q : RootPath). not (is_tied (slot_is i) q)) (c.loop-place.invariant i))
-          ∙ one_out c.args.file.now c.loop-place.place (all_paths c.args.blocks) c.requires.from
+          ∙ one_out c.args.file.now c.loop-place.place (all_paths c.args.groups) c.requires.from
       | else-is_from_root w ↦
           let count = ap length rules_are in
           let inside : c.loop-place.place < length c.args.file.now.file.rules = omega (arith, c.loop-place-test.true, count) in
           ap all_paths w.rest-is ∙ c.loop-place.invariant
-          ∙ none_out c.args.file.now c.loop-place.place (all_paths c.args.blocks) c.requires.from c.index-paths-place.result inside
+          ∙ none_out c.args.file.now c.loop-place.place (all_paths c.args.groups) c.requires.from c.index-paths-place.result inside
           (ap (begins_at root) (sym (c.index-paths-place.is ∙ ap (λ (rs : List Rule). get_or rs c.loop-place.place c.index-paths-place.result) rules_are))
           ∙ sym c.is_from_root.ensures ∙ w.if-is_from_root.false)
     ]
@@ -47,4 +47,4 @@ returns c =
     let rules_are : c.paths-paths.result.now ≡ c.args.file.now.file.rules
     = c.paths-paths.ensures.value ∙ ap (λ (f : FileRules). f.rules) (c.get.ensures.value ∙ c.paths.ensures) in
     let count = ap length rules_are in
-    c.loop-place.invariant ∙ all_out c.args.file.now (all_paths c.args.blocks) c.loop-place.place c.requires.from (omega (arith, c.loop-place-test.false, count))
+    c.loop-place.invariant ∙ all_out c.args.file.now (all_paths c.args.groups) c.loop-place.place c.requires.from (omega (arith, c.loop-place-test.false, count))

@@ -6,4 +6,4 @@ use Rattle.root_index.proofs.index.without_file.Given as goal
 
 -- the file's paths of earlier places are out
 abbrev pub invariant-loop-place : goal.invariant-loop-place
-invariant-loop-place l = all_paths l.rest ≡ filter (is_left l.file l.place) (all_paths l.fn.blocks)
+invariant-loop-place l = all_paths l.rest ≡ filter (is_left l.file l.place) (all_paths l.fn.groups)

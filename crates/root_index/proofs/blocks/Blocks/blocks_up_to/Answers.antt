@@ -1,16 +1,11 @@
-use Rattle.std.proofs.Common.{rules}
-use Rattle.std.proofs.lemmas.List.Sorted.{IsPartitionPoint-from_clause}
-use Rattle.partial_path.proofs.Halved.{prefix_from_point}
+use Rattle.std.proofs.Common.{subst, sym, ◌∙◌}
+use Rattle.std.specs.List.Sorted.{IsPartitionedBy}
 use Rattle.root_index.specs.Blocks.{first_passes, is_up_to}
 use Rattle.root_index.proofs.InBlocks.{parted_blocks}
 use Rattle.root_index.proofs.Sized.{blocks_filled, parted_up_to}
 use Rattle.root_index.proofs.blocks.Blocks.blocks_up_to.Goals as goal
 
-pub returns-clause-value : goal.returns-clause-value
-returns-clause-value c =
-    rw (← c.self.view_is, ← c.deref.ensures.value)
-    (prefix_from_point (first_passes (is_up_to c.args.slot.now)) _ _ c.partition_point.ensures.bound
-    (IsPartitionPoint-from_clause (first_passes (is_up_to c.args.slot.now)) _ _ c.partition_point.ensures.partitioned
-    (rw (c.deref.ensures.value, c.self.view_is)
-    (parted_blocks (is_up_to c.args.slot.now) c.args.self.now (blocks_filled c.args.self.now (rw c.self.view_is at c.self.invariant)) (parted_up_to c.args.slot.now _ c.requires)))
-    (λ a r q k. search rules)))
+pub begun_near-requires : goal.begun_near-requires
+begun_near-requires c =
+    subst (IsPartitionedBy (first_passes (is_up_to c.args.slot.now))) (sym (c.as_slice.ensures.value ∙ c.self.view_is))
+    (parted_blocks (is_up_to c.args.slot.now) c.args.self.now (blocks_filled c.args.self.now (rw c.self.view_is at c.self.invariant)) (parted_up_to c.args.slot.now _ c.requires))

@@ -3,13 +3,13 @@ use Rattle.std.specs.List.{prefix_len}
 use Rattle.std.specs.List.Sorted.{IsPartitionedBy}
 use Rattle.root_index.specs.Blocks.{is_up_to, all_paths}
 use Rattle.root_index.proofs.InBlocks.{parted_block}
-use Rattle.root_index.proofs.Sized.{no_place, parted_up_to}
+use Rattle.root_index.proofs.Sized.{blocks_filled, no_place, parted_up_to}
 use Rattle.root_index.proofs.Placed.{place_found}
 use Rattle.root_index.proofs.blocks.Blocks.place_of.Goals as goal
 
 pub returns-then-count-eq0 : goal.returns-then-count-eq0
 returns-then-count-eq0 c =
-    no_place c.args.slot.now c.args.self.now c.blocks_up_to-count.ensures.sizes c.requires (sym c.blocks_up_to-count.ensures.value ∙ c.if-count-eq0.true)
+    no_place c.args.slot.now c.args.self.now (blocks_filled c.args.self.now c.blocks_up_to-count.ensures.sizes) c.requires (sym c.blocks_up_to-count.ensures.value ∙ c.if-count-eq0.true)
 
 pub paths_up_to-requires : goal.paths_up_to-requires
 paths_up_to-requires c =

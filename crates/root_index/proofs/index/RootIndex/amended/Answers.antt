@@ -9,20 +9,20 @@ use Rattle.root_index.proofs.index.RootIndex.amended.Goals as goal
 
 pub with_edited-requires : goal.with_edited-requires
 with_edited-requires c =
-    let shared = ap all_paths c.in_ok-blocks.ensures ∙ c.blocks-2.ensures ∙ c.self.view_is in
-    subst AreByRank (sym (c.in_ok-blocks-2.ensures ∙ ap (other_paths c.args.edits.now) shared))
+    let shared = ap all_paths c.in_ok-groups.ensures ∙ c.groups.ensures ∙ c.self.view_is in
+    subst AreByRank (sym (c.in_ok-groups-2.ensures ∙ ap (other_paths c.args.edits.now) shared))
     (order_kept (λ (p : RootPath). not (is_touched c.args.edits.now p.path)) c.args.self.now c.requires.index.order)
 
 pub invariant_of-result : goal.invariant_of-result
-invariant_of-result c = subst AreByRank (sym c.in_ok-of.ensures) c.in_ok-blocks-3.ensures.order
+invariant_of-result c = subst AreByRank (sym c.in_ok-of.ensures) c.in_ok-groups-3.ensures.order
 
 -- the paths of the other files and those of the touched rows are all paths of the new rows
 pub returns : goal.returns
 returns c =
-    let shared = ap all_paths c.in_ok-blocks.ensures ∙ c.blocks-2.ensures ∙ c.self.view_is in
+    let shared = ap all_paths c.in_ok-groups.ensures ∙ c.groups.ensures ∙ c.self.view_is in
     record {
       all = subst (IsPermutation (all_roots c.args.new.now.content.rows)) (sym c.in_ok-of.ensures)
-          (amended_all c.args.edits.now c.args.old.now.content c.args.new.now.content.rows c.args.self.now (all_paths c.in_ok-blocks-2.blocks) (all_paths c.in_ok-blocks-3.blocks)
-          c.requires.index c.requires.rows (c.in_ok-blocks-2.ensures ∙ ap (other_paths c.args.edits.now) shared) c.in_ok-blocks-3.ensures.all);
+          (amended_all c.args.edits.now c.args.old.now.content c.args.new.now.content.rows c.args.self.now (all_paths c.in_ok-groups-2.groups) (all_paths c.in_ok-groups-3.groups)
+          c.requires.index c.requires.rows (c.in_ok-groups-2.ensures ∙ ap (other_paths c.args.edits.now) shared) c.in_ok-groups-3.ensures.all);
       order = invariant_of-result c;
     }

@@ -15,7 +15,7 @@ blocks_within-found-requires-clause-parted c =
 
 pub returns-then-found-eq0-clause-value : goal.returns-then-found-eq0-clause-value
 returns-then-found-eq0-clause-value c =
-    none_within (is_within_key c.args.closed (take c.args.count (texts c.args.symbols.now))) c.self.inside.blocks c.blocks_within-found.result c.args.self.now c.blocks-blocks.ensures.sizes c.self.view_is c.requires.parted
+    none_within (is_within_key c.args.closed (take c.args.count (texts c.args.symbols.now))) c.self.inside.blocks c.blocks_within-found.result c.args.self.now (blocks_filled c.self.inside.blocks c.blocks-blocks.ensures.sizes) c.self.view_is c.requires.parted
     (c.blocks_within-found.ensures.value ∙ ap (prefix_len (first_passes (is_within_key c.args.closed (take c.args.count (texts c.args.symbols.now))))) c.blocks-blocks.ensures.blocks) c.if-found-eq0.true
 
 pub paths_within-requires-clause-parted : goal.paths_within-requires-clause-parted
@@ -37,7 +37,7 @@ returns-clause-value c =
     let some = c.if-found-eq0.false in
     let inside : c.blocks_within-found.result - 1 < length c.self.inside.blocks = omega (arith, bound, some, count) in
     some_within (is_within_key c.args.closed (take c.args.count (texts c.args.symbols.now))) c.self.inside.blocks c.blocks_within-found.result c.index.result.now c.paths_within.result c.index-blocks-block.result c.args.self.now
-    c.blocks-blocks.ensures.sizes c.self.view_is c.requires.parted (c.blocks_within-found.ensures.value ∙ ap (prefix_len (first_passes (is_within_key c.args.closed (take c.args.count (texts c.args.symbols.now))))) c.blocks-blocks.ensures.blocks) some here
+    (blocks_filled c.self.inside.blocks c.blocks-blocks.ensures.sizes) c.self.view_is c.requires.parted (c.blocks_within-found.ensures.value ∙ ap (prefix_len (first_passes (is_within_key c.args.closed (take c.args.count (texts c.args.symbols.now))))) c.blocks-blocks.ensures.blocks) some here
     (c.index.ensures ∙ c.self.invariant.0.each (c.blocks_within-found.result - 1) c.index.result.now inside)
     (c.paths_within.ensures.value ∙ ap (prefix_len (is_within_key c.args.closed (take c.args.count (texts c.args.symbols.now)))) c.slots.ensures.slots)
 
