@@ -305,3 +305,70 @@ fn a_removed_file_is_missed_and_found_again(rt: HostRuntime) -> Result<(), Fail>
     assert_eq!(rt; looked_at_130(rt.alloc())?, (130, 129, 130));
     Ok(())
 }
+
+/// The paths that are offered to ann's stack, each by its file's number and by how many symbols it asks for.
+fn told_offers(alloc: Global, kept: &Kept, stack: &str) -> Result<String, Fail> {
+    let stacks = stacks_of(alloc, stack)?;
+    let mut text = String::new(alloc);
+    for (file, asked, _) in offered(alloc, &kept.index, &kept.version, "ann", &stacks.symbols)? {
+        text.push_str(format!(in alloc; " {file}:{asked}")?.as_str())?;
+    }
+    Ok(text)
+}
+
+/// The paths that a look of ann at the stack's first symbol gives, in the same words.
+fn told_look(alloc: Global, kept: &Kept, stack: &str) -> Result<String, Fail> {
+    let view = kept.version.view(alloc, "ann")?;
+    let stacks = stacks_of(alloc, stack)?;
+    let symbol = stacks.symbols.reversed().last().map(|item| &item.symbol);
+    let mut at = kept.index.look(symbol, &view);
+    let mut text = String::new(alloc);
+    for _ in 0..PATHS {
+        let Some(next) = kept.index.next_path(symbol, &view, at) else {
+            break;
+        };
+        at = next.2;
+        let (file, asked, _) = told(next.0, next.1);
+        text.push_str(format!(in alloc; " {file}:{asked}")?.as_str())?;
+    }
+    Ok(text)
+}
+
+/// The lines of edits, from nothing on, each with what is offered to two stacks of ann, and what looks at their
+/// first symbols give, after it.
+fn told_lines(alloc: Global, lines: &str) -> Result<String, Fail> {
+    let mut kept = Kept::new(alloc);
+    let mut text = String::new(alloc);
+    for line in lines.split('\n') {
+        let line = line.split_once(" => ").unwrap_or((line, "")).0;
+        let edits = edits_of(alloc, line)?;
+        kept = kept.amended(alloc, edits.as_slice())?;
+        text.push_str(line)?;
+        text.push_str(" =>")?;
+        for stack in &["a|", "bx|"] {
+            let offers = told_offers(alloc, &kept, stack)?;
+            let look = told_look(alloc, &kept, stack)?;
+            let told = format!(in alloc; " {stack}{offers} look{look},")?;
+            text.push_str(told.as_str())?;
+        }
+        text.push_str("\n")?;
+    }
+    Ok(text)
+}
+
+/// Files that ann isn't granted come and go, before, between and behind those that she sees, and nothing changes
+/// for her; then a file comes that she sees, and another goes.
+const UNSEEN: &str = "!lib lib/b=1 lib/c=2 => a| 0:1 look 0:1, bx| 1:2 look 1:2,
+aaa=1 lib0=2 => a| 0:1 look 0:1, bx| 1:2 look 1:2,
+zzz=1 app/d=2 aaa => a| 0:1 look 0:1, bx| 1:2 look 1:2,
+zzz lib0 app/d => a| 0:1 look 0:1, bx| 1:2 look 1:2,
+lib/a=1 => a| 0:1 1:1 look 0:1 1:1, bx| 2:2 look 2:2,
+lib/b zzz=2 => a| 0:1 look 0:1, bx| 1:2 look 1:2,
+";
+
+#[test]
+fn files_that_are_not_seen_change_no_look_up(rt: HostRuntime) -> Result<(), Fail> {
+    let lines = UNSEEN.trim_end();
+    assert_eq!(rt; told_lines(rt.alloc(), lines)?.as_str(), UNSEEN);
+    Ok(())
+}
