@@ -1,0 +1,3 @@
+mod Counting
+mod Starts
+mod Utf16
