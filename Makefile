@@ -2,13 +2,13 @@
 
 .PHONY: example build test statuses
 
-# Compiles the program without its proofs and answers the stored graph.
+# Compiles the program without its proofs and answers the stored session.
 example:
-	cd crates/navd && rt try -- once < stdin
+	cd crates/navd && rt try -- run < stdin
 
-# Proves all that the program stands on, builds it as crates/navd/out/navd, and answers the stored graph.
+# Proves all that the program stands on, builds it as crates/navd/out/navd, and answers the stored session.
 build:
-	cd crates/navd && rt run -- once < stdin
+	cd crates/navd && rt run -- run < stdin
 
 test:
 	rt ci

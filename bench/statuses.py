@@ -35,7 +35,22 @@ NO_GRAPH = b'{"error":"bad_request","field":"graph"}\n'
 NO_NODE = b'{"error":"bad_request","field":"node"}\n'
 NOT_JSON = b'{"error":"bad_file","fault":"json","path":"%s.sg.json"}\n'
 LARGE = b'{"bytes":8388608,"error":"bad_file","fault":"large","path":"%s.sg.json"}\n'
-USAGE = b"usage: navd once | navd upgrade (the input is read from standard input)\n"
+SAID = {
+    0: b"",
+    2: b"usage: navd once | navd upgrade | navd run (the input is read from standard input) | navd demo FILES START\n",
+    3: b"navd: reading standard input failed\n",
+    4: b"navd: writing standard output failed\n",
+    5: b"navd: memory was refused\n",
+    6: b"navd: a line has more than 8388608 bytes\n",
+    7: b"navd: 1000000 lines were answered, and more input stands behind them\n",
+}
+HELLO = b'{"do":"hello","user":"operator"}\n'
+PIN = b'{"do":"pin"}\n'
+QUIT = b'{"do":"quit"}\n'
+VERSION = b'{"version":0}\n'
+NO_DO = b'{"error":"bad_request","field":"do"}\n'
+SUMMARY = b'{"crowded":0,"files":3,"limited":0,"references":3,"rows":3,"sum":8}\n'
+LINES_MAX = 1_000_000
 
 SCOPES = 5_000
 MANY = b'{"nodes":[' + b",".join([b'{"kind":"scope"}'] * SCOPES) + b'],"edges":[]}\n'
@@ -211,8 +226,14 @@ ROWS_OF_TABLE = [
     (0, ["upgrade"], "a first line of the longest length", from_file, line(LINE_MAX), LARGE % b"upgrade"),
     (0, ["once"], "a second line of the longest length", from_file, GRAPH + line(LINE_MAX), b'{"error":"bad_json"}\n'),
     (0, ["once"], "a second line that is too long behind a graph that is refused", from_file, b"{\n" + line(LINE_MAX + 1), NOT_JSON % b"once"),
+    (0, ["run"], "no input", from_file, b"", b""),
+    (0, ["run"], "two lines, the last without its end", from_file, HELLO + PIN[:-1], VERSION * 2),
+    (0, ["run"], "standard input stays open behind a quit", from_open_pipe, QUIT + PIN, b'{"ok":true}\n'),
+    (0, ["run"], "a line of the longest length", from_file, HELLO + line(LINE_MAX), VERSION + b'{"error":"bad_json"}\n'),
+    (0, ["demo", "3", "0"], "a made tree", from_file, b"", SUMMARY),
+    (0, ["run"], "as many lines as a session may have", from_file, b"1\n" * LINES_MAX, NO_DO * LINES_MAX),
     (2, [], "no word", from_file, GRAPH + NODE, b""),
-    (2, ["run"], "no command", from_file, GRAPH + NODE, b""),
+    (2, ["serve"], "no command", from_file, GRAPH + NODE, b""),
     (2, [""], "an empty word", from_file, GRAPH + NODE, b""),
     (2, ["ONCE"], "a command in capitals", from_file, GRAPH + NODE, b""),
     (2, ["--help"], "a word that begins with a hyphen", from_file, GRAPH + NODE, b""),
@@ -228,6 +249,14 @@ ROWS_OF_TABLE = [
     (3, ["upgrade"], "standard input fails within the first line", from_failing, GRAPH[:-1], b""),
     (3, ["once"], "standard input fails behind the first line", from_failing, GRAPH, b""),
     (3, ["once"], "standard input fails within the second line", from_failing, GRAPH + NODE[:-1], b""),
+    (3, ["run"], "standard input is a folder", lambda command, _: from_folder(command), None, b""),
+    (3, ["run"], "standard input fails within the second line", from_failing, HELLO + PIN[:-1], VERSION),
+    (4, ["demo", "3", "0"], "standard output has room for 20 bytes", into_room(20), b"", SUMMARY[:20]),
+    (4, ["run"], "standard output is closed", without_output, HELLO, None),
+    (4, ["run"], "standard output has room for 20 bytes", into_room(20), HELLO + PIN, (VERSION * 2)[:20]),
+    (5, ["run"], "a line of the longest length in just as much memory", in_memory(LINE_MAX), line(LINE_MAX), b""),
+    (6, ["run"], "a second line of one byte more", from_file, HELLO + line(LINE_MAX + 1), VERSION),
+    (7, ["run"], "one line more than a session may have", from_file, b"1\n" * LINES_MAX + PIN, NO_DO * LINES_MAX),
     (4, ["once"], "standard output is full", into_full, GRAPH + NODE, None),
     (4, ["upgrade"], "standard output is full", into_full, GRAPH, None),
     (4, ["once"], "standard output is a pipe that nobody reads", into_broken_pipe, GRAPH + NODE, None),
@@ -252,7 +281,7 @@ def faults(wanted, data, written, ended):
         found.append(f"ended with {ended.status}")
     if written is not None and ended.wrote != written:
         found.append(f"wrote {len(ended.wrote):,} bytes, not the {len(written):,} that are wanted")
-    if ended.said != (USAGE if wanted == 2 else b""):
+    if ended.said != SAID[wanted]:
         found.append(f"said {ended.said[:80]!r} on standard error")
     if wanted == 2 and ended.left != len(data):
         found.append(f"read {len(data) - ended.left:,} bytes")

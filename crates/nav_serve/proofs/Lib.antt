@@ -4,3 +4,4 @@ pub mod Replies
 pub mod Writing
 pub mod Upgraded
 pub mod Found
+pub mod CallerLemmas

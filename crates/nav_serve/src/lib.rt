@@ -8,6 +8,7 @@ mod laws;
 mod node_line;
 mod once_input;
 mod running;
+mod session;
 mod tasks;
 mod upgrade_input;
 mod words;
@@ -15,6 +16,7 @@ mod words;
 pub use laws::once_and_upgrade_are_tasks;
 pub use running::run;
 pub use tasks::{Task, perform};
+pub use words::{Command, command_of};
 
 #[cfg(test)]
 mod tests;

@@ -4,6 +4,7 @@ ghost use Rattle.nav_serve.specs.Words.{command_of, texts};
 ghost use Rattle.nav_serve.specs.Outside.{seen};
 ghost use Rattle.nav_serve.specs.Commands.{Does, HasCause, HasNoFault, Ends, is_refusal, may_end, parts_used};
 
+use crate::session::{run_demo, run_session};
 use crate::tasks::{Task, perform};
 use crate::words::{Command, command_of};
 use graph_nodes::Steps;
@@ -11,19 +12,23 @@ use nav_io::{House, Sink, Source};
 use nav_session::BAD_WORDS;
 use std::alloc::Global;
 use std::sync::ledger::Ledger;
+use std::thread::Threads;
+use version_board::Commits;
 
 /// Does what the words after the program's name say, and gives the status with which the program ends.
 ///
-/// The words are exactly one command's name, `once` or `upgrade`; each uses the source and the sink
-/// alone. With any others the status is 2, and nothing is read or written. The other statuses are those
-/// of the commands.
-pub fn run<R, S: Source, K: Sink, H: House, L: Ledger>(
-    _rt: &R,
+/// The words are exactly one command's name: `once` or `upgrade`, which use the source and the sink
+/// alone, or `run`, which serves a session on the board and counts steps besides; or they are `demo` and
+/// two numbers, which uses the sink, the board and the steps. With any others the status is 2, and nothing
+/// is read or written. The other statuses are those of the commands.
+pub fn run<R: Threads + Sync, S: Source, K: Sink, H: House, B: Commits<R>, L: Ledger>(
+    rt: &R,
     alloc: Global,
     words: &[String],
     source: &mut S,
     sink: &mut K,
     house: &mut H,
+    board: &mut B,
     steps: &mut Steps<L>,
 ) -> u8
     // Which status comes with which words.
@@ -33,8 +38,10 @@ pub fn run<R, S: Source, K: Sink, H: House, L: Ledger>(
 
     // What the command does, and why it did no more.
     ensures does { IfSome (command_of (texts words.now)) (λ command. Does command
+        (B.seat board.old) (B.log board.old) (B.log board.new)
         (seen (S.left source.old) (S.faults source.old) (K.held sink.old) (K.faults sink.old))
         (seen (S.left source.new) (S.faults source.new) (K.held sink.new) (K.faults sink.new)) result) }
+    ensures seat { B.seat board.new ≡ B.seat board.old }
     ensures causes { HasCause
         (seen (S.left source.old) (S.faults source.old) (K.held sink.old) (K.faults sink.old))
         (seen (S.left source.new) (S.faults source.new) (K.held sink.new) (K.faults sink.new)) result }
@@ -45,15 +52,20 @@ pub fn run<R, S: Source, K: Sink, H: House, L: Ledger>(
 
     // What isn't used stays, and all of it where the words are no command.
     ensures untouched { command_of (texts words.now) ≡ None → (source.new ≡ source.old) × (sink.new ≡ sink.old)
-        × (house.new ≡ house.old) × (steps.new ≡ steps.old) }
+        × (house.new ≡ house.old) × (board.new ≡ board.old) × (steps.new ≡ steps.old) }
     ensures unused_source { (parts_used (command_of (texts words.now))).source ≡ false → source.new ≡ source.old }
     ensures unused_sink { (parts_used (command_of (texts words.now))).sink ≡ false → sink.new ≡ sink.old }
     ensures unused_house { (parts_used (command_of (texts words.now))).house ≡ false → house.new ≡ house.old }
+    ensures unused_board { (parts_used (command_of (texts words.now))).board ≡ false → board.new ≡ board.old }
     ensures unused_steps { (parts_used (command_of (texts words.now))).steps ≡ false → steps.new ≡ steps.old }
 {
     match command_of(words) {
         Some(Command::Once) => perform(Task::Once, alloc, source, sink),
         Some(Command::Upgrade) => perform(Task::Upgrade, alloc, source, sink),
+        Some(Command::Run) => run_session(rt, alloc, source, sink, board, steps),
+        Some(Command::Demo { files, start }) => run_demo(
+            rt, alloc, files, start, sink, board, steps,
+        ),
         None => BAD_WORDS,
     }
 }

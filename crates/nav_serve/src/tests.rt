@@ -8,7 +8,7 @@ use std::alloc::Global;
 use std::test::Fail;
 
 /// A call of a source or a sink that never fails.
-const NEVER: u32 = 9_999;
+const NEVER: u32 = u32::MAX;
 
 /// How a source and a sink behave: the source gives at most `piece` bytes at a read and fails its call
 /// `read`, and the sink takes at most `taken` bytes at a write and fails its call `write`.
@@ -250,26 +250,51 @@ fn upgrade_names_the_nodes(rt: HostRuntime) -> Result<(), Fail> {
     Ok(())
 }
 
+/// The command that words are which blanks part.
+fn command(alloc: Global, line: &str) -> Result<Option<Command>, Fail> {
+    let mut words = Vec::new(alloc);
+    for word in line.split(' ') {
+        words.push(String::from_str(alloc, word)?)?;
+    }
+    Ok(command_of(&words))
+}
+
 #[test]
 fn words_are_one_command(rt: HostRuntime) -> Result<(), Fail> {
     let alloc = rt.alloc();
-    let rows: [(&str, Option<Command>); 6] = [
+    let rows: [(&str, Option<Command>); 22] = [
         ("once", Some(Command::Once)),
         ("upgrade", Some(Command::Upgrade)),
         ("", None),
         ("Once", None),
         ("--help", None),
-        ("run", None),
+        ("run", Some(Command::Run)),
+        ("serve", None),
+        ("once once", None),
+        ("demo 3 0", Some(Command::Demo { files: 3, start: 0 })),
+        (
+            "demo 2048 4294967295",
+            Some(Command::Demo {
+                files: 2048,
+                start: 4_294_967_295,
+            }),
+        ),
+        ("demo", None),
+        ("demo 3", None),
+        ("demo 3 0 0", None),
+        ("demos 3 0", None),
+        ("demo 0 0", None),
+        ("demo 2049 0", None),
+        ("demo 3 4294967296", None),
+        ("demo 03 0", None),
+        ("demo 3 00", None),
+        ("demo +3 0", None),
+        ("demo 3 -1", None),
+        ("demo  0", None),
     ];
-    for (word, wanted) in rows {
-        let words = vec![in alloc; String::from_str(alloc, word)?]?;
-        assert_eq!(rt; command_of(&words), wanted, "at {word}");
+    for (line, wanted) in rows {
+        assert_eq!(rt; command(alloc, line)?, wanted, "at {line}");
     }
     assert_eq!(rt; command_of(&[]), None);
-    let two = vec![in alloc;
-        String::from_str(alloc, "once")?,
-        String::from_str(alloc, "once")?,
-    ]?;
-    assert_eq!(rt; command_of(&two), None);
     Ok(())
 }

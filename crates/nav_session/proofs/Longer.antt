@@ -129,7 +129,7 @@ ruled_longer seat log more before change reply after h =
     (λ asker. IsJudged seat (log ++ more) before.seen asker None (change ∷ []) reply after)
     (λ asker j. judged_longer seat log more before.seen asker None (change ∷ []) reply after j) h
 
-answered_longer : (seat : ℕ) (log more : List Entry) (before : Session) (request : Request) (reply : Reply) (after : Session)
+pub answered_longer : (seat : ℕ) (log more : List Entry) (before : Session) (request : Request) (reply : Reply) (after : Session)
     → IsAnswered seat log before request reply after → IsAnswered seat (log ++ more) before request reply after
 answered_longer seat log more before Quit reply after h = h
 answered_longer seat log more before (Hello user) reply after h = pins_longer seat log more before.seen user reply after h

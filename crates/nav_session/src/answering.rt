@@ -121,8 +121,10 @@ fn ends_session(request: &Request) -> bool
     matches!(request, Request::Quit)
 }
 
-/// The reply to a request. The one error is want of memory.
-fn reply_to<R: Threads + Sync, B: Commits<R>, G: Gate + Sync, L: Ledger>(
+/// The reply to a request of a session, at the board of its seat: what `answer_line` says of a line that is that request.
+///
+/// The one error is want of memory: then no entry of the request is in the log, and the desk isn't meant to be used again.
+pub fn reply_to<R: Threads + Sync, B: Commits<R>, G: Gate + Sync, L: Ledger>(
     rt: &R,
     alloc: Global,
     desk: &mut Desk,

@@ -17,7 +17,7 @@ mod room;
 mod serving;
 mod step;
 
-pub use answering::answer_line;
+pub use answering::{answer_line, reply_to};
 pub use bad_file::file_error;
 pub use desk::{Desk, MAX_COST};
 pub use halt::{ANSWERED, BAD_WORDS, Halt};

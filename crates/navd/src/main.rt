@@ -8,38 +8,58 @@ ghost use Rattle.nav_serve.specs.Commands.{may_end};
 
 use graph_nodes::Steps;
 use nav_io::{MemHouse, StdSink, StdSource};
-use nav_serve::run;
 use std::alloc::Global;
 use std::io::{ErrorKind, Read, Write};
 use std::marker::Brand;
 use std::process::ExitCode;
 use std::sync::ledger::{Blank, Ledger};
+use std::thread::Threads;
 use std::{env, io};
+
+mod alone;
+
+use crate::alone::run_alone;
 
 #[cfg(test)]
 mod tests;
 
 /// What standard error tells where the words are no command.
-const USAGE: &str = "usage: navd once | navd upgrade (the input is read from standard input)";
+const USAGE: &str =
+    "usage: navd once | navd upgrade | navd run (the input is read from standard input) | navd demo FILES START";
 
 /// The status where the words are no command.
 const BAD_WORDS: u8 = 2;
 
-/// The status where memory was refused before the words were read.
+/// The status where memory was refused before a command began.
 const NO_MEMORY: u8 = 5;
 
 fn main(rt: HostRuntime) -> ExitCode {
-    let status = ended::<_, _, Brand>(
+    let status = ended::<_, _, _, Brand>(
+        &rt,
         rt.alloc(),
         words_of(&rt),
         rt.stdin(),
         rt.stdout(),
         Blank::new(1),
     );
-    if status == BAD_WORDS {
-        let _ = eprintln!(rt; "{USAGE}");
+    let why = why(status);
+    if !why.is_empty() {
+        let _ = eprintln!(rt; "{why}");
     }
     ExitCode::from(status)
+}
+
+/// What standard error tells of a status, in one line: why the program did no more. Of 0 it tells nothing.
+fn why(status: u8) -> &'static str {
+    match status {
+        BAD_WORDS => USAGE,
+        3 => "navd: reading standard input failed",
+        4 => "navd: writing standard output failed",
+        NO_MEMORY => "navd: memory was refused",
+        6 => "navd: a line has more than 8388608 bytes",
+        7 => "navd: 1000000 lines were answered, and more input stands behind them",
+        _ => "",
+    }
 }
 
 /// The words after the program's name. It fails where one isn't UTF-8, and so no command.
@@ -51,9 +71,10 @@ fn words_of(rt: &HostRuntime) -> io::Result<Vec<String>> {
     Ok(words)
 }
 
-/// The status with which the program ends on these words, or where they can't be had: that of `run` over
+/// The status with which the program ends on these words, or where they can't be had: that of `run_alone` over
 /// this reader and writer, with no doors and a counter that nobody reads.
-fn ended<R: Read + Drop, W: Write + Drop, L: Ledger>(
+fn ended<T: Threads + Sync, R: Read + Drop, W: Write + Drop, L: Ledger>(
+    rt: &T,
     alloc: Global,
     words: io::Result<Vec<String>>,
     reader: R,
@@ -68,14 +89,15 @@ fn ended<R: Read + Drop, W: Write + Drop, L: Ledger>(
     ensures no_words { OnErr words ((result ≡ 2) ⊎ (result ≡ 5)) }
 {
     match words {
-        Ok(words) => served::<_, _, L>(alloc, &words, reader, writer, blank),
+        Ok(words) => served::<_, _, _, L>(rt, alloc, &words, reader, writer, blank),
         Err(e) if e.kind() == ErrorKind::OutOfMemory => NO_MEMORY,
         Err(_) => BAD_WORDS,
     }
 }
 
 /// Runs the words over this reader and writer.
-fn served<R: Read + Drop, W: Write + Drop, L: Ledger>(
+fn served<T: Threads + Sync, R: Read + Drop, W: Write + Drop, L: Ledger>(
+    rt: &T,
     alloc: Global,
     words: &[String],
     reader: R,
@@ -92,8 +114,8 @@ fn served<R: Read + Drop, W: Write + Drop, L: Ledger>(
     let mut sink = StdSink::new(writer);
     let mut house = MemHouse::new(Vec::new(alloc), false);
     let mut steps = Steps::<L>::new(blank);
-    run(
-        &(),
+    run_alone(
+        rt,
         alloc,
         words,
         &mut source,

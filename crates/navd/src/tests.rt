@@ -1,5 +1,7 @@
 //! What no clause says of the program: its statuses over readers and writers as they come, and that long texts
 //! pass through them whole.
+mod sessions;
+
 use crate::ended;
 use std::alloc::Global;
 use std::io;
@@ -7,6 +9,7 @@ use std::io::{ErrorKind, Read, Write};
 use std::marker::Brand;
 use std::sync::ledger::Blank;
 use std::test::Fail;
+use std::thread::Threads;
 
 /// A reader of bytes, which gives at most a thousand at a read and fails once it gave them all but the last
 /// `held_back`.
@@ -55,7 +58,8 @@ impl Write for Filled {
 }
 
 /// The status on words that blanks part, and what was written.
-fn run_on(
+fn run_on<T: Threads + Sync>(
+    rt: &T,
     alloc: Global,
     line: &str,
     input: &[u8],
@@ -74,32 +78,64 @@ fn run_on(
         took: Vec::new(alloc),
         room,
     };
-    let status = ended::<_, _, Brand>(alloc, Ok(words), reader, &mut writer, Blank::new(1));
+    let status = ended::<_, _, _, Brand>(rt, alloc, Ok(words), reader, &mut writer, Blank::new(1));
     Ok((status, writer.took))
 }
 
 #[test]
 fn each_status_is_told(rt: HostRuntime) -> Result<(), Fail> {
     let input = b"{\"nodes\":[],\"edges\":[]}\n{\"node\":0}\n";
+    // To these two lines `run` replies `{"error":"bad_request","field":"do"}` twice.
     // The words, how many bytes the reader holds back, the writer's room, the status, and how many bytes are
     // written.
-    let rows: [(&str, usize, usize, u8, usize); 8] = [
+    let rows: [(&str, usize, usize, u8, usize); 15] = [
         ("once", 0, 99, 0, 25),
         ("upgrade", 0, 99, 0, 35),
         ("once once", 0, 99, 2, 0),
         ("once ", 0, 99, 2, 0),
-        ("run", 0, 99, 2, 0),
+        ("serve", 0, 99, 2, 0),
         ("once", 5, 99, 3, 0),
         ("once", 0, 7, 4, 7),
         ("upgrade", 0, 0, 4, 0),
+        ("run", 0, 99, 0, 74),
+        ("run", 5, 99, 3, 37),
+        ("run", 0, 40, 4, 40),
+        ("demo 3 0", 0, 99, 0, 68),
+        ("demo 3 0", 0, 67, 4, 67),
+        ("demo 3", 0, 99, 2, 0),
+        ("demo 0 0", 0, 99, 2, 0),
     ];
     for (line, held_back, room, status, bytes) in rows {
-        let (got, written) = run_on(rt.alloc(), line, input, held_back, room)?;
+        let (got, written) = run_on(&rt, rt.alloc(), line, input, held_back, room)?;
         assert_eq!(rt;
             (got, written.len()),
             (status, bytes),
             "{line} {held_back} {room}"
         );
+    }
+    Ok(())
+}
+
+/// Words that show a made tree, and the summary that they write.
+const SUMMARIES: &str =
+    r#"demo 3 0 => {"crowded":0,"files":3,"limited":0,"references":3,"rows":3,"sum":8}
+demo 1 0 => {"crowded":0,"files":1,"limited":0,"references":1,"rows":1,"sum":1}"#;
+
+/// The status on these words, where nothing is read, and what was written.
+fn shown<T: Threads + Sync>(rt: &T, alloc: Global, line: &str) -> Result<String, Fail> {
+    let (status, written) = run_on(rt, alloc, line, b"", 0, 99)?;
+    let written = str::from_utf8(written.as_slice())?;
+    Ok(format!(in alloc; "{status} {written}")?)
+}
+
+#[test]
+fn made_trees_have_their_summaries(rt: HostRuntime) -> Result<(), Fail> {
+    let alloc = rt.alloc();
+    for row in SUMMARIES.split('\n') {
+        let (line, summary) = row.split_once(" => ").unwrap_or((row, "no arrow"));
+        let wanted = format!(in alloc; "0 {summary}\n")?;
+        let got = shown(&rt, alloc, line)?;
+        assert_eq!(rt; got.as_str(), wanted.as_str(), "{line}");
     }
     Ok(())
 }
@@ -124,9 +160,14 @@ fn scopes(alloc: Global, count: u32) -> Result<(Vec<u8>, Vec<u8>), Fail> {
 
 /// The status of `upgrade` on a graph of 5,000 scopes, how many bytes of the whole output are written, and how
 /// many it has.
-fn upgraded(alloc: Global, held_back: usize, room: usize) -> Result<(u8, usize, usize), Fail> {
+fn upgraded<T: Threads + Sync>(
+    rt: &T,
+    alloc: Global,
+    held_back: usize,
+    room: usize,
+) -> Result<(u8, usize, usize), Fail> {
     let (plain, named) = scopes(alloc, 5_000)?;
-    let (status, written) = run_on(alloc, "upgrade", plain.as_slice(), held_back, room)?;
+    let (status, written) = run_on(rt, alloc, "upgrade", plain.as_slice(), held_back, room)?;
     if named.starts_with(written.as_slice()) {
         Ok((status, written.len(), named.len()))
     } else {
@@ -137,9 +178,9 @@ fn upgraded(alloc: Global, held_back: usize, room: usize) -> Result<(u8, usize, 
 #[test]
 fn long_texts_pass_whole_or_as_far_as_the_status_tells(rt: HostRuntime) -> Result<(), Fail> {
     let alloc = rt.alloc();
-    let (status, written, whole) = upgraded(alloc, 0, 1_000_000)?;
+    let (status, written, whole) = upgraded(&rt, alloc, 0, 1_000_000)?;
     assert_eq!(rt; (status, written), (0, whole));
-    assert_eq!(rt; upgraded(alloc, 0, 70_001)?, (4, 70_001, whole));
-    assert_eq!(rt; upgraded(alloc, 100, 1_000_000)?, (3, 0, whole));
+    assert_eq!(rt; upgraded(&rt, alloc, 0, 70_001)?, (4, 70_001, whole));
+    assert_eq!(rt; upgraded(&rt, alloc, 100, 1_000_000)?, (3, 0, whole));
     Ok(())
 }

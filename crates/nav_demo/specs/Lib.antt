@@ -1,0 +1,3 @@
+pub mod MadeTree
+pub mod Summary
+pub mod Inside

@@ -1,0 +1,13 @@
+//! A demonstration: a made tree of any size is committed and queried in one session, and told as a summary.
+#![tactic(auto)]
+
+mod graph;
+mod session;
+mod showing;
+#[cfg(test)]
+mod tests;
+mod totals;
+mod tree;
+
+pub use showing::demo;
+pub use totals::Totals;

@@ -1,0 +1,43 @@
+-- What callers of the program as a function need beside its contract.
+use Rattle.std.proofs.Common.{◌≡◌, ℕ, List, [], inl, refl, sym, ap, append-nil, Option, Some, None, IfSome}
+use Rattle.std.specs.Io.KnownBytes.{append_known}
+use Rattle.version_tree.specs.declared.entry.Entry.{Entry}
+use Rattle.nav_session.proofs.CallerLemmas.{served_nothing}
+use Rattle.nav_demo.proofs.Shown.{shown_nothing}
+use Rattle.nav_serve.specs.declared.words.Command.{Command}
+use Rattle.nav_serve.specs.declared.words.Command.TheVariants.{Once, Upgrade, Run, Demo}
+use Rattle.nav_serve.specs.declared.tasks.Task.{Task}
+use Rattle.nav_serve.specs.declared.tasks.Task.TheVariants as task
+use Rattle.nav_serve.specs.Outside.{seen}
+use Rattle.nav_serve.specs.Taken.{IsBeginning, WritesBeginning}
+use Rattle.nav_serve.specs.Commands.{DoesTask, Does}
+
+-- nothing more was written
+append_known-nil : (held : Option (List ℕ)) → held ≡ append_known held []
+append_known-nil None = refl
+append_known-nil (Some bytes) = ap Some (sym (append-nil bytes))
+
+-- nothing is the beginning of an output
+nothing_begins : (task : Task) (left : Option (List ℕ)) → IfSome left (λ input. IsBeginning task input [])
+nothing_begins task None = tt
+nothing_begins task (Some input) = inl refl
+
+did_nothing : (task : Task) (left held : Option (List ℕ)) (source_faults sink_faults : ℕ)
+    → DoesTask task (seen left source_faults held sink_faults) (seen left source_faults held sink_faults) 5
+did_nothing task left held source_faults sink_faults = record {
+  answered = λ e. cc;
+  not_long = λ e. cc;
+  begun = ([], append_known-nil held, nothing_begins task left);
+  short = λ e. cc;
+  silent = λ e. refl;
+  long = λ e. cc;
+  silent_long = λ e. refl;
+}
+
+-- a command that is refused memory before it begins
+pub does_nothing : (command : Command) (seat : ℕ) (log : List Entry) (left held : Option (List ℕ)) (source_faults sink_faults : ℕ)
+    → Does command seat log log (seen left source_faults held sink_faults) (seen left source_faults held sink_faults) 5
+does_nothing Once seat log left held source_faults sink_faults = did_nothing task.Once left held source_faults sink_faults
+does_nothing Upgrade seat log left held source_faults sink_faults = did_nothing task.Upgrade left held source_faults sink_faults
+does_nothing Run seat log left held source_faults sink_faults = served_nothing seat log left held
+does_nothing (Demo files start) seat log left held source_faults sink_faults = shown_nothing seat log held files start

@@ -1,0 +1,67 @@
+//! The commands that use a board.
+ghost use Rattle.std.specs.Prelude.{◌≡◌, ℕ, List, Option, IsTrue};
+ghost use Rattle.nav_session.specs.Serving.{Serves, ends_session, ends_unhindered};
+ghost use Rattle.nav_demo.specs.Summary.{Demonstrates, ends_demo, ends_demo_unhindered};
+ghost use Rattle.nav_serve.specs.Outside.{seen};
+ghost use Rattle.nav_serve.specs.Commands.{HasCause, HasNoFault};
+
+use graph_nodes::Steps;
+use nav_demo::demo;
+use nav_io::{Sink, Source, Unguarded};
+use nav_session::{Desk, serve_session};
+use std::alloc::Global;
+use std::sync::ledger::Ledger;
+use std::thread::Threads;
+use version_board::Commits;
+
+/// Serves one session on this board, with a store of its own that is empty at first, and gives its status: one of
+/// those of `serve_session`.
+pub fn run_session<R: Threads + Sync, S: Source, K: Sink, B: Commits<R>, L: Ledger>(
+    rt: &R,
+    alloc: Global,
+    source: &mut S,
+    sink: &mut K,
+    board: &mut B,
+    steps: &mut Steps<L>,
+) -> u8
+    ensures serves { Serves (B.seat board.old) (B.log board.old) (B.log board.new)
+        (S.left source.old) (S.left source.new) (K.held sink.old) (K.held sink.new) result }
+    ensures seat { B.seat board.new ≡ B.seat board.old }
+    ensures statuses { IsTrue (ends_session result) }
+    ensures causes { HasCause
+        (seen (S.left source.old) (S.faults source.old) (K.held sink.old) (K.faults sink.old))
+        (seen (S.left source.new) (S.faults source.new) (K.held sink.new) (K.faults sink.new)) result }
+    ensures complete { HasNoFault
+        (seen (S.left source.old) (S.faults source.old) (K.held sink.old) (K.faults sink.old))
+        (seen (S.left source.new) (S.faults source.new) (K.held sink.new) (K.faults sink.new))
+        → IsTrue (ends_unhindered result) }
+{
+    let mut desk = Desk::new(alloc);
+    serve_session(rt, alloc, &mut desk, board, &Unguarded, source, sink, steps)
+}
+
+/// Commits and queries the made tree of so many files that is drawn from this start, on this board, writes the summary,
+/// and gives the status: one of those of `demo`.
+pub fn run_demo<R: Threads + Sync, K: Sink, B: Commits<R>, L: Ledger>(
+    rt: &R,
+    alloc: Global,
+    files: u32,
+    start: u32,
+    sink: &mut K,
+    board: &mut B,
+    steps: &mut Steps<L>,
+) -> u8
+    ensures demonstrates { Demonstrates (B.seat board.old) (B.log board.old) (B.log board.new)
+        (K.held sink.old) (K.held sink.new) files start result }
+    ensures seat { B.seat board.new ≡ B.seat board.old }
+    ensures statuses { IsTrue (ends_demo result) }
+    ensures causes { (left : Option (List ℕ)) → (faults : ℕ) → HasCause
+        (seen left faults (K.held sink.old) (K.faults sink.old))
+        (seen left faults (K.held sink.new) (K.faults sink.new)) result }
+    ensures complete { (left : Option (List ℕ)) → (faults : ℕ) → HasNoFault
+        (seen left faults (K.held sink.old) (K.faults sink.old))
+        (seen left faults (K.held sink.new) (K.faults sink.new))
+        → IsTrue (ends_demo_unhindered result) }
+{
+    demo(rt, alloc, files, start, sink, board, steps)
+}

@@ -1,0 +1,187 @@
+//! Sessions through the program's words: what they reply, however the bytes move, and how faults end them.
+ghost use Rattle.std.specs.Prelude.{◌≡◌, ◌<◌};
+
+use crate::alone::run_alone;
+use graph_nodes::Steps;
+use nav_io::{MemHouse, MemSink, MemSource};
+use std::alloc::Global;
+use std::marker::Brand;
+use std::sync::ledger::{Blank, Ledger};
+use std::test::Fail;
+use std::thread::Threads;
+
+/// A call of a source or a sink that never fails.
+const NEVER: u32 = u32::MAX;
+
+/// How a source and a sink behave: the source gives at most `piece` bytes at a read and fails its call
+/// `read`, and the sink takes at most `taken` bytes at a write and fails its call `write`.
+#[derive(Drop)]
+struct Outside {
+    piece: u32,
+    read: u32,
+    taken: u32,
+    write: u32,
+}
+
+/// The status of `run` on this input, and what was written, on a ledger of its own.
+fn session_on<T: Threads + Sync, L: Ledger>(
+    rt: &T,
+    alloc: Global,
+    input: &[u8],
+    outside: Outside,
+    blank: Blank,
+) -> Result<(u8, Vec<u8>), Fail>
+    requires name { blank.name ≡ L.name }
+    requires parts { blank.parts ≡ L.parts }
+    requires some { 0 < blank.parts }
+{
+    let words = vec![in alloc; String::from_str(alloc, "run")?]?;
+    let mut source = MemSource::new(
+        input.to_vec(alloc)?,
+        outside.piece.max(1),
+        vec![in alloc; outside.read]?,
+    );
+    let mut sink = MemSink::new(alloc, outside.taken.max(1), vec![in alloc; outside.write]?);
+    let mut house = MemHouse::new(Vec::new(alloc), false);
+    let mut steps = Steps::<L>::new(blank);
+    let status = run_alone(
+        rt,
+        alloc,
+        &words,
+        &mut source,
+        &mut sink,
+        &mut house,
+        &mut steps,
+    );
+    Ok((status, sink.held().to_vec(alloc)?))
+}
+
+fn session<T: Threads + Sync>(
+    rt: &T,
+    alloc: Global,
+    input: &[u8],
+    outside: Outside,
+) -> Result<(u8, Vec<u8>), Fail> {
+    session_on::<_, Brand>(rt, alloc, input, outside, Blank::new(1))
+}
+
+/// Sessions that end with status 0, and their replies; `¶` stands for the end of a line.
+const SESSIONS: &str = r#"# A last line without its end, and an empty line.
+{"do":"hello","user":"operator"} => {"version":0}¶
+¶ => {"error":"bad_json"}¶
+{"do":"hello","user":"ann"}¶¶{"do":"pin"} => {"version":0}¶{"error":"bad_json"}¶{"version":0}¶
+# A graph file is committed and asked.
+{"do":"hello","user":"operator"}¶{"do":"commit","edits":[{"put":"a.sg.json","text":"{\"nodes\":[{\"kind\":\"push\",\"symbol\":\"x\",\"reference\":true,\"span\":[0,0,0,1]},{\"kind\":\"scope\"},{\"kind\":\"pop\",\"symbol\":\"x\",\"definition\":true,\"span\":[1,0,1,1]}],\"edges\":[[0,1,0],[1,2,0]]}"}]}¶{"do":"define","path":"a.sg.json","node":0}¶{"do":"references","path":"a.sg.json","line":1,"column":0}¶ => {"version":0}¶{"version":1}¶{"limit":false,"rows":[{"node":2,"path":"a.sg.json","span":[1,0,1,1]}]}¶{"limit":false,"rows":[{"node":0,"path":"a.sg.json","span":[0,0,0,1]}]}¶
+# A line that is no request, and what needs a user; nothing behind a `quit` is answered.
+{"do":"pin"}¶{"do":"define","path":"a.py"}¶{"do":"pin","x":1}¶{"do":"quit"}¶{"do":"pin"}¶ => {"error":"no_user"}¶{"error":"bad_request","field":"line"}¶{"error":"bad_request","field":"x"}¶{"ok":true}¶
+{"do":"quit","x":1}¶{"do":"quit"} => {"error":"bad_request","field":"x"}¶{"ok":true}¶
+# What the head refuses changes nothing.
+{"do":"hello","user":"operator"}¶{"do":"commit","base":1,"edits":[]}¶{"do":"commit","edits":[{"remove":"z.py"}]}¶{"do":"revoke","user":"bob","prefix":""}¶{"do":"commit","edits":[{"put":"a.py","text":"x = [i for i in y]"}]}¶{"do":"commit","base":0,"edits":[]}¶ => {"version":0}¶{"error":"stale","head":0}¶{"error":"absent","path":"z.py"}¶{"error":"absent","prefix":"","user":"bob"}¶{"error":"bad_file","fault":"unsupported","line":0,"path":"a.py"}¶{"version":1}¶
+# Another user sees what it was granted, and changes nothing.
+{"do":"hello","user":"operator"}¶{"do":"commit","edits":[{"put":"a.py","text":"x = 1\nx"},{"put":"b.py","text":"y = 1\ny"}]}¶{"do":"grant","user":"ann","prefix":"a.py"}¶{"do":"hello","user":"ann"}¶{"do":"commit","edits":[]}¶{"do":"define","path":"b.py","line":1,"column":0}¶ => {"version":0}¶{"version":1}¶{"version":2}¶{"version":2}¶{"error":"forbidden"}¶{"error":"no_file"}¶"#;
+
+/// What is told of a session whose source gives at most so many bytes at a read.
+fn told<T: Threads + Sync>(rt: &T, alloc: Global, text: &str, piece: u32) -> Result<String, Fail> {
+    let input = text.replace(alloc, '¶', "\n")?;
+    let outside = Outside {
+        piece,
+        read: NEVER,
+        taken: piece,
+        write: NEVER,
+    };
+    let (status, written) = session(rt, alloc, input.as_bytes(), outside)?;
+    let written = str::from_utf8(written.as_slice())?;
+    let lines = written.replace(alloc, '\n', "¶")?;
+    Ok(format!(in alloc; "{status} {lines}")?)
+}
+
+#[test]
+fn sessions_are_answered_however_the_bytes_move(rt: HostRuntime) -> Result<(), Fail> {
+    let alloc = rt.alloc();
+    assert_eq!(rt; told(&rt, alloc, "", 1)?.as_str(), "0 ", "no line");
+    for row in SESSIONS.split('\n') {
+        if row.starts_with('#') {
+            continue;
+        }
+        let (input, replies) = row.split_once(" => ").unwrap_or((row, "no arrow"));
+        let wanted = format!(in alloc; "0 {replies}")?;
+        for piece in [1, 7, 4_096] {
+            let got = told(&rt, alloc, input, piece)?;
+            assert_eq!(rt; got.as_str(), wanted.as_str(), "at {piece} {input}");
+        }
+    }
+    Ok(())
+}
+
+#[test]
+fn faults_end_a_session_where_they_come(rt: HostRuntime) -> Result<(), Fail> {
+    let alloc = rt.alloc();
+    let input = b"{\"do\":\"hello\",\"user\":\"operator\"}\n{\"do\":\"pin\"}\n";
+    let replies = b"{\"version\":0}\n{\"version\":0}\n";
+    // The bytes of a read, the read that fails, the bytes of a write, the write that fails; the status, and how
+    // many bytes of the replies are written.
+    let rows: [(u32, u32, u32, u32, u8, usize); 9] = [
+        (99, NEVER, 8, 2, 4, 14),
+        (99, NEVER, 8, 3, 4, 22),
+        (99, NEVER, 99, 0, 4, 0),
+        (33, 1, 99, NEVER, 3, 14),
+        (33, 0, 99, NEVER, 3, 0),
+        (32, 1, 99, NEVER, 3, 0),
+        (99, 1, 99, NEVER, 3, 28),
+        (7, 5, 1, NEVER, 3, 14),
+        (99, NEVER, 1, NEVER, 0, 28),
+    ];
+    for (piece, read, taken, write, status, bytes) in rows {
+        let outside = Outside {
+            piece,
+            read,
+            taken,
+            write,
+        };
+        let (got, written) = session(&rt, alloc, input, outside)?;
+        assert_eq!(rt;
+            (got, written.as_slice()),
+            (status, &replies[..bytes]),
+            "at {piece} {read} {taken} {write}"
+        );
+    }
+    Ok(())
+}
+
+/// The status and the number of bytes written, where lines of `1`, each answered with 37 bytes, are followed by more.
+fn many<T: Threads + Sync>(
+    rt: &T,
+    alloc: Global,
+    lines: u32,
+    more: &[u8],
+) -> Result<(u8, usize), Fail> {
+    let mut input = Vec::new(alloc);
+    for _ in 0..lines {
+        input.extend_from_slice(b"1\n")?;
+    }
+    input.extend_from_slice(more)?;
+    let outside = Outside {
+        piece: 65_536,
+        read: NEVER,
+        taken: 65_536,
+        write: NEVER,
+    };
+    let (status, written) = session(rt, alloc, input.as_slice(), outside)?;
+    Ok((status, written.len()))
+}
+
+#[test]
+fn a_session_has_a_million_lines(rt: HostRuntime) -> Result<(), Fail> {
+    assert_eq!(rt; many(&rt, rt.alloc(), 1_000_000, b"1")?, (7, 37_000_000));
+    Ok(())
+}
+
+#[test]
+fn a_line_that_is_too_long_ends_a_session(rt: HostRuntime) -> Result<(), Fail> {
+    let alloc = rt.alloc();
+    let long = vec![in alloc; b'['; 8_388_608]?;
+    assert_eq!(rt; many(&rt, alloc, 1, long.as_slice())?, (0, 58));
+    let longer = vec![in alloc; b'['; 8_388_609]?;
+    assert_eq!(rt; many(&rt, alloc, 1, longer.as_slice())?, (6, 37));
+    Ok(())
+}
