@@ -1,9 +1,11 @@
 //! What no clause says of the program: its statuses over readers and writers as they come, and that long texts
 //! pass through them whole.
+mod graphs;
 mod sessions;
 
 use crate::ended;
 use std::alloc::Global;
+use std::cell::Cell;
 use std::io;
 use std::io::{ErrorKind, Read, Write};
 use std::marker::Brand;
@@ -182,5 +184,76 @@ fn long_texts_pass_whole_or_as_far_as_the_status_tells(rt: HostRuntime) -> Resul
     assert_eq!(rt; (status, written), (0, whole));
     assert_eq!(rt; upgraded(&rt, alloc, 0, 70_001)?, (4, 70_001, whole));
     assert_eq!(rt; upgraded(&rt, alloc, 100, 1_000_000)?, (3, 0, whole));
+    Ok(())
+}
+
+/// A user at a terminal: types the next line only once all lines before it are answered, and else fails.
+#[derive(Drop)]
+struct Typist<'a> {
+    left: &'a [u8],
+    typed: u32,
+    answered: &'a Cell<u32>,
+}
+
+impl<'a> Read for Typist<'a> {
+    fn read(&mut self, buf: &mut [u8]) -> io::Result<usize> {
+        if self.answered.get() != self.typed {
+            return Err(io::Error::from(ErrorKind::Other));
+        }
+        let line = match self.left.iter().position(|b| *b == b'\n') {
+            Some(end) => end + 1,
+            None => self.left.len(),
+        };
+        let n = line.min(buf.len());
+        buf[..n].copy_from_slice(&self.left[..n]);
+        self.left = &self.left[n..];
+        self.typed = self.typed.saturating_add(1);
+        Ok(n)
+    }
+}
+
+/// The user's screen, which counts the replies.
+#[derive(Drop)]
+struct Screen<'a> {
+    shown: Vec<u8>,
+    answered: &'a Cell<u32>,
+}
+
+impl<'a> Write for Screen<'a> {
+    fn write(&mut self, buf: &[u8]) -> io::Result<usize> {
+        self.shown.extend_from_slice(buf)?;
+        if buf.ends_with(b"\n") {
+            self.answered.set(self.answered.get().saturating_add(1));
+        }
+        Ok(buf.len())
+    }
+
+    fn flush(&mut self) -> io::Result<()> {
+        Ok(())
+    }
+}
+
+/// The status of a session whose lines are typed one by one, and how many bytes were shown.
+fn typed_on<T: Threads + Sync>(rt: &T, alloc: Global, input: &[u8]) -> Result<(u8, usize), Fail> {
+    let answered = Cell::new(0);
+    let words = vec![in alloc; String::from_str(alloc, "run")?]?;
+    let reader = Typist {
+        left: input,
+        typed: 0,
+        answered: &answered,
+    };
+    let mut writer = Screen {
+        shown: Vec::new(alloc),
+        answered: &answered,
+    };
+    let status = ended::<_, _, _, Brand>(rt, alloc, Ok(words), reader, &mut writer, Blank::new(1));
+    Ok((status, writer.shown.len()))
+}
+
+#[test]
+fn answers_at_once(rt: HostRuntime) -> Result<(), Fail> {
+    let input =
+        b"{\"do\":\"hello\",\"user\":\"operator\"}\n{\"do\":\"pin\"}\n1\n{\"do\":\"quit\"}\n";
+    assert_eq!(rt; typed_on(&rt, rt.alloc(), input)?, (0, 77));
     Ok(())
 }
