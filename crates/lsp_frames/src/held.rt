@@ -1,0 +1,190 @@
+//! The bytes that a frame reader holds: taking more of the source, and lending a body.
+ghost use Rattle.std.specs.Prelude.{◌≡◌, ◌≢◌, ◌<◌, ◌≤◌, ℕ, List, ◌++◌, length, vec_len, take, drop, IfOk, IfSome, OnOk, OnErr, IfErr, Ok, Err, true, false};
+ghost use Rattle.std.specs.Io.KnownBytes.{prepend_known, IsAtEnd};
+ghost use Rattle.std.specs.Option.{option_copied};
+ghost use Rattle.nav_io.specs.Faults.{HasRisen};
+ghost use Rattle.lsp_frames.specs.Frames.{cut, is_short};
+ghost use Rattle.lsp_frames.specs.Reading.{is_settled};
+ghost use Rattle.lsp_frames.specs.Inside.{IsFront, IsPlaceOf, FindsFront, FindsFrame, body_at, behind};
+
+use crate::front::{Front, Place, front_of};
+use crate::reader::{CHUNK, FrameError};
+use nav_io::Source;
+
+// Lets go of the bytes before `start`.
+fn compact(held: &mut Vec<u8>, start: &mut usize)
+    requires { start.old ≤ vec_len held.old }
+    ensures items { held.new.items ≡ drop start.old held.old.items }
+    ensures start { start.new ≡ 0 }
+{
+    held.drain(..*start);
+    *start = 0;
+}
+
+// Takes one chunk of the source behind what is held, and answers its length.
+fn take_chunk<S: Source>(
+    held: &mut Vec<u8>,
+    chunk: &mut [u8],
+    source: &mut S,
+) -> Result<usize, FrameError>
+    requires { CHUNK ≤ length chunk.old }
+    ensures ok { IfOk result (λ n. (taken : List ℕ) × (length taken ≡ n)
+        × (held.new.items ≡ held.old.items ++ taken)
+        × (S.left source.old ≡ prepend_known taken (S.left source.new))) }
+    ensures end { IfOk result (λ n. n ≡ 0 → IsAtEnd (S.left source.new)) }
+    ensures err { OnErr result ((held.new.items ≡ held.old.items) × (S.left source.new ≡ S.left source.old)) }
+    ensures kind { result ≢ Err FrameError.Broken × result ≢ Err FrameError.TooLong }
+
+    ensures count { S.faults source.old ≤ S.faults source.new }
+    ensures cause { result ≡ Err FrameError.ReadFault → HasRisen (S.faults source.old) (S.faults source.new) }
+{
+    held.reserve(chunk.len())?;
+    let n = source.read(chunk)?;
+    held.extend_from_slice(&chunk[..n]).unwrap();
+    Ok(n)
+}
+
+// Takes chunks until `n` bytes are held or the source is at its end, and answers whether it is.
+fn fill_to<S: Source>(
+    held: &mut Vec<u8>,
+    chunk: &mut [u8],
+    source: &mut S,
+    n: usize,
+) -> Result<bool, FrameError>
+    requires room { CHUNK ≤ length chunk.old }
+    ensures kept { prepend_known held.new.items (S.left source.new)
+        ≡ prepend_known held.old.items (S.left source.old) }
+    ensures grows { (more : List ℕ) × (held.new.items ≡ held.old.items ++ more) }
+    ensures enough { result ≡ Ok false → n ≤ vec_len held.new }
+    ensures end { result ≡ Ok true → (vec_len held.new < n) × IsAtEnd (S.left source.new) }
+    ensures err { OnErr result (vec_len held.new < n) }
+    ensures kind { result ≢ Err FrameError.Broken × result ≢ Err FrameError.TooLong }
+
+    ensures count { S.faults source.old ≤ S.faults source.new }
+    ensures cause { result ≡ Err FrameError.ReadFault → HasRisen (S.faults source.old) (S.faults source.new) }
+{
+    while held.len() < n {
+        if take_chunk(held, chunk, source)? == 0 {
+            return Ok(true);
+        }
+    }
+    Ok(false)
+}
+
+// Takes what is wanting of the first frame, and answers what stands at the front.
+fn fill<S: Source>(
+    held: &mut Vec<u8>,
+    ended: &mut bool,
+    chunk: &mut [u8],
+    source: &mut S,
+) -> Result<Front, FrameError>
+    requires room { CHUNK ≤ length chunk.old }
+    requires more { ended.old ≡ false }
+    ensures kept { prepend_known held.new.items (S.left source.new)
+        ≡ prepend_known held.old.items (S.left source.old) }
+    ensures at_end { ended.new ≡ true → IsAtEnd (S.left source.new) }
+    ensures ok { IfOk result (λ front. IsFront front held.new.items) }
+    ensures whole { OnOk result (is_short (cut held.new.items) ≡ true → ended.new ≡ true) }
+    ensures err { OnErr result ((ended.new ≡ false) × (is_short (cut held.new.items) ≡ true)) }
+    ensures kind { result ≢ Err FrameError.Broken × result ≢ Err FrameError.TooLong }
+
+    ensures count { S.faults source.old ≤ S.faults source.new }
+    ensures cause { result ≡ Err FrameError.ReadFault → HasRisen (S.faults source.old) (S.faults source.new) }
+{
+    while !*ended {
+        match front_of(held) {
+            Front::Short(wants) => *ended = fill_to(held, chunk, source, wants)?,
+            front => return Ok(front),
+        }
+    }
+    Ok(front_of(held))
+}
+
+// Takes what is wanting of the first frame, and answers what stands at the front. Past the end of input the source
+// isn't asked.
+fn settle<S: Source>(
+    held: &mut Vec<u8>,
+    start: &mut usize,
+    ended: &mut bool,
+    chunk: &mut [u8],
+    source: &mut S,
+) -> Result<Front, FrameError>
+    requires room { CHUNK ≤ length chunk.old }
+    requires within { start.old ≤ vec_len held.old }
+    ensures within { start.new ≤ vec_len held.new }
+    ensures found { FindsFront
+        (record { front = drop start.old held.old.items; ended = ended.old })
+        (record { front = drop start.new held.new.items; ended = ended.new })
+        (S.left source.old) (S.left source.new) result }
+    ensures unread { is_settled (record { front = drop start.old held.old.items; ended = ended.old }) ≡ true
+        → source.new ≡ source.old }
+
+    ensures count { S.faults source.old ≤ S.faults source.new }
+    ensures cause { result ≡ Err FrameError.ReadFault → HasRisen (S.faults source.old) (S.faults source.new) }
+{
+    let front = front_of(&held[*start..]);
+    let Front::Short(_) = front else {
+        return Ok(front);
+    };
+    if *ended {
+        return Ok(front);
+    }
+    compact(held, start);
+    fill(held, ended, chunk, source)
+}
+
+/// Takes what is wanting of the first frame, and answers where its body stands behind `start`, or nothing where the
+/// input ends there.
+pub(crate) fn find_frame<S: Source>(
+    held: &mut Vec<u8>,
+    start: &mut usize,
+    ended: &mut bool,
+    chunk: &mut [u8],
+    source: &mut S,
+) -> Result<Option<Place>, FrameError>
+    requires room { CHUNK ≤ length chunk.old }
+    requires within { start.old ≤ vec_len held.old }
+    ensures within { start.new ≤ vec_len held.new }
+    ensures found { FindsFrame
+        (record { front = drop start.old held.old.items; ended = ended.old })
+        (record { front = drop start.new held.new.items; ended = ended.new })
+        (S.left source.old) (S.left source.new) result }
+    ensures unread { is_settled (record { front = drop start.old held.old.items; ended = ended.old }) ≡ true
+        → source.new ≡ source.old }
+
+    ensures count { S.faults source.old ≤ S.faults source.new }
+    ensures cause { result ≡ Err FrameError.ReadFault → HasRisen (S.faults source.old) (S.faults source.new) }
+{
+    let front = settle(held, start, ended, chunk, source)?;
+    place_of(front, held.len() == *start)
+}
+
+// Where the body of what stands at the front is, or why there is none where the input ends with what is short.
+fn place_of(front: Front, is_empty: bool) -> Result<Option<Place>, FrameError>
+    ensures { IsPlaceOf front is_empty result }
+{
+    match front {
+        Front::Whole(place) => Ok(Some(place)),
+        Front::Short(_) if is_empty => Ok(None),
+        Front::Large => Err(FrameError::TooLong),
+        _ => Err(FrameError::Broken),
+    }
+}
+
+/// Lends the body at that place behind `start`, and moves `start` past it.
+pub(crate) fn take_body<'a>(
+    held: &'a [u8],
+    start: &mut usize,
+    found: Option<Place>,
+) -> Option<&'a [u8]>
+    requires within { start.old ≤ length held.now }
+    requires place { IfSome found (λ place. (place.from ≤ place.to) × (place.to ≤ length (drop start.old held.now))) }
+    ensures within { start.new ≤ length held.now }
+    ensures body { option_copied result ≡ body_at found (drop start.old held.now) }
+    ensures rest { drop start.new held.now ≡ behind found (drop start.old held.now) }
+{
+    let place = found?;
+    let from = *start;
+    *start = from + place.to;
+    Some(&held[from + place.from..from + place.to])
+}

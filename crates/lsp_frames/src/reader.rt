@@ -1,0 +1,138 @@
+//! Reading a source frame by frame.
+ghost use Rattle.std.specs.Prelude.{◌≡◌, ◌≤◌, [], true, false, length, IfOk, IfSome, Ok, Err, MatchResult};
+ghost use Rattle.std.specs.Option.{option_copied};
+ghost use Rattle.nav_io.specs.Faults.{HasRisen};
+ghost use Rattle.nav_io.specs.Reading.{ahead};
+ghost use Rattle.lsp_frames.specs.Frames.{body_max, cut, body_of};
+ghost use Rattle.lsp_frames.specs.declared.reader.FrameError.TheVariants.{ReadFault, NoMemory};
+
+use crate::held::{find_frame, take_body};
+use nav_io::{Failed, NoMemory, Source};
+use std::alloc::{AllocError, Global};
+use std::marker::Model;
+
+/// The most bytes that a body may have.
+pub const BODY_MAX: usize = 8_388_608;
+
+// How many bytes each read of the source is offered.
+pub(crate) const CHUNK: usize = 4_096;
+
+/// Why there is no next frame.
+#[derive(Clone, Copy, Debug, PartialEq, Eq)]
+pub enum FrameError {
+    /// The source failed; its count of faults rose, and no whole frame was taken before.
+    ReadFault,
+    /// The input is no frame, or ends within one.
+    Broken,
+    /// The block of header lines states more than `BODY_MAX` bytes.
+    TooLong,
+    /// Memory was wanting.
+    NoMemory,
+}
+
+impl From<AllocError> for FrameError {
+    ghost from_gives = { λ _ e. e ≡ NoMemory };
+
+    fn from(_: AllocError) -> Self {
+        FrameError::NoMemory
+    }
+}
+
+impl From<Failed> for FrameError {
+    ghost from_gives = { λ _ e. e ≡ ReadFault };
+
+    fn from(_: Failed) -> Self {
+        FrameError::ReadFault
+    }
+}
+
+/// Reads frames from a source. Contracts see the bytes that it took and hasn't answered yet, and whether it met the
+/// end of input.
+#[derive(Drop)]
+pub struct FrameReader {
+    // What was taken; the bytes before `start` are answered.
+    held: Vec<u8>,
+    start: usize,
+    ended: bool,
+    // Where a read puts what it takes.
+    chunk: Vec<u8>,
+}
+
+impl Model for FrameReader {
+    ghost use Rattle.std.specs.Prelude.{◌≤◌, vec_len, drop};
+    ghost use Rattle.nav_io.specs.Reading.{Reading};
+    ghost use Rattle.lsp_frames.specs.declared.reader.TheConstants.{CHUNK};
+
+    ghost Value = { Reading };
+
+    ghost view = { λ reader. record { front = drop reader.start reader.held.items; ended = reader.ended } };
+
+    ghost invariant = { λ reader. (reader.start ≤ vec_len reader.held) × (CHUNK ≤ vec_len reader.chunk) };
+}
+
+impl FrameReader {
+    ghost use Rattle.std.specs.Borrow.{sem};
+    ghost use Rattle.std.specs.Io.BufRead.{Rests};
+    ghost use Rattle.lsp_frames.specs.contracts.reader.FrameReader.{the_row};
+    ghost use Rattle.lsp_frames.specs.Reading.{is_settled, AfterFrame, AfterFrameError};
+
+    /// A reader that has taken nothing.
+    pub fn new(alloc: Global) -> Result<FrameReader, NoMemory>
+        ensures empty { IfOk result (λ reader. reader ≡ record { front = []; ended = false }) }
+    {
+        match vec![in alloc; 0; CHUNK] {
+            Ok(chunk) => Ok(FrameReader {
+                held: Vec::new(alloc),
+                start: 0,
+                ended: false,
+                chunk,
+            }),
+            Err(_) => Err(NoMemory),
+        }
+    }
+
+    /// Answers the body of the next frame, or `None` exactly at the end of input.
+    ///
+    /// The frames are those of the text ahead, which the bytes taken and not yet answered make with what the source
+    /// has left. A frame is a block of header lines, of at most 4,096 bytes with the empty line that ends it, and a
+    /// body of the length that its one line `Content-Length` states. Each read of the source is offered 4,096 bytes.
+    /// Where a whole frame is among the bytes taken, or once a read answered that the input ends, the source isn't
+    /// read. A frame costs time in its length.
+    ///
+    /// - `ReadFault`: the source's count of faults rose, what was taken and not yet answered is nothing or a beginning
+    ///   of a frame, and the end of input wasn't met.
+    /// - `Broken`: no frame is ahead, whatever follows, as soon as the bytes taken show it; or the input ends within a
+    ///   frame.
+    /// - `TooLong`: the block states more than `BODY_MAX` bytes. The body isn't waited for.
+    /// - `NoMemory`: memory was wanting.
+    ///
+    /// After an error no byte is lost, but the reader isn't meant to be used again.
+    pub fn next_frame<S: Source>(&mut self, source: &mut S) -> Result<Option<&[u8]>, FrameError>
+        ensures frame { IfOk result (λ next. IfSome (ahead self.old (S.left source.old))
+            (λ text. body_of (cut text) ≡ Ok (option_copied next))) }
+        ensures short { IfOk result (λ next. IfSome (option_copied next) (λ body. length body ≤ body_max)) }
+        ensures broken { result ≡ Err FrameError.Broken
+            → IfSome (ahead self.old (S.left source.old)) (λ text. body_of (cut text) ≡ Err FrameError.Broken) }
+        ensures too_long { result ≡ Err FrameError.TooLong
+            → IfSome (ahead self.old (S.left source.old)) (λ text. body_of (cut text) ≡ Err FrameError.TooLong) }
+        ensures unread { is_settled self.old ≡ true → source.new ≡ source.old }
+
+        // What is ahead of the reader then.
+        ensures* rest { sem 𝓛 (Rests the_row self.entry (λ new. MatchResult result
+            (λ next. AfterFrame self.old new (S.left source.old) (S.left source.new) (option_copied next))
+            (λ e. AfterFrameError self.old new (S.left source.old) (S.left source.new) e))) }
+
+        ensures count { S.faults source.old ≤ S.faults source.new }
+        ensures cause { result ≡ Err FrameError.ReadFault
+            → HasRisen (S.faults source.old) (S.faults source.new) }
+    {
+        let found = find_frame(
+            &mut self.held,
+            &mut self.start,
+            &mut self.ended,
+            &mut self.chunk,
+            source,
+        )?;
+        Ok(take_body(&self.held, &mut self.start, found))
+    }
+}

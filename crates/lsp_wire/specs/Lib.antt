@@ -1,0 +1,4 @@
+pub mod Uris
+pub mod Members
+pub mod Messages
+pub mod Replies

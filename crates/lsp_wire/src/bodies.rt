@@ -1,0 +1,93 @@
+//! What the bytes of a body are.
+ghost use Rattle.std.specs.Prelude.{◌≡◌, IfOk, option_map, codes};
+ghost use Rattle.serde_json.specs.Find.{get, as_str};
+ghost use Rattle.serde_json.specs.View.{view};
+ghost use Rattle.lsp_wire.specs.Messages.{method_of, params_of, id_from, message_with, body_with, body_of, body_from};
+
+use crate::asks::{asks, method_of};
+use crate::members::{id_of, take_member};
+use crate::{Body, Id, Message, Method};
+use json_values::{JsonFault, parse};
+use serde_json::Value;
+use std::alloc::{AllocError, Global};
+
+/// What the bytes of a frame's body are: the message that they are, or why they are none.
+///
+/// The one error is want of memory. The bytes are gone over once to make a value of them, which copies each text once;
+/// the text of a document is taken out of that value and not copied again.
+pub fn read_body(alloc: Global, bytes: &[u8]) -> Result<Body, AllocError>
+    ensures { IfOk result (λ body. body ≡ body_from bytes.now) }
+{
+    match parse(alloc, bytes) {
+        Ok(value) => body_of(alloc, value),
+        Err(JsonFault::BadJson) => Ok(Body::NotJson),
+        Err(JsonFault::NoMemory) => Err(AllocError),
+    }
+}
+
+// What the value is.
+fn body_of(alloc: Global, v: Value) -> Result<Body, AllocError>
+    ensures { IfOk result (λ body. body ≡ body_of (view v)) }
+{
+    if v.as_object().is_none() {
+        return Ok(Body::Invalid);
+    }
+    let Some(name) = v.get("method") else {
+        return Ok(Body::Passed);
+    };
+    let method = method_named(name);
+    match message(alloc, method, v)? {
+        Some(message) => Ok(Body::Message(message)),
+        None => Ok(Body::Invalid),
+    }
+}
+
+// The method that is named, which may be unknown, if the name is a text.
+fn method_named(name: &Value) -> Option<Option<Method>>
+    ensures { result ≡ option_map method_of (as_str (view name.now)) }
+{
+    Some(method_of(name.as_str()?))
+}
+
+// The message with this method.
+#[tactic(auto, unfolding(crate::specs::Messages::message_with))]
+fn message(
+    alloc: Global,
+    method: Option<Option<Method>>,
+    v: Value,
+) -> Result<Option<Message>, AllocError>
+    ensures { IfOk result (λ message. message ≡ message_with method (view v)) }
+{
+    let Some(method) = method else {
+        return Ok(None);
+    };
+    let Some(id) = id_in(alloc, &v)? else {
+        return Ok(None);
+    };
+    let asks = asks(alloc, method, params_of(v))?;
+    Ok(Some(Message { id, asks }))
+}
+
+// The id of the message, if it has one.
+fn id_in(alloc: Global, v: &Value) -> Result<Option<Option<Id>>, AllocError>
+    ensures { IfOk result (λ id. id ≡ id_from (get (codes "id") (view v.now))) }
+{
+    let Some(found) = v.get("id") else {
+        return Ok(Some(None));
+    };
+    match id_of(alloc, found)? {
+        Some(id) => Ok(Some(Some(id))),
+        None => Ok(None),
+    }
+}
+
+// The parameters of the message.
+fn params_of(v: Value) -> Value
+    ensures { view result ≡ params_of (view v) }
+{
+    let mut v = v;
+    match take_member(&mut v, "params") {
+        Some(params) => params,
+        None => Value::Null,
+    }
+}
