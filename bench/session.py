@@ -6,8 +6,9 @@ usage: bench/session.py [PROGRAM]     (crates/navd/out/navd, as `make build` lea
 File k of a tree defines `dK` and leads from `aK` to one other file's definition, and has a reference through another
 file's `a`, both drawn from the number of files; so each definition is found through the root and three files. The
 columns are: the commits of all files, 64 in each; the commit of one file that changes, and beside it how often it costs
-the one of the smallest tree; definitions asked at one version, with all lines sent at once; who refers to a definition,
-asked first and again at one version; and the program's memory at the end.
+the one of the smallest tree; definitions asked at one version with all lines sent at once, a second, of one file after
+the other and then of one file alone, and beside these how often one costs what it costs in the smallest tree; who refers
+to a definition, asked first and again at one version; and the program's memory at the end.
 """
 
 import json
@@ -90,8 +91,8 @@ class Session:
 
 
 def measured(files):
-    """The seconds of all commits, of one commit, the definitions a second, the seconds of who refers first and again, and
-    the memory."""
+    """The seconds of all commits, of one commit, of one definition of file after file and of one file alone, of who refers
+    first and again, and the memory."""
     draw = drawn(files)
     aims = [(next(draw), next(draw)) for _ in range(files)]
     session = Session()
@@ -106,8 +107,9 @@ def measured(files):
         took.append(session.replies([line_of(do="commit", edits=[{"put": path_of(k), "text": text}])])[1])
     one_file = sorted(took)[COMMITS // 2]
 
-    asked = [line_of(do="define", path=path_of(n % files), node=1) for n in range(DEFINES)]
-    _, defining = session.replies(asked)
+    spread = [line_of(do="define", path=path_of(n % files), node=1) for n in range(DEFINES)]
+    alone = [line_of(do="define", path=path_of(files // 2), node=1)] * DEFINES
+    defining = [session.replies(lines)[1] / DEFINES for lines in (spread, alone)]
 
     first, again = [], []
     for n in range(REFERENCES):
@@ -116,17 +118,17 @@ def measured(files):
         again.append(session.replies([line])[1])
     memory = session.memory()
     session.end()
-    return all_files, one_file, DEFINES / defining, sorted(first)[REFERENCES // 2], sorted(again)[REFERENCES // 2], memory
+    return all_files, one_file, defining, sorted(first)[REFERENCES // 2], sorted(again)[REFERENCES // 2], memory
 
 
 def main():
-    print("files   commit all   commit one   ratio   define/s   references   again      memory")
+    print("files   commit all   commit one   ratio   define/s   ratio   of one file   ratio   references   again      memory")
     least = None
     for files in FILES:
-        all_files, one_file, defines, first, again, memory = measured(files)
-        least = one_file if least is None else least
-        print(f"{files:5}   {all_files:8.3f} s   {one_file * 1e3:7.2f} ms   {one_file / least:5.2f}   {defines:8,.0f}   "
-              f"{first * 1e3:7.2f} ms   {again * 1e3:7.2f} ms   {memory:6.1f} MB")
+        all_files, one_file, (spread, alone), first, again, memory = measured(files)
+        least = least or (one_file, spread, alone)
+        print(f"{files:5}   {all_files:8.3f} s   {one_file * 1e3:7.2f} ms   {one_file / least[0]:5.2f}   {1 / spread:8,.0f}   {spread / least[1]:5.2f}   "
+              f"{1 / alone:9,.0f}     {alone / least[2]:5.2f}   {first * 1e3:7.2f} ms   {again * 1e3:7.2f} ms   {memory:6.1f} MB")
 
 
 if __name__ == "__main__":
