@@ -10,6 +10,7 @@ Memory is to follow the number of paths, and not the length of the name but for 
 """
 
 import json
+import os
 import subprocess
 import sys
 import time
@@ -18,6 +19,21 @@ from measure import least_memory
 
 PROGRAM = sys.argv[1] if len(sys.argv) > 1 else "crates/aux_bench/out/aux_bench"
 DOCUMENTS = 1_000
+PART = """\
+import os.path as path
+from package.module import first, second as other
+
+class Shape%d(first.Shape):
+    def area(self, width, height):
+        if width > height and not self.closed:
+            return width * height + self.scale(width, "width", 12) - 1
+        for item in self.items:
+            total = other(item.value(1, 2, 3)) // 2
+        self.size = [width, height, path]
+        return total
+
+"""
+MODULE = "".join(PART.replace("%d", str(n)) for n in range(7))
 
 
 def ladder(scopes):
@@ -48,17 +64,19 @@ def imports(name, lines):
     return name + "\n" + "from m import *\n" * lines
 
 
-def answer(case, times, text):
-    done = subprocess.run([PROGRAM], input=f"{case} {times}\n{text}".encode(), stdout=subprocess.PIPE, check=True)
+def answer(case, times, text, alone=False):
+    """What the program writes, on one processor where it is to run alone there."""
+    limit = (lambda: os.sched_setaffinity(0, {min(os.sched_getaffinity(0))})) if alone else None
+    done = subprocess.run([PROGRAM], input=f"{case} {times}\n{text}".encode(), stdout=subprocess.PIPE, preexec_fn=limit, check=True)
     return done.stdout.decode().strip()
 
 
-def seconds(case, times, text):
+def seconds(case, times, text, alone=False):
     """The least of three runs."""
     took = []
     for _ in range(3):
         start = time.perf_counter()
-        answer(case, times, text)
+        answer(case, times, text, alone)
         took.append(time.perf_counter() - start)
     return min(took)
 
@@ -71,6 +89,14 @@ def main():
         line = f"{name:30} {said:34} {walks / (found - read) / 1e6:6.2f} million walks/s"
         print(f"{line}, {(found - read) / read:8.2f} times the reading of the file")
     text, _ = groups(100)
+    for name, case, document in [("such files", "index", text), ("Python modules", "modules", MODULE)]:
+        rates = []
+        for alone in (True, False):
+            took = seconds(case, DOCUMENTS, document, alone) - seconds(case, 0, document, alone)
+            rates.append(DOCUMENTS / took)
+        name = f"{DOCUMENTS:,} {name} of {len(document):,} bytes"
+        processors = len(os.sched_getaffinity(0))
+        print(f"{name:40} {rates[0]:8,.0f} documents/s on one processor, {rates[1]:8,.0f} on {processors}, {rates[1] / rates[0]:.1f} times as many")
     none = seconds("index", 0, text)
     first = seconds("index", DOCUMENTS, text) - none
     again = (seconds("again", DOCUMENTS, text) - first - none) / 10

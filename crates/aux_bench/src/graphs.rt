@@ -11,6 +11,7 @@ use path_store::{Document, PathStore};
 use std::alloc::Global;
 use std::marker::Brand;
 use std::sync::ledger::{Blank, Ledger};
+use std::thread::Threads;
 
 /// Reads the text as a graph file.
 pub fn graph(alloc: Global, text: &[u8]) -> Option<FileGraph> {
@@ -63,21 +64,34 @@ fn documents(alloc: Global, text: &[u8], count: u32, ending: &str) -> Option<Vec
 
 /// Indexes so many documents of this text, whose paths end like this, over a store that keeps none, and then
 /// so many times again: how many files that gave the last time.
-pub fn index(alloc: Global, text: &[u8], count: u32, ending: &str, again: u32) -> Option<usize> {
+pub fn index<R: Threads + Sync>(
+    rt: &R,
+    alloc: Global,
+    text: &[u8],
+    count: u32,
+    ending: &str,
+    again: u32,
+) -> Option<usize> {
     let docs = documents(alloc, text, count, ending)?;
-    indexed::<Brand>(alloc, &docs, again, Blank::new(1))
+    indexed::<_, Brand>(rt, alloc, &docs, again, Blank::new(1))
 }
 
-fn indexed<L: Ledger>(alloc: Global, docs: &[Document], again: u32, blank: Blank) -> Option<usize>
+fn indexed<R: Threads + Sync, L: Ledger>(
+    rt: &R,
+    alloc: Global,
+    docs: &[Document],
+    again: u32,
+    blank: Blank,
+) -> Option<usize>
     requires name { blank.name ≡ L.name }
     requires parts { blank.parts ≡ L.parts }
     requires some { 0 < blank.parts }
 {
     let mut store = PathStore::new(alloc);
     let mut steps = Steps::<L>::new(blank);
-    let mut files = index_all(&(), alloc, docs, &mut store, &Unguarded, &mut steps).ok()?;
+    let mut files = index_all(rt, alloc, docs, &mut store, &Unguarded, &mut steps).ok()?;
     for _ in 0..again {
-        files = index_all(&(), alloc, docs, &mut store, &Unguarded, &mut steps).ok()?;
+        files = index_all(rt, alloc, docs, &mut store, &Unguarded, &mut steps).ok()?;
     }
     Some(files.len())
 }

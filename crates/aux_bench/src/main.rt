@@ -118,15 +118,15 @@ fn run_case<R: Threads + Sync + Print>(
         return print_walked(rt, found);
     }
     if let Some(count) = times(case, "index ") {
-        let files = index(alloc, text, count, ".sg.json", 0);
+        let files = index(rt, alloc, text, count, ".sg.json", 0);
         return print_indexed(rt, files);
     }
     if let Some(count) = times(case, "again ") {
-        let files = index(alloc, text, count, ".sg.json", 10);
+        let files = index(rt, alloc, text, count, ".sg.json", 10);
         return print_indexed(rt, files);
     }
     if let Some(count) = times(case, "modules ") {
-        let files = index(alloc, text, count, ".py", 0);
+        let files = index(rt, alloc, text, count, ".py", 0);
         return print_indexed(rt, files);
     }
     if let Some(times) = times(case, "stitch ") {

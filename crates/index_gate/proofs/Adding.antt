@@ -59,9 +59,9 @@ not_held store fresh doc before after e f there = absurd (true≢false (sym ther
 pub weight_none : (doc : Doc) (steps : ℕ) → (weight : ℕ) → IsDocWeight doc weight → steps ≤ steps + weight
 weight_none doc steps weight w = omega arith
 
-pub weight_some : (doc : Doc) (g : Graph) (before after : ℕ) → graph_of_doc doc ≡ Ok g → ((weight : ℕ) → IsWeight g weight → after ≤ before + weight)
-    → (weight : ℕ) → IsDocWeight doc weight → after ≤ before + weight
-weight_some doc g before after e few weight w = few weight (subst (λ (r : Result Graph FileFault). MatchResult r (λ g. IsWeight g weight) (λ _. weight ≡ 0)) e w)
+pub weight_is : (doc : Doc) (g : Graph) (walks : ℕ) → graph_of_doc doc ≡ Ok g → ((weight : ℕ) → IsWeight g weight → walks ≤ weight)
+    → (weight : ℕ) → IsDocWeight doc weight → walks ≤ weight
+weight_is doc g walks e few weight w = few weight (subst (λ (r : Result Graph FileFault). MatchResult r (λ g. IsWeight g weight) (λ _. weight ≡ 0)) e w)
 
-pub counts : (file : FileRules) (g : Graph) (before after : ℕ) → file.graph ≡ g → AddsWalks g before after → CountsWalks file before after
-counts file g before after e adds = record { walks = subst (λ g. AddsWalks g before after) (sym e) adds }
+pub counts : (file : FileRules) (g : Graph) (before walks : ℕ) → file.graph ≡ g → before ≡ 0 → AddsWalks g before walks → AddsWalks file.graph 0 walks
+counts file g before walks e none adds = subst (λ n. AddsWalks file.graph n walks) none (subst (λ g. AddsWalks g before walks) (sym e) adds)

@@ -6,3 +6,4 @@ pub mod Faults
 pub mod Adding
 pub mod Places
 pub mod Graphs
+pub mod Slots

@@ -2,3 +2,4 @@ pub mod Limits
 pub mod Graphs
 pub mod Indexed
 pub mod Reading
+pub mod Ahead

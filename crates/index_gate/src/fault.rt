@@ -57,6 +57,17 @@ impl fmt::Display for ReadFault {
     }
 }
 
+impl From<AllocError> for ReadFault {
+    ghost use Rattle.std.specs.Prelude.{◌≡◌};
+    ghost use Rattle.index_gate.specs.declared.fault.ReadFault.TheVariants.{NoMemory};
+
+    ghost from_gives = { λ _ e. e ≡ NoMemory };
+
+    fn from(_e: AllocError) -> ReadFault {
+        ReadFault::NoMemory
+    }
+}
+
 /// Why documents aren't indexed.
 #[derive(Debug, Drop)]
 pub enum IndexFault {

@@ -2,19 +2,20 @@ ghost use Rattle.std.specs.Prelude.{◌≡◌, ◌≢◌, ◌≤◌, ◌+◌, �
 ghost use Rattle.partial_path.specs.PathSets.{FileRules};
 ghost use Rattle.path_store.specs.Store.{kept_of, with_doc};
 ghost use Rattle.index_gate.specs.declared.fault.IndexFault.TheVariants.{NoMemory};
-ghost use Rattle.index_gate.specs.Graphs.{graph_of_doc};
 ghost use Rattle.index_gate.specs.Indexed.{IsIndexed, AreIndexed, AreFilesOf, HasCause, AddsMissing, AddsSome, CountsWalks, CountsAllWalks, IsDocWeight, AreDocWeights, docs_of, has_doc, missing};
-ghost use Rattle.index_gate.specs.Reading.{IsReading, HasNone, Refuses, Finds, Adds};
+ghost use Rattle.index_gate.specs.Reading.{HasNone, Refuses, Finds, Adds};
+ghost use Rattle.index_gate.specs.Ahead.{IsDone};
 
-use crate::fault::{FileFault, IndexFault, ReadFault};
-use crate::reading::read_document;
-use file_paths::{PathsFault, enumerate};
-use graph_nodes::{FileGraph, Name, Steps};
+use crate::ahead::Ahead;
+use crate::fault::{IndexFault, ReadFault};
+use crate::working::{Done, work};
+use graph_nodes::{Name, Steps};
 use nav_io::Gate;
-use partial_path::{FilePaths, SharedPaths};
+use partial_path::SharedPaths;
 use path_store::{Document, PathStore};
 use std::alloc::{AllocError, Global};
 use std::sync::ledger::Ledger;
+use std::thread::Threads;
 
 /// The paths of each document's graph, in the order of the documents. A document that the store keeps is
 /// neither read nor walked again; each other one is indexed and kept once, however often it stands among
@@ -29,8 +30,8 @@ use std::sync::ledger::Ledger;
 ///
 /// What a document's graph is, what its faults are and which paths a graph has stands in words in
 /// `docs/DEFINITIONS.md`, and in this crate's `specs/`.
-pub fn index_all<R, G: Gate, L: Ledger>(
-    _rt: &R,
+pub fn index_all<R: Threads + Sync, G: Gate + Sync, L: Ledger>(
+    rt: &R,
     alloc: Global,
     docs: &[Document],
     store: &mut PathStore,
@@ -53,10 +54,11 @@ pub fn index_all<R, G: Gate, L: Ledger>(
     ensures steps { OnOk result (CountsAllWalks (drop (length store.old) store.new) steps.old steps.new) }
     ensures fewer { (total : ℕ) → AreDocWeights (missing (docs_of store.old) docs.now) total → steps.new ≤ steps.old + total }
 {
+    let ahead = Ahead::of(rt, alloc, docs, store, gate)?;
     let mut fresh = PathStore::new(alloc);
     let mut files = Vec::new(alloc);
     for doc in docs {
-        let paths = paths_for(alloc, doc, store, &mut fresh, gate, steps)?;
+        let paths = paths_for(alloc, doc, store, &ahead, &mut fresh, gate, steps)?;
         files.push(paths)?;
     }
     store.append(alloc, fresh)?;
@@ -70,6 +72,7 @@ fn paths_for<G: Gate, L: Ledger>(
     alloc: Global,
     doc: &Document,
     store: &PathStore,
+    ahead: &Ahead,
     fresh: &mut PathStore,
     gate: &G,
     steps: &mut Steps<L>,
@@ -88,7 +91,7 @@ fn paths_for<G: Gate, L: Ledger>(
     if let Some(paths) = find_shared(fresh, doc)? {
         return Ok(paths);
     }
-    let paths = index_new(alloc, doc, fresh.len(), gate, steps)?;
+    let paths = index_new(alloc, doc, ahead, fresh.len(), gate, steps)?;
     keep_new(alloc, doc, &paths, fresh)?;
     Ok(paths)
 }
@@ -117,10 +120,12 @@ fn keep_new(
     fresh.keep(alloc, doc.share()?, paths.share()?)
 }
 
-/// The paths of a document that no store keeps, as the job of that number.
+/// The paths of a document that no store keeps: those of the work ahead, or, where it was left out there, of the work
+/// that is done now, as the job of that number.
 fn index_new<G: Gate, L: Ledger>(
     alloc: Global,
     doc: &Document,
+    ahead: &Ahead,
     job: usize,
     gate: &G,
     steps: &mut Steps<L>,
@@ -130,40 +135,30 @@ fn index_new<G: Gate, L: Ledger>(
     ensures fault { IfErr result (Refuses doc.now) }
     ensures fewer { (weight : ℕ) → IsDocWeight doc.now weight → steps.new ≤ steps.old + weight }
 {
-    gate.enter(job);
-    let found = index_one(alloc, doc, steps);
-    gate.leave(job);
-    match found {
-        Ok(paths) => Ok(SharedPaths::of(alloc, paths)?),
-        Err(fault) => Err(refusal(alloc, doc, fault)),
+    match ahead.find(doc) {
+        Some(done) => take_up(alloc, doc, done, steps),
+        None => take_up(alloc, doc, &work(alloc, doc, job, gate), steps),
     }
 }
 
-// The paths of the document's graph.
-#[tactic(auto, using(crate::proofs::Adding::weight_none))]
-fn index_one<L: Ledger>(
+/// What came of the work on the document, whose walks are counted now.
+fn take_up<L: Ledger>(
     alloc: Global,
     doc: &Document,
+    done: &Done,
     steps: &mut Steps<L>,
-) -> Result<FilePaths, ReadFault>
+) -> Result<SharedPaths, IndexFault>
+    requires { IsDone doc.now done.now }
     ensures file { IfOk result (λ file. IsIndexed (kept_of doc.now file)) }
     ensures steps { IfOk result (λ file. CountsWalks file steps.old steps.new) }
-    ensures fault { IfErr result (HasNone doc.now) }
+    ensures fault { IfErr result (Refuses doc.now) }
     ensures fewer { (weight : ℕ) → IsDocWeight doc.now weight → steps.new ≤ steps.old + weight }
 {
-    let graph = graph_of(alloc, doc)?;
-    match enumerate(alloc, graph, steps) {
-        Ok(paths) => Ok(paths),
-        Err(PathsFault::Heavy(weight)) => Err(ReadFault::File(FileFault::Heavy(weight))),
-        Err(PathsFault::NoMemory) => Err(ReadFault::NoMemory),
+    steps.add(done.walks);
+    match &done.found {
+        Ok(paths) => Ok(paths.share()?),
+        Err(fault) => Err(refusal(alloc, doc, *fault)),
     }
-}
-
-// The graph of the document.
-fn graph_of(alloc: Global, doc: &Document) -> Result<FileGraph, ReadFault>
-    ensures { IsReading result (graph_of_doc doc.now) }
-{
-    read_document(alloc, doc.path(), doc.bytes())
 }
 
 // The answer where the work on the document ended so.

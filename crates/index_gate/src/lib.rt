@@ -1,11 +1,13 @@
 //! Indexes documents: the partial paths of each, found once and kept for all that ask again.
 #![tactic(auto)]
 
+mod ahead;
 mod fault;
 mod indexing;
 mod kind;
 mod laws;
 mod reading;
+mod working;
 
 pub use fault::{FileFault, IndexFault, MAX_BYTES, ReadFault};
 pub use indexing::index_all;

@@ -7,10 +7,11 @@ use nav_io::{Gate, Unguarded};
 use partial_path::SharedPaths;
 use path_store::{Document, PathStore};
 use std::alloc::Global;
-use std::cell::Cell;
 use std::marker::Brand;
+use std::sync::atomic::{AtomicU64, Ordering};
 use std::sync::ledger::{Blank, Ledger};
 use std::test::Fail;
+use std::thread::{Threads, available_parallelism, yield_now};
 
 const GRAPH: &str =
     r#"{"nodes":[{"kind":"push","symbol":"x","reference":true},{"kind":"scope"},{"kind":"pop","symbol":"x","definition":true}],"edges":[[0,1,0],[1,2,0]]}"#;
@@ -28,7 +29,8 @@ fn documents(alloc: Global, rows: &[(&str, &str)]) -> Result<Vec<Document>, Fail
 }
 
 /// Indexes the documents over a store that keeps nothing, on a ledger of its own.
-fn indexed_on<G: Gate, L: Ledger>(
+fn indexed_on<R: Threads + Sync, G: Gate + Sync, L: Ledger>(
+    rt: &R,
     alloc: Global,
     docs: &[Document],
     gate: &G,
@@ -40,20 +42,22 @@ fn indexed_on<G: Gate, L: Ledger>(
 {
     let mut store = PathStore::new(alloc);
     let mut steps = Steps::<L>::new(blank);
-    let files = index_all(&(), alloc, docs, &mut store, gate, &mut steps)?;
+    let files = index_all(rt, alloc, docs, &mut store, gate, &mut steps)?;
     Ok((files, store))
 }
 
-fn indexed<G: Gate>(
+fn indexed<R: Threads + Sync, G: Gate + Sync>(
+    rt: &R,
     alloc: Global,
     docs: &[Document],
     gate: &G,
 ) -> Result<(Vec<SharedPaths>, PathStore), IndexFault> {
-    indexed_on::<G, Brand>(alloc, docs, gate, Blank::new(1))
+    indexed_on::<_, _, Brand>(rt, alloc, docs, gate, Blank::new(1))
 }
 
 /// Indexes the documents twice: the second time no step is counted, since the store keeps them all.
-fn index_again<L: Ledger>(
+fn index_again<R: Threads + Sync, L: Ledger>(
+    rt: &R,
     alloc: Global,
     docs: &[Document],
     store: &mut PathStore,
@@ -62,13 +66,14 @@ fn index_again<L: Ledger>(
     requires { AreIndexed store.old }
     ensures { OnOk result (CountsAllWalks (drop (length store.old) store.new) steps.old steps.new) }
 {
-    index_all(&(), alloc, docs, store, &Unguarded, steps)?;
-    let files = index_all(&(), alloc, docs, store, &Unguarded, steps)?;
+    index_all(rt, alloc, docs, store, &Unguarded, steps)?;
+    let files = index_all(rt, alloc, docs, store, &Unguarded, steps)?;
     Ok(files)
 }
 
 /// How many files the documents have the second time, and how many the store keeps.
-fn again_on<L: Ledger>(
+fn again_on<R: Threads + Sync, L: Ledger>(
+    rt: &R,
     alloc: Global,
     docs: &[Document],
     blank: Blank,
@@ -79,33 +84,61 @@ fn again_on<L: Ledger>(
 {
     let mut store = PathStore::new(alloc);
     let mut steps = Steps::<L>::new(blank);
-    let files = index_again(alloc, docs, &mut store, &mut steps)?;
+    let files = index_again(rt, alloc, docs, &mut store, &mut steps)?;
     Ok((files.len(), store.len()))
 }
 
-fn again(alloc: Global, docs: &[Document]) -> Result<(usize, usize), IndexFault> {
-    again_on::<Brand>(alloc, docs, Blank::new(1))
+fn again<R: Threads + Sync>(
+    rt: &R,
+    alloc: Global,
+    docs: &[Document],
+) -> Result<(usize, usize), IndexFault> {
+    again_on::<_, Brand>(rt, alloc, docs, Blank::new(1))
 }
 
-/// A gate that notes whether jobs come one after the other, numbered from 0.
+/// A gate that counts how often the jobs 0, 1, 2, 3 and all others are entered and left, each number in four bits.
 #[derive(Drop)]
 struct Noted {
-    entered: Cell<usize>,
-    left: Cell<usize>,
-    in_turn: Cell<bool>,
+    entered: AtomicU64,
+    left: AtomicU64,
+}
+
+/// One time that job.
+fn once(job: usize) -> u64 {
+    match job {
+        0 => 0x1,
+        1 => 0x10,
+        2 => 0x100,
+        3 => 0x1000,
+        _ => 0x10000,
+    }
 }
 
 impl Gate for Noted {
     fn enter(&self, job: usize) {
-        let in_turn = job == self.entered.get() && job == self.left.get();
-        self.in_turn.set(self.in_turn.get() && in_turn);
-        self.entered.set(job.saturating_add(1));
+        self.entered.fetch_add(once(job), Ordering::SeqCst);
     }
 
     fn leave(&self, job: usize) {
-        let in_turn = job.saturating_add(1) == self.entered.get() && job == self.left.get();
-        self.in_turn.set(self.in_turn.get() && in_turn);
-        self.left.set(job.saturating_add(1));
+        self.left.fetch_add(once(job), Ordering::SeqCst);
+    }
+}
+
+impl Noted {
+    /// Where nothing was entered yet.
+    fn new() -> Noted {
+        Noted {
+            entered: AtomicU64::new(0),
+            left: AtomicU64::new(0),
+        }
+    }
+
+    /// What was entered, and what was left.
+    fn told(&self) -> (u64, u64) {
+        (
+            self.entered.load(Ordering::SeqCst),
+            self.left.load(Ordering::SeqCst),
+        )
     }
 }
 
@@ -120,12 +153,8 @@ fn each_document_has_its_paths(rt: HostRuntime) -> Result<(), Fail> {
         ("empty.py", ""),
     ];
     let docs = documents(alloc, &rows)?;
-    let gate = Noted {
-        entered: Cell::new(0),
-        left: Cell::new(0),
-        in_turn: Cell::new(true),
-    };
-    let Ok((files, store)) = indexed(alloc, &docs, &gate) else {
+    let gate = Noted::new();
+    let Ok((files, store)) = indexed(&rt, alloc, &docs, &gate) else {
         return Err(Fail::new("the documents have no fault"));
     };
     assert_eq!(rt; files.len(), 5);
@@ -134,13 +163,10 @@ fn each_document_has_its_paths(rt: HostRuntime) -> Result<(), Fail> {
     assert_eq!(rt; figures(&files, 3), Some((1, 0)));
     // A document that stands twice is one job, and is kept once.
     assert_eq!(rt; store.len(), 4);
-    assert_eq!(rt;
-        (gate.entered.get(), gate.left.get(), gate.in_turn.get()),
-        (4, 4, true)
-    );
+    assert_eq!(rt; gate.told(), (0x1111, 0x1111));
     assert!(rt; docs.iter().all(|doc| store.find(doc).is_some()));
     // Indexed again, they are the same files, and none is kept twice.
-    let Ok(counts) = again(alloc, &docs) else {
+    let Ok(counts) = again(&rt, alloc, &docs) else {
         return Err(Fail::new("the documents have no fault"));
     };
     assert_eq!(rt; counts, (5, 4));
@@ -154,16 +180,21 @@ fn figures(files: &[SharedPaths], place: usize) -> Option<(u32, usize)> {
 }
 
 /// The first document with a fault, and its fault, as the answer says it; `none` where there is none.
-fn fault_of(alloc: Global, docs: &[Document]) -> Result<String, Fail> {
-    match indexed(alloc, docs, &Unguarded) {
+fn fault_of<R: Threads + Sync>(rt: &R, alloc: Global, docs: &[Document]) -> Result<String, Fail> {
+    match indexed(rt, alloc, docs, &Unguarded) {
         Ok(_) => Ok(String::from_str(alloc, "none")?),
         Err(fault) => Ok(format!(in alloc; "{fault}")?),
     }
 }
 
 /// The fault of the document of that path and text alone.
-fn fault_at(alloc: Global, path: &str, text: &str) -> Result<String, Fail> {
-    fault_of(alloc, &documents(alloc, &[(path, text)])?)
+fn fault_at<R: Threads + Sync>(
+    rt: &R,
+    alloc: Global,
+    path: &str,
+    text: &str,
+) -> Result<String, Fail> {
+    fault_of(rt, alloc, &documents(alloc, &[(path, text)])?)
 }
 
 /// Documents, each its path, a bar and its text, with an at sign for a newline; semicolons between them; and behind
@@ -205,10 +236,10 @@ fn documents_of(alloc: Global, row: &str) -> Result<Vec<Document>, Fail> {
 }
 
 /// The first row that is told otherwise, and what is told; else an empty text.
-fn first_wrong(alloc: Global) -> Result<String, Fail> {
+fn first_wrong<R: Threads + Sync>(rt: &R, alloc: Global) -> Result<String, Fail> {
     for row in FAULTS.split('\n') {
         let (docs, wanted) = row.split_once(" => ").unwrap_or((row, "no arrow"));
-        let told = fault_of(alloc, &documents_of(alloc, docs)?)?;
+        let told = fault_of(rt, alloc, &documents_of(alloc, docs)?)?;
         if told.as_str() != wanted {
             return Ok(format!(in alloc; "{row}, but {told}")?);
         }
@@ -218,13 +249,14 @@ fn first_wrong(alloc: Global) -> Result<String, Fail> {
 
 #[test]
 fn the_first_fault_of_the_first_document_is_told(rt: HostRuntime) -> Result<(), Fail> {
-    assert_eq!(rt; first_wrong(rt.alloc())?.as_str(), "");
+    assert_eq!(rt; first_wrong(&rt, rt.alloc())?.as_str(), "");
     Ok(())
 }
 
 /// Indexes the first documents, and then the others over the store that keeps these, with the gate; tells
 /// how many the store keeps at the end, and whether the others had a fault.
-fn kept_on<G: Gate, L: Ledger>(
+fn kept_on<R: Threads + Sync, G: Gate + Sync, L: Ledger>(
+    rt: &R,
     alloc: Global,
     first: &[Document],
     others: &[Document],
@@ -237,18 +269,19 @@ fn kept_on<G: Gate, L: Ledger>(
 {
     let mut store = PathStore::new(alloc);
     let mut steps = Steps::<L>::new(blank);
-    index_all(&(), alloc, first, &mut store, &Unguarded, &mut steps)?;
-    let stopped = index_all(&(), alloc, others, &mut store, gate, &mut steps).is_err();
+    index_all(rt, alloc, first, &mut store, &Unguarded, &mut steps)?;
+    let stopped = index_all(rt, alloc, others, &mut store, gate, &mut steps).is_err();
     Ok((store.len(), stopped))
 }
 
-fn kept<G: Gate>(
+fn kept<R: Threads + Sync, G: Gate + Sync>(
+    rt: &R,
     alloc: Global,
     first: &[Document],
     others: &[Document],
     gate: &G,
 ) -> Result<(usize, bool), IndexFault> {
-    kept_on::<G, Brand>(alloc, first, others, gate, Blank::new(1))
+    kept_on::<_, _, Brand>(rt, alloc, first, others, gate, Blank::new(1))
 }
 
 #[test]
@@ -261,19 +294,12 @@ fn jobs_are_numbered_among_new_documents_and_left_after_a_fault(
         alloc,
         "a.py|x = 1;c.py|;b.py|y = 2;d.py|z = 3;notes.txt|;e.py|",
     )?;
-    let gate = Noted {
-        entered: Cell::new(0),
-        left: Cell::new(0),
-        in_turn: Cell::new(true),
-    };
-    let Ok(told) = kept(alloc, &first, &others, &gate) else {
+    let gate = Noted::new();
+    let Ok(told) = kept(&rt, alloc, &first, &others, &gate) else {
         return Err(Fail::new("the first documents have no fault"));
     };
     assert_eq!(rt; told, (2, true));
-    assert_eq!(rt;
-        (gate.entered.get(), gate.left.get(), gate.in_turn.get()),
-        (3, 3, true)
-    );
+    assert_eq!(rt; gate.told(), (0x1111, 0x1111));
     Ok(())
 }
 
@@ -292,13 +318,13 @@ fn a_document_has_at_most_a_mebibyte(rt: HostRuntime) -> Result<(), Fail> {
     let most = padded(alloc, 1_048_576)?;
     let more = padded(alloc, 1_048_577)?;
     assert_eq!(rt;
-        fault_at(alloc, "a.sg.json", most.as_str())?.as_str(),
+        fault_at(&rt, alloc, "a.sg.json", most.as_str())?.as_str(),
         "none"
     );
     for path in ["a.sg.json", "my-tool.py"] {
         let wanted = format!(in alloc; "{path}: 1048577 bytes are too many")?;
         assert_eq!(rt;
-            fault_at(alloc, path, more.as_str())?.as_str(),
+            fault_at(&rt, alloc, path, more.as_str())?.as_str(),
             wanted.as_str()
         );
     }
@@ -325,14 +351,60 @@ fn a_file_has_a_greatest_weight(rt: HostRuntime) -> Result<(), Fail> {
     let alloc = rt.alloc();
     let text = ladder(alloc, 16)?;
     let docs = documents(alloc, &[("a.sg.json", text.as_str())])?;
-    let Ok((files, _)) = indexed(alloc, &docs, &Unguarded) else {
+    let Ok((files, _)) = indexed(&rt, alloc, &docs, &Unguarded) else {
         return Err(Fail::new("the ladder has no fault"));
     };
     assert_eq!(rt; figures(&files, 0), Some((983_041, 0)));
     let text = ladder(alloc, 17)?;
     assert_eq!(rt;
-        fault_at(alloc, "a.sg.json", text.as_str())?.as_str(),
+        fault_at(&rt, alloc, "a.sg.json", text.as_str())?.as_str(),
         "a.sg.json: the file's walks have too many edges together"
     );
+    Ok(())
+}
+
+/// A gate at which each job waits until a second one has begun, for so many turns at most.
+#[derive(Drop)]
+struct Meeting {
+    begun: AtomicU64,
+    missed: AtomicU64,
+}
+
+/// How often a job looks for the other one.
+const TURNS: u32 = 1_000_000;
+
+impl Gate for Meeting {
+    fn enter(&self, _job: usize) {
+        self.begun.fetch_add(1, Ordering::SeqCst);
+        for _ in 0..TURNS {
+            if self.begun.load(Ordering::SeqCst) >= 2 {
+                return;
+            }
+            yield_now();
+        }
+        self.missed.fetch_add(1, Ordering::SeqCst);
+    }
+
+    fn leave(&self, _job: usize) {}
+}
+
+/// How many jobs met no other one, of two documents.
+fn missed<R: Threads + Sync>(rt: &R, alloc: Global) -> Result<u64, Fail> {
+    let docs = documents_of(alloc, "a.py|x = 1;b.py|y = 2")?;
+    let gate = Meeting {
+        begun: AtomicU64::new(0),
+        missed: AtomicU64::new(0),
+    };
+    match indexed(rt, alloc, &docs, &gate) {
+        Ok(_) => Ok(gate.missed.load(Ordering::SeqCst)),
+        Err(_) => Err(Fail::new("the documents have no fault")),
+    }
+}
+
+/// On one processor there is one thread, so the first job meets no other one.
+#[test]
+fn two_documents_are_worked_on_at_once(rt: HostRuntime) -> Result<(), Fail> {
+    let alone = available_parallelism(&rt)?.get() == 1;
+    assert_eq!(rt; missed(&rt, rt.alloc())?, u64::from(alone));
     Ok(())
 }

@@ -19,13 +19,14 @@ use nav_proto::{Edits, Reply};
 use partial_path::SharedPaths;
 use std::alloc::{AllocError, Global};
 use std::sync::ledger::Ledger;
+use std::thread::Threads;
 use version_board::Commits;
 use version_tree::PathText;
 
 /// The reply to `commit`, where the user may change anything: its documents are indexed, unless the desk keeps them, and
 /// then its edits come before the board. The one error is want of memory.
 #[tactic(auto, using(crate::proofs::Asked::operator_by, crate::proofs::Asked::refused_change))]
-pub fn commit<R, B: Commits<R>, G: Gate, L: Ledger>(
+pub fn commit<R: Threads + Sync, B: Commits<R>, G: Gate + Sync, L: Ledger>(
     rt: &R,
     alloc: Global,
     desk: &mut Desk,
@@ -58,7 +59,7 @@ pub fn commit<R, B: Commits<R>, G: Gate, L: Ledger>(
 
 /// The reply to a commit of a user that may change anything.
 #[tactic(auto, using(crate::proofs::Committed::bad_file, crate::proofs::Committed::judged))]
-fn commit_allowed<R, B: Commits<R>, G: Gate, L: Ledger>(
+fn commit_allowed<R: Threads + Sync, B: Commits<R>, G: Gate + Sync, L: Ledger>(
     rt: &R,
     alloc: Global,
     desk: &mut Desk,

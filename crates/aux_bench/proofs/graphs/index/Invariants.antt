@@ -2,4 +2,4 @@ use Rattle.aux_bench.proofs.graphs.index.Given as goal
 
 -- the ledger is the one that was opened here
 abbrev pub ghosts-indexed : goal.ghosts-indexed
-ghosts-indexed a = record { name = a.blank.name; parts = a.blank.parts }
+ghosts-indexed g a = record { name = a.blank.name; parts = a.blank.parts }

@@ -18,14 +18,14 @@ paths_for-requires-clause-fresh g c = c.loop-doc.invariant.indexed
 
 pub returns-in_err-paths-clause-fault : goal.returns-in_err-paths-clause-fault
 returns-in_err-paths-clause-fault g c =
-    let r : IfErr c.from_residual.result (Refuses c.doc-item.result) = search rules in
-    err_tells c.from_residual.result (Refuses c.doc-item.result) (HasCause c.args.docs.now) r
+    let r : IfErr c.from_residual-in_err-paths.result (Refuses c.doc-item.result) = search rules in
+    err_tells c.from_residual-in_err-paths.result (Refuses c.doc-item.result) (HasCause c.args.docs.now) r
     (fault_at (docs_of c.args.store.now) c.args.docs.now c.loop-doc.doc-index c.loop-doc.files.items c.loop-doc.fresh c.args.steps.now c.loop-doc.steps c.doc-item.result
     c.loop-doc-test.true c.doc-item.is c.loop-doc.invariant)
 
 pub returns-in_err-paths-clause-some : goal.returns-in_err-paths-clause-some
 returns-in_err-paths-clause-some g c =
-    on_err c.from_residual.result (AddsSome c.args.docs.now c.args.store.now c.args.store.now) (none_added c.args.store.now c.args.docs.now)
+    on_err c.from_residual-in_err-paths.result (AddsSome c.args.docs.now c.args.store.now c.args.store.now) (none_added c.args.store.now c.args.docs.now)
 
 pub returns-in_err-paths-clause-fewer : goal.returns-in_err-paths-clause-fewer
 returns-in_err-paths-clause-fewer g c =

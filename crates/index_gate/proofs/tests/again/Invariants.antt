@@ -2,4 +2,4 @@ use Rattle.index_gate.proofs.tests.again.Given as goal
 
 -- the ledger is the one that was opened here
 abbrev pub ghosts-again_on : goal.ghosts-again_on
-ghosts-again_on a = record { name = a.blank.name; parts = a.blank.parts }
+ghosts-again_on g a = record { name = a.blank.name; parts = a.blank.parts }
