@@ -66,6 +66,17 @@ def dead_ends(rungs):
     return text(nodes, edges)
 
 
+def pushes(rungs):
+    """A ladder to a node that refuses, of whose rungs each pushes one symbol or another."""
+    nodes = [REFERENCE, SCOPE]
+    edges = [[0, 1, 0]]
+    for rung in range(rungs):
+        at = 1 + 3 * rung
+        nodes += [{"kind": "push", "symbol": "a"}, {"kind": "push", "symbol": "b"}, SCOPE]
+        edges += [[at, at + 1, 0], [at, at + 2, 0], [at + 1, at + 3, 0], [at + 2, at + 3, 0]]
+    return text(nodes + [OTHER], edges + [[1 + 3 * rungs, 2 + 3 * rungs, 0]])
+
+
 def large():
     """16,384 nodes and 65,536 edges in less than 1,048,576 bytes; from the reference a definition is one edge away."""
     nodes = [REFERENCE, DEFINITION] + [SCOPE] * 16_382
@@ -88,8 +99,10 @@ def main():
         ("a chain of 16,000 scopes", chain(16_000, DEFINITION)),
         ("65,536 edges from one node", text([REFERENCE, OTHER], [[0, 1, 0]] * 65_536)),
         ("a ladder of dead ends, 40 rungs", dead_ends(40)),
-        ("a ladder of 18 rungs to a node that refuses", ladder(18, OTHER)),
-        ("a ladder of 20 rungs to a node that refuses", ladder(20, OTHER)),
+        ("a ladder of 40 rungs to a node that refuses", ladder(40, OTHER)),
+        ("a ladder of 120 rungs to a node that refuses", ladder(120, OTHER)),
+        ("a ladder of 14 rungs that push two symbols", pushes(14)),
+        ("a ladder of 16 rungs that push two symbols", pushes(16)),
     ]
     for name, data in rows:
         took = smallest if data is None else seconds([PROGRAM, "once"], data + asked)

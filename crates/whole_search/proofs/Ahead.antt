@@ -110,7 +110,7 @@ module _ (live : Spot → Bool) where
     same = λ p asks.
         sym (filter-append p (flat_map (onward bounds files c) (behind_one es edges)) rest
         ∙ ap (λ xs. xs ++ filter p rest) (filter_onward p bounds files c asks es edges u));
-    flag = λ q. true_or limit _ _ t;
+    flag = λ q asks. true_or limit _ _ t;
     shorter = let k : length (flat_map (onward bounds files c) (behind_one es edges) ++ rest) ≡ length (flat_map (onward bounds files c) (behind_one es edges)) + length rest = length-append (flat_map (onward bounds files c) (behind_one es edges)) rest in omega arith;
   }
 

@@ -15,3 +15,4 @@ pub mod PathEnds
 pub mod Serving
 pub mod Marks
 pub mod Landing
+pub mod Nowhere

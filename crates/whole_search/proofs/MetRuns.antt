@@ -103,6 +103,18 @@ module _ (live : Spot → Bool) (bounds : Bounds) (files : List Graph) (c : Conf
       (subst (λ (xs : List EdgeAt). IsStraight files c xs) l.is (straight_longer files c l.at l.next es l.e l.runs l.steps straight l.keeps))
       r.2
 
+  -- and from any run only runs are met
+  pub meets_runs : (n : ℕ) (es x : List EdgeAt) → IsSome (run files c es) → IsIn x (meets n live bounds files c es) → IsSome (run files c x)
+  meets_runs zero es x runs (inl e) = subst (λ (xs : List EdgeAt). IsSome (run files c xs)) (sym e) runs
+  meets_runs zero es x runs (inr h) = absurd h
+  meets_runs (suc n) es x runs (inl e) = subst (λ (xs : List EdgeAt). IsSome (run files c xs)) (sym e) runs
+  meets_runs (suc n) es x runs (inr h) =
+      let r = IsIn-flat_map_from (λ (next : List EdgeAt). meets n live bounds files c next) x (next_runs live bounds files c es) h in
+      let l = longer_of es r.0 r.1 in
+      meets_runs n r.0 x
+      (subst (λ (xs : List EdgeAt). IsSome (run files c xs)) l.is (ap is_some (run-with_edge files c l.at l.next es l.e l.runs l.steps)))
+      r.2
+
   no_room : (es more : List EdgeAt) (e : EdgeAt) → with_edge es e ++ more ≡ es → ⊥
   no_room es more e h =
       let one : length (with_edge es e) ≡ length es + 1 = length-append es (e ∷ []) in

@@ -4,3 +4,4 @@ pub mod Open
 pub mod Ends
 pub mod Leads
 pub mod Query
+pub mod Refusals

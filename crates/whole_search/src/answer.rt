@@ -23,9 +23,10 @@ use std::alloc::Global;
 /// `specs/Answers.antt`.
 ///
 /// It takes time and memory that follow the number of nodes and edges, for the table of live spots, and then
-/// time that follows the number of straight runs from the reference to places from which a definition or a
-/// cut can be reached. Where the definition at the end of a ladder of edges refuses, that is exponential in
-/// the ladder's layers: what a part of the graph refused on the same stacks isn't remembered.
+/// time that follows the number of straight runs from the reference that lead on to a definition or a cut. A
+/// place is left out once it is known that no run from it lands with the same stacks (`src/watch.rt`). That is
+/// still exponential in the layers of a ladder of edges whose places are all met with other stacks, or whose
+/// end leads only to cuts that the run has met before.
 pub fn search(
     alloc: Global,
     files: &[FileGraph],

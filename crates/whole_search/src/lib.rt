@@ -2,6 +2,7 @@
 #![tactic(auto)]
 
 mod answer;
+mod dead_ends;
 mod edges;
 mod follow;
 mod found;
@@ -14,6 +15,7 @@ mod run;
 mod spot;
 mod tally;
 mod walk;
+mod watch;
 
 pub use answer::{is_reference, search};
 pub use found::{Found, Hit, Hits, SearchFault};

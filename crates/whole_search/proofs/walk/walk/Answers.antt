@@ -27,6 +27,7 @@ loop-reached-preserved c = record {
       c.in-Some.ensures.items
       (All-pop (IsOpenIn c.args.query.now) c.loop-reached.stack.items c.pop.new.self.items (Some c.in-Some.reached) c.in-Some.ensures.items c.loop-reached.invariant.stands).1
       c.in_ok-visit.ensures.noted c.in_ok-visit.ensures.longer c.loop-reached.invariant.under_way;
+  dead_ends = c.in_ok-visit.ensures.dead_ends;
 }
 
 pub returns-in_err-visit-clause-crowded : goal.returns-in_err-visit-clause-crowded
