@@ -1,5 +1,6 @@
 //! What no clause says of the program: its statuses over readers and writers as they come, and that long texts
 //! pass through them whole.
+mod at_once;
 mod graphs;
 mod sessions;
 

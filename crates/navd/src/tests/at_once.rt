@@ -1,0 +1,108 @@
+//! That the jobs of one line run at once: documents of a commit, and references that are asked.
+ghost use Rattle.std.specs.Prelude.{◌≡◌, ◌<◌, OnOk};
+ghost use Rattle.nav_session.specs.Desks.{HasItsView};
+
+use graph_nodes::Steps;
+use nav_io::Gate;
+use nav_session::{Desk, answer_line};
+use std::alloc::Global;
+use std::marker::Brand;
+use std::sync::atomic::{AtomicU64, Ordering};
+use std::sync::ledger::{Blank, Ledger};
+use std::test::Fail;
+use std::thread::{Threads, available_parallelism, yield_now};
+use version_board::{Commits, PlainBoard};
+
+/// A gate at which each job waits until a second one has begun, for so many turns at most.
+#[derive(Drop)]
+struct Meeting {
+    begun: AtomicU64,
+    missed: AtomicU64,
+}
+
+/// How often a job looks for the other one.
+const TURNS: u32 = 1_000_000;
+
+impl Gate for Meeting {
+    fn enter(&self, _job: usize) {
+        self.begun.fetch_add(1, Ordering::SeqCst);
+        for _ in 0..TURNS {
+            if self.begun.load(Ordering::SeqCst) >= 2 {
+                return;
+            }
+            yield_now();
+        }
+        self.missed.fetch_add(1, Ordering::SeqCst);
+    }
+
+    fn leave(&self, _job: usize) {}
+}
+
+/// How many jobs of the line met no other one.
+fn missed_by<R: Threads + Sync, B: Commits<R>, L: Ledger>(
+    rt: &R,
+    alloc: Global,
+    desk: &mut Desk,
+    board: &mut B,
+    line: &str,
+    steps: &mut Steps<L>,
+) -> Result<u64, Fail>
+    requires view { HasItsView desk.old (B.log board.old) (B.pin_at board.old) }
+    ensures view { OnOk result (HasItsView desk.new (B.log board.new) (B.pin_at board.new)) }
+{
+    let gate = Meeting {
+        begun: AtomicU64::new(0),
+        missed: AtomicU64::new(0),
+    };
+    answer_line(rt, alloc, desk, board, &gate, line.as_bytes(), steps)?;
+    Ok(gate.missed.load(Ordering::SeqCst))
+}
+
+const HELLO: &str = r#"{"do":"hello","user":"operator"}"#;
+
+/// A commit of two documents, of which the graph has two references.
+const COMMIT: &str = r#"{"do":"commit","edits":[{"put":"a.sg.json","text":"{\"nodes\":[{\"kind\":\"push\",\"symbol\":\"x\",\"reference\":true},{\"kind\":\"push\",\"symbol\":\"x\",\"reference\":true},{\"kind\":\"pop\",\"symbol\":\"x\",\"definition\":true}],\"edges\":[[0,2,0],[1,2,0]]}"},{"put":"b.py","text":"y = 1"}]}"#;
+
+const REFERENCES: &str = r#"{"do":"references","path":"a.sg.json","node":2}"#;
+
+/// How many jobs of the commit, and how many of the references, met no other one.
+fn missed_on<R: Threads + Sync, L: Ledger>(
+    rt: &R,
+    alloc: Global,
+    blank: Blank,
+) -> Result<(u64, u64), Fail>
+    requires name { blank.name ≡ L.name }
+    requires parts { blank.parts ≡ L.parts }
+    requires some { 0 < blank.parts }
+{
+    let mut board = PlainBoard::new(alloc)?;
+    let mut desk = Desk::new(alloc);
+    let mut steps = Steps::<L>::new(blank);
+    missed_by(rt, alloc, &mut desk, &mut board, HELLO, &mut steps)?;
+    let indexed = missed_by(rt, alloc, &mut desk, &mut board, COMMIT, &mut steps)?;
+    let asked = missed_by(rt, alloc, &mut desk, &mut board, REFERENCES, &mut steps)?;
+    Ok((indexed, asked))
+}
+
+fn missed<R: Threads + Sync>(rt: &R, alloc: Global) -> Result<(u64, u64), Fail> {
+    missed_on::<_, Brand>(rt, alloc, Blank::new(1))
+}
+
+/// How many jobs meet no other one on this machine: on one processor there is one thread, so the first job doesn't.
+fn lonely<R: Threads>(rt: &R) -> Result<u64, Fail> {
+    Ok(u64::from(available_parallelism(rt)?.get() == 1))
+}
+
+#[test]
+fn two_documents_are_worked_on_at_once(rt: HostRuntime) -> Result<(), Fail> {
+    let (indexed, _) = missed(&rt, rt.alloc())?;
+    assert_eq!(rt; indexed, lonely(&rt)?);
+    Ok(())
+}
+
+#[test]
+fn two_references_are_asked_at_once(rt: HostRuntime) -> Result<(), Fail> {
+    let (_, asked) = missed(&rt, rt.alloc())?;
+    assert_eq!(rt; asked, lonely(&rt)?);
+    Ok(())
+}
