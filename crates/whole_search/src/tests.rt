@@ -80,7 +80,7 @@ fn runs_share_a_long_symbol(rt: HostRuntime) -> Result<(), Fail> {
 
 /// Ladders of 40 rungs from which nothing is reached, and ones of which one run or more leads on.
 const LADDERS: &str =
-    r"# The last node asks for another symbol, for none, for scopes, or for a scope to jump to.
+    r"# The last node asks for another symbol, pushes one more, or asks for scopes; or a jump asks for one.
 push x R; scope *40; pop y D | 0>1, 1-41 *2 => whole
 push x R; scope *40; push y D | 0>1, 1-41 *2 => whole
 push x R; scope *40; pop_scoped x D | 0>1, 1-41 *2 => whole
@@ -89,10 +89,10 @@ push x R; scope *40; scope | 0>1, 1-40 *2, 40>jump => whole
 push x R; scope *130; scope *40; pop y D | 0-130, 130-171 *2 => whole
 push x R; push a *60; scope *40; pop y D | 0-60, 60-101 *2 => whole
 push x R; scope *40; pop y D | 0>1, 1-41 *2 within 0 edges 0 symbols => whole
-# Behind a cut, behind the jump, and with other stacks in front of it twice.
+# Behind a cut, and met with two stacks.
 push x R; scope E; scope *40; pop y D | 0>1, 1>2, 2-42 *2 => whole
 push x R; push a; push b; scope *40; pop y D | 0>1, 0>2, 1>3, 2>3, 3-43 *2 => whole
-# One run leads past it: at the end of the ladder, in its middle, and beside it.
+# A definition beside the ladder, which is entered at its beginning, and also in its middle; and a refusal behind its end.
 push x R; scope *40; pop y D; pop x D | 0>1, 1-41 *2, 0>42 => 0/42 whole
 push x R; scope *40; pop y D; pop x D | 0>20, 1-41 *2, 0>1, 0>42 => 0/42 whole
 push x R; scope *40; pop y; pop x D; pop y D | 0>1, 1-41 *2, 0>42, 41>43 => 0/42 whole
