@@ -17,7 +17,7 @@ const NOWHERE: usize = usize::MAX;
 /// What the configurations that are remembered may weigh: 65,536 of them, or fewer where they are deep.
 pub const ROOM: usize = 1_048_576;
 
-/// The configurations that are remembered as dead ends. What they weigh stays below `ROOM`: where one more
+/// The configurations that are remembered as dead ends. What they weigh is at most `ROOM`: where one more
 /// wouldn't fit, all others are forgotten. A contract sees them in the order in which they came.
 #[derive(Drop)]
 pub struct DeadEnds {

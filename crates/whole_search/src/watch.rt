@@ -21,7 +21,7 @@ pub struct Watch {
     pub dead_ends: DeadEnds,
     /// The places that are watched, the last one last.
     places: Vec<Place>,
-    /// What they weigh, which stays below `ROOM`.
+    /// What they weigh, which is at most `ROOM`.
     weight: usize,
     /// How many runs had counted when a place was gone on from the last time.
     counted: usize,
