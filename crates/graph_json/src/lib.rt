@@ -13,8 +13,6 @@ mod plain;
 mod print;
 mod printer;
 mod read;
-#[cfg(test)]
-mod tests;
 mod top;
 
 pub use fault::{GraphTextFault, Part};

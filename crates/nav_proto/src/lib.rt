@@ -10,13 +10,9 @@ mod members;
 mod pieces;
 mod print;
 mod proto_fault;
-#[cfg(test)]
-mod read_tests;
 mod reply;
 mod request;
 mod rows;
-#[cfg(test)]
-mod tests;
 mod text;
 mod words;
 

@@ -42,6 +42,3 @@ pub use shared::SharedPaths;
 pub use slots::{KEY_SIZE, key_side, keys_cmp};
 pub use source::PathSource;
 pub use stepping::{is_cut_edge, start, step, symbol_of};
-
-#[cfg(test)]
-mod tests;

@@ -12,8 +12,6 @@ mod nodes;
 mod parameters;
 mod simple;
 mod statements;
-#[cfg(test)]
-mod tests;
 mod translating;
 
 pub use fault::TransFault;

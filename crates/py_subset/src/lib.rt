@@ -19,8 +19,6 @@ mod reading;
 mod sign_pieces;
 mod simple;
 mod symbols;
-#[cfg(test)]
-mod tests;
 mod token;
 mod token_list;
 mod tree;

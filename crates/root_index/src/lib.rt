@@ -13,8 +13,6 @@ mod looks;
 mod offers;
 mod slot;
 mod slot_list;
-#[cfg(test)]
-mod tests;
 
 pub use index::RootIndex;
 pub use laws::rows_have_one_index;

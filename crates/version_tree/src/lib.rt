@@ -15,8 +15,6 @@ mod row_handle;
 mod shared_rules;
 mod sorted_rows;
 mod store;
-#[cfg(test)]
-mod tests;
 mod text;
 mod version;
 mod view;

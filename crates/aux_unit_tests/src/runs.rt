@@ -1,5 +1,5 @@
-use crate::{Config, EdgeAt, Spot, is_at_definition, is_cut_edge, start, step};
 use graph_nodes::{Edge, FileGraph, Name, Node, NodeKind, Place};
+use partial_path::{Config, EdgeAt, Spot, is_at_definition, is_cut_edge, start, step};
 use stacks_vars::{NodeAt, ScopeStack, Stacks, Symbol, SymbolItem};
 use std::alloc::Global;
 use std::test::Fail;

@@ -1,5 +1,5 @@
 //! What is wrong with parts that make no partial path.
-use crate::{End, PartialPath, PathFault, Spot, Start};
+use partial_path::{End, PartialPath, PathFault, Spot, Start};
 use stacks_vars::{Listed, Post, Pre, ScopeOut, ScopePat, SymPat, Symbol, Tail};
 use std::alloc::Global;
 use std::test::Fail;

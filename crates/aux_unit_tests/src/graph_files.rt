@@ -1,5 +1,5 @@
 //! What no clause says: the texts of faults, and that texts are read and printed with memory at hand.
-use crate::{print_graph, print_named, read_graph};
+use graph_json::{print_graph, print_named, read_graph};
 use std::alloc::{AllocError, Global};
 use std::test::*;
 

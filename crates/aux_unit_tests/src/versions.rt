@@ -1,11 +1,11 @@
 //! What no clause says: what versions tell, each made from the one before it, as a script.
-ghost use Rattle.std.specs.Prelude.{◌≡◌, []};
 
-use crate::{Edit, EditList, PathText, UserText, Version, View};
+use crate::bare::without_edges;
 use graph_nodes::{FileGraph, Node, NodeKind};
-use partial_path::{FilePaths, SharedPaths, no_edges_no_walks};
+use partial_path::SharedPaths;
 use std::alloc::Global;
 use std::test::Fail;
+use version_tree::{Edit, EditList, PathText, UserText, Version, View};
 
 /// Steps, and behind an arrow what each tells.
 ///
@@ -141,14 +141,6 @@ fn paths_of(alloc: Global, count: u32) -> Result<SharedPaths, Fail> {
         Ok(graph) => Ok(SharedPaths::of(alloc, without_edges(alloc, graph))?),
         Err(_) => Err(Fail::new("the nodes make no graph")),
     }
-}
-
-/// The file of this graph, which has no edges.
-fn without_edges(alloc: Global, graph: FileGraph) -> FilePaths
-    requires { graph.edges ≡ [] }
-{
-    no_edges_no_walks();
-    FilePaths::new(graph, Vec::new(alloc), 0)
 }
 
 fn number(text: &str) -> u32 {

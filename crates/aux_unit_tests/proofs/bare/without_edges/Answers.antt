@@ -1,5 +1,5 @@
 use Rattle.std.proofs.Common.{rules, ◌≡◌, []}
-use Rattle.root_index.proofs.tests.without_edges.Goals as goal
+use Rattle.aux_unit_tests.proofs.bare.without_edges.Goals as goal
 
 pub new-requires-2-clause-paths : goal.new-requires-2-clause-paths
 new-requires-2-clause-paths c = let e : c.new.result.items ≡ [] = search rules in rw e ((c.no_edges_no_walks.ensures c.args.graph c.requires).0)

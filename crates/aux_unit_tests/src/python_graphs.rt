@@ -1,8 +1,7 @@
 //! Modules with their whole graphs, by hand.
 
-use crate::fault::TransFault;
-use crate::translating::translate;
 use graph_nodes::{Edge, FileGraph, Node, NodeKind, Place};
+use py_graph::{TransFault, translate};
 use py_subset::parse;
 use std::alloc::{AllocError, Global};
 use std::test::Fail;

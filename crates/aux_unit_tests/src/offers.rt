@@ -1,9 +1,9 @@
 //! What no clause says: that an index is made with memory at hand, and asked.
-ghost use Rattle.std.specs.Prelude.{◌≡◌, []};
 
-use crate::RootIndex;
+use crate::bare::without_edges;
 use graph_nodes::FileGraph;
-use partial_path::{FilePaths, SharedPaths, no_edges_no_walks};
+use partial_path::SharedPaths;
+use root_index::RootIndex;
 use stacks_vars::SymbolStack;
 use std::alloc::Global;
 use std::test::Fail;
@@ -15,14 +15,6 @@ fn bare(alloc: Global) -> Result<SharedPaths, Fail> {
         Ok(graph) => Ok(SharedPaths::of(alloc, without_edges(alloc, graph))?),
         Err(_) => Err(Fail::new("no nodes make no graph")),
     }
-}
-
-/// The file of this graph, which has no edges.
-fn without_edges(alloc: Global, graph: FileGraph) -> FilePaths
-    requires { graph.edges ≡ [] }
-{
-    no_edges_no_walks();
-    FilePaths::new(graph, Vec::new(alloc), 0)
 }
 
 /// The version of one such file.

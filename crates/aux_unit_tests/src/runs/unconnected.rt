@@ -4,8 +4,9 @@ ghost use Rattle.graph_nodes.specs.Whole.{node_of};
 ghost use Rattle.partial_path.specs.Sources.{graphs_of};
 
 use super::nodes;
-use crate::{FileList, FilePaths, PathSource, Spot, Start, no_edges_no_walks};
+use crate::bare::without_edges;
 use graph_nodes::{FileGraph, Node};
+use partial_path::{FileList, FilePaths, PathSource, Spot, Start};
 use stacks_vars::{NodeAt, Symbol};
 use std::alloc::Global;
 use std::test::Fail;
@@ -19,14 +20,6 @@ fn edgeless(alloc: Global, nodes: Vec<Node>) -> Option<FilePaths> {
         Ok(graph) => Some(without_edges(alloc, graph)),
         Err(_) => None,
     }
-}
-
-/// The file of this graph, which has no edges.
-fn without_edges(alloc: Global, graph: FileGraph) -> FilePaths
-    requires { graph.edges ≡ [] }
-{
-    no_edges_no_walks();
-    FilePaths::new(graph, Vec::new(alloc), 0)
 }
 
 /// Whether the source has a path from the start that asks for no symbol or for that one first.

@@ -1,9 +1,6 @@
 //! Texts with what they are read as.
 
-use crate::items::Items;
-use crate::token::PyFault;
-use crate::tree::{Module, PyText, Stmt, Word};
-use crate::whole::parse;
+use py_subset::{Items, Module, PyFault, PyText, Stmt, Word, parse};
 use std::alloc::{AllocError, Global};
 use std::test::Fail;
 

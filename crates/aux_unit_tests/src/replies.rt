@@ -1,6 +1,6 @@
 //! What no clause says: that the definition of a reply's text is the one that was meant.
-use crate::{FileError, PlainError, Reply, ReplyText, ShapePart, print_reply};
 use graph_nodes::Span;
+use nav_proto::{FileError, PlainError, Reply, ReplyText, ShapePart, print_reply};
 use std::alloc::{AllocError, Global};
 use std::test::Fail;
 use version_tree::{Answer, PathText, Row, Rows, UserText};

@@ -1,4 +1,4 @@
-use crate::{Bounds, FileEdit, Point, ProtoFault, Request, read_node, read_request};
+use nav_proto::{Bounds, FileEdit, Point, ProtoFault, Request, read_node, read_request};
 use std::alloc::{AllocError, Global};
 use std::test::Fail;
 
