@@ -1,0 +1,4 @@
+pub mod Behind
+pub mod Reached
+pub mod UnderWay
+pub mod Written
