@@ -1,0 +1,4 @@
+mod Asked
+mod Referred
+mod Targets
+mod Modules

@@ -1,0 +1,4 @@
+pub mod Documents
+pub mod Queries
+pub mod Placing
+pub mod Inside

@@ -1,0 +1,253 @@
+//! What an editor is told of the references of what stands at a place.
+ghost use Rattle.std.specs.Prelude.{◌≡◌, ◌≢◌, ◌++◌, ◌∷◌, [], List, Err, None, IfOk, slice_get, if◌then◌else◌};
+ghost use Rattle.std.specs.Option.{option_and_then, option_copied};
+ghost use Rattle.graph_nodes.specs.declared.node.Node.{Node};
+ghost use Rattle.graph_nodes.specs.Whole.{node_of};
+ghost use Rattle.nav_answers.specs.Replies.{graphs_in, number_of, IsReferencesReply};
+ghost use Rattle.nav_answers.specs.Sources.{graphs_seen};
+ghost use Rattle.root_index.specs.Offers.{files_of};
+ghost use Rattle.lsp_answers.specs.Inside.{AsksAll, AsksOne, row_in, span_in};
+ghost use Rattle.lsp_texts.specs.Texts.{texts_in};
+ghost use Rattle.nav_answers.specs.declared.found.AskFault.TheVariants as ask;
+ghost use Rattle.nav_answers.specs.declared.found.At.TheVariants as at;
+ghost use Rattle.root_index.specs.Roots.{IsIndexOfView};
+ghost use Rattle.version_tree.specs.Graphs.{GraphRow, graph_rows};
+ghost use Rattle.lsp_answers.specs.Queries.{AreTargets, TellsReferences, TellsTargets, rows_found, usual};
+
+use crate::outcomes::{located, outcome_of_fault};
+use crate::querying::{Place, definitions};
+use graph_nodes::Span;
+use lsp_texts::OpenTexts;
+use lsp_wire::{Outcome, Refusal};
+use nav_answers::{AskFault, At, definition_at, references};
+use nav_io::Gate;
+use partial_path::{Bounds, FilePaths};
+use root_index::RootIndex;
+use row_sets::in_order;
+use std::alloc::{AllocError, Global};
+use std::thread::Threads;
+use version_tree::{Answer, PathText, Row, Rows, View};
+
+/// The row of the node in the file with the path; without a span where there is no such node.
+fn row_at(alloc: Global, view: &View, path: &str, node: u32) -> Result<Row, AllocError>
+    ensures { IfOk result (λ row. row ≡ row_in (graph_rows view.now) path.now node) }
+{
+    Ok(Row {
+        path: PathText::of(alloc, path)?,
+        node,
+        span: span_at(view, path, node),
+    })
+}
+
+// The span of the node, where there is one.
+fn span_at(view: &View, path: &str, node: u32) -> Option<Span>
+    ensures { result ≡ span_in (graph_rows view.now) path.now node }
+{
+    match number_of(view, path) {
+        Some(file) => span_of(view, file, node),
+        None => None,
+    }
+}
+
+// The number of the file with the path; None where it isn't seen.
+fn number_of(view: &View, path: &str) -> Option<u32>
+    ensures { result ≡ number_of path.now (graph_rows view.now) }
+{
+    let _count = view.row_count();
+    view.find(path)
+}
+
+// The span of the node of the file.
+fn span_of(view: &View, file: u32, node: u32) -> Option<Span>
+    ensures { result ≡ option_and_then (λ (n : Node). n.span) (node_of (graphs_in (graph_rows view.now)) file node) }
+{
+    span_seen(view, file, node)
+}
+
+fn span_seen(view: &View, file: u32, node: u32) -> Option<Span>
+    ensures { result ≡ option_and_then (λ (n : Node). n.span) (node_of (graphs_seen view.now) file node) }
+{
+    let found = file_in(view, file)?;
+    if node < found.node_count() {
+        found.node(node).span
+    } else {
+        None
+    }
+}
+
+// The file with that number; None where there is none.
+fn file_in(view: &View, file: u32) -> Option<&FilePaths>
+    ensures { option_copied result ≡ slice_get (files_of view.now) file }
+{
+    if file < view.row_count() {
+        Some(view.paths(file).get())
+    } else {
+        None
+    }
+}
+
+// One row as rows; the one error is want of memory.
+fn one_row(alloc: Global, row: Row) -> Result<Rows, AllocError>
+    ensures { IfOk result (λ rows. rows ≡ row ∷ []) }
+{
+    let mut rows = Vec::with_capacity(alloc, 1)?;
+    rows.push(row)?;
+    Ok(Rows::of(rows))
+}
+
+/// What the references are asked of: the definition at the place, and where there is none the definitions of the
+/// reference there.
+#[tactic(auto, using(crate::proofs::Targets::target_row, crate::proofs::Targets::other_targets))]
+fn targets(alloc: Global, view: &View, index: &RootIndex, place: &Place) -> Result<Rows, AskFault>
+    requires index { IsIndexOfView index.now view.now }
+    ensures { result ≢ Err ask.NoMemory
+        → AreTargets (graph_rows view.now) place.now.path (at.Point place.now.line place.now.column) result }
+{
+    let path = place.path.as_str();
+    match definition_at(view, path, place.at()) {
+        Ok(node) => Ok(one_row(alloc, row_at(alloc, view, path, node)?)?),
+        Err(_) => definitions(alloc, view, index, place),
+    }
+}
+
+// What `references` answers at the target, in the usual bounds.
+fn references_at<R: Threads + Sync, G: Gate + Sync>(
+    rt: &R,
+    alloc: Global,
+    view: &View,
+    index: &RootIndex,
+    gate: &G,
+    target: &Row,
+) -> Result<Answer, AskFault>
+    requires index { IsIndexOfView index.now view.now }
+    ensures { result ≢ Err ask.NoMemory
+        → IsReferencesReply usual (graph_rows view.now) target.now.path (at.Node target.now.node) result }
+{
+    let at = At::Node(target.node);
+    references(
+        rt,
+        alloc,
+        view,
+        index,
+        gate,
+        target.path.as_str(),
+        at,
+        Bounds::usual(),
+    )
+}
+
+/// The references of the target, or None where they are crowded. The one error is want of memory.
+fn refer<R: Threads + Sync, G: Gate + Sync>(
+    rt: &R,
+    alloc: Global,
+    view: &View,
+    index: &RootIndex,
+    gate: &G,
+    target: &Row,
+) -> Result<Option<Rows>, AllocError>
+    requires index { IsIndexOfView index.now view.now }
+    ensures { IfOk result (λ rows. AsksOne (graph_rows view.now) target.now rows) }
+{
+    match references_at(rt, alloc, view, index, gate, target) {
+        Ok(answer) => Ok(Some(answer.rows)),
+        Err(fault) => no_rows(alloc, fault),
+    }
+}
+
+// The references where there is that fault: none of a node that is no definition, and None where they are crowded. The
+// one error is want of memory.
+fn no_rows(alloc: Global, fault: AskFault) -> Result<Option<Rows>, AllocError>
+    ensures rows { IfOk result (λ rows. rows ≡ rows_found (Err fault)) }
+    ensures crowded { IfOk result (λ rows. rows ≡ None → fault ≡ ask.Crowded) }
+    ensures definite { IfOk result (λ _. fault ≢ ask.NoMemory) }
+{
+    match fault {
+        AskFault::NoFile | AskFault::NoReference | AskFault::NoDefinition => {
+            Ok(Some(Rows::of(Vec::new(alloc))))
+        }
+        AskFault::Crowded => Ok(None),
+        AskFault::NoMemory => Err(AllocError),
+    }
+}
+
+/// The references of the targets, one target after the other, or None where those of one are crowded. The one error is
+/// want of memory.
+fn refer_to_all<R: Threads + Sync, G: Gate + Sync>(
+    rt: &R,
+    alloc: Global,
+    view: &View,
+    index: &RootIndex,
+    gate: &G,
+    targets: &[Row],
+) -> Result<Option<Rows>, AllocError>
+    requires index { IsIndexOfView index.now view.now }
+    ensures { IfOk result (λ rows. AsksAll (graph_rows view.now) targets.now rows) }
+{
+    let mut all = Vec::new(alloc);
+    for target in targets {
+        let Some(rows) = refer(rt, alloc, view, index, gate, target)? else {
+            return Ok(None);
+        };
+        let mut more = rows.into_items();
+        all.append(&mut more)?;
+    }
+    Ok(Some(Rows::of(all)))
+}
+
+/// What an editor is told of the references of what stands at the place, and of the targets too where the declaration is
+/// asked for. The one error is want of memory.
+pub fn tell_references<R: Threads + Sync, G: Gate + Sync>(
+    rt: &R,
+    alloc: Global,
+    view: &View,
+    index: &RootIndex,
+    gate: &G,
+    root: &[u8],
+    texts: &OpenTexts,
+    place: &Place,
+    declaration: bool,
+) -> Result<Outcome, AllocError>
+    requires index { IsIndexOfView index.now view.now }
+    ensures { IfOk result (TellsReferences (graph_rows view.now) root.now (texts_in texts.now) declaration
+        place.now.path (at.Point place.now.line place.now.column)) }
+{
+    match targets(alloc, view, index, place) {
+        Ok(targets) => {
+            let asked = refer_to_all(rt, alloc, view, index, gate, targets.items())?;
+            tell_all(alloc, root, texts, targets, asked, declaration)
+        }
+        Err(fault) => outcome_of_fault(fault),
+    }
+}
+
+/// The references that were found as an editor is told of them: with the targets where the declaration is asked for, each
+/// once in file order. The one error is want of memory.
+fn tell_all(
+    alloc: Global,
+    root: &[u8],
+    texts: &OpenTexts,
+    targets: Rows,
+    asked: Option<Rows>,
+    declaration: bool,
+) -> Result<Outcome, AllocError>
+    ensures { (files : List GraphRow) → AsksAll files targets asked
+        → IfOk result (TellsTargets files root.now (texts_in texts.now) targets declaration) }
+{
+    let Some(all) = asked else {
+        return Ok(Outcome::Refused(Refusal::Crowded));
+    };
+    let rows = in_order(with_targets(all, targets, declaration)?);
+    located(alloc, root, texts, &rows)
+}
+
+// The references, and behind them the targets where the declaration is asked for.
+fn with_targets(all: Rows, targets: Rows, declaration: bool) -> Result<Vec<Row>, AllocError>
+    ensures { IfOk result (λ rows. rows.items ≡ if declaration then all ++ targets else all) }
+{
+    let mut rows = all.into_items();
+    if declaration {
+        let mut more = targets.into_items();
+        rows.append(&mut more)?;
+    }
+    Ok(rows)
+}
