@@ -61,7 +61,8 @@ fn missed_by<R: Threads + Sync, B: Commits<R>, L: Ledger>(
 const HELLO: &str = r#"{"do":"hello","user":"operator"}"#;
 
 /// A commit of two documents, of which the graph has two references.
-const COMMIT: &str = r#"{"do":"commit","edits":[{"put":"a.sg.json","text":"{\"nodes\":[{\"kind\":\"push\",\"symbol\":\"x\",\"reference\":true},{\"kind\":\"push\",\"symbol\":\"x\",\"reference\":true},{\"kind\":\"pop\",\"symbol\":\"x\",\"definition\":true}],\"edges\":[[0,2,0],[1,2,0]]}"},{"put":"b.py","text":"y = 1"}]}"#;
+const COMMIT: &str =
+    r#"{"do":"commit","edits":[{"put":"a.sg.json","text":"{\"nodes\":[{\"kind\":\"push\",\"symbol\":\"x\",\"reference\":true},{\"kind\":\"push\",\"symbol\":\"x\",\"reference\":true},{\"kind\":\"pop\",\"symbol\":\"x\",\"definition\":true}],\"edges\":[[0,2,0],[1,2,0]]}"},{"put":"b.py","text":"y = 1"}]}"#;
 
 const REFERENCES: &str = r#"{"do":"references","path":"a.sg.json","node":2}"#;
 
