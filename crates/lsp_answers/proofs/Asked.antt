@@ -6,7 +6,6 @@ use Rattle.version_tree.specs.declared.row.Row.{Row}
 use Rattle.version_tree.specs.Graphs.{GraphRow}
 use Rattle.nav_answers.specs.declared.found.At.{At}
 use Rattle.nav_answers.specs.declared.found.AskFault.{AskFault}
-use Rattle.nav_answers.specs.Replies.{IsDefineReply, IsReferencesReply}
 use Rattle.lsp_wire.specs.declared.reply.Outcome.{Outcome}
 use Rattle.lsp_texts.specs.Texts.{Texts}
 use Rattle.lsp_answers.specs.Queries.{usual, AreTargets, TellsTargets, TellsReferences}

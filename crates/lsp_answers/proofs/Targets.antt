@@ -1,5 +1,5 @@
 -- What the references are asked of: the row of a definition that is meant, or definitions.
-use Rattle.std.proofs.Common.{◌≡◌, ℕ, ◌+◌, suc, List, [], ◌∷◌, Bool, cond, Option, Some, None, Result, Ok, Err, option_map, ok_or, refl, sym, ap, ◌∙◌, arith, slice_get}
+use Rattle.std.proofs.Common.{◌≡◌, ℕ, ◌+◌, suc, List, [], ◌∷◌, cond, Option, Some, None, Result, Ok, Err, option_map, ok_or, refl, sym, ap, ◌∙◌, arith, slice_get}
 use Rattle.std.specs.Prelude.{MatchResult}
 use Rattle.std.specs.List.{position_from}
 use Rattle.std.specs.Option.{option_and_then, option_map_or}

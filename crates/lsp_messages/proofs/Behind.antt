@@ -1,8 +1,8 @@
 -- What stands behind messages at the front of an input.
-use Rattle.std.proofs.Common.{◌≡◌, ℕ, ◌+◌, suc, Bool, false, if◌then◌else◌, List, [], ◌∷◌, ◌++◌, length, refl, ap, ◌∙◌, arith}
+use Rattle.std.proofs.Common.{◌≡◌, ℕ, ◌+◌, suc, Bool, if◌then◌else◌, List, [], ◌∷◌, ◌++◌, length, refl, ap, ◌∙◌, arith}
 use Rattle.lsp_frames.specs.Frames.{Cut, Frame, cut, rest_of, is_short}
 use Rattle.lsp_frames.proofs.Cuts.{grown, cut-append}
-use Rattle.lsp_messages.specs.Inputs.{is_exit, whole_body, up_to_exit, to_answer, Ending, AtExit, ending_with, ending, AreFrames, HaveNoExit}
+use Rattle.lsp_messages.specs.Inputs.{whole_body, up_to_exit, to_answer, AtExit, ending_with, ending, AreFrames, HaveNoExit}
 use Rattle.lsp_messages.specs.Laws.{StandsBehind}
 
 to_answer-next : (n : ℕ) (input : List ℕ) → to_answer (suc n) input ≡ up_to_exit (whole_body (cut input)) (to_answer n (rest_of (cut input)))

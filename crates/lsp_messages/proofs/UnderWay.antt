@@ -1,15 +1,14 @@
 -- A session between two messages, and what each way to end it from there says of the whole. Lemmas for callers that
 -- read, answer and write in turn.
-use Rattle.std.proofs.Common.{◌≡◌, ◌⊎◌, inl, inr, ℕ, ◌+◌, ◌-◌, ◌<◌, ◌≤◌, suc, Bool, true, false, true≢false, IsTrue, List, [], ◌∷◌, ◌++◌, length, Option, Some, None, IfSome, Result, Ok, Err, flat_map, if◌then◌else◌, refl, sym, ap, subst, ◌∙◌, arith, append_assoc, append-nil, length-append}
+use Rattle.std.proofs.Common.{◌≡◌, ◌⊎◌, inl, inr, ℕ, ◌+◌, ◌-◌, ◌<◌, ◌≤◌, suc, Bool, true, false, true≢false, List, [], ◌∷◌, ◌++◌, length, Option, Some, None, IfSome, Result, Ok, Err, if◌then◌else◌, refl, sym, ap, subst, ◌∙◌, arith, append_assoc, append-nil, length-append}
 use Rattle.std.proofs.lemmas.Grind.{flat_map-append}
 use Rattle.std.proofs.lemmas.Option.{IfSome_then}
-use Rattle.std.specs.Io.KnownBytes.{append_known, prepend_known, IsAtEnd}
+use Rattle.std.specs.Io.KnownBytes.{append_known, prepend_known}
 use Rattle.nav_io.specs.Reading.{Reading, ahead}
 use Rattle.nav_io.specs.Write.{HoldsPrefix}
 use Rattle.nav_io.proofs.Written.{append_known-nil, append_known-append}
 use Rattle.lsp_frames.specs.Frames.{Cut, Nothing, Malformed, Large as too_large, Unfinished, Frame, cut, is_short, body_of, rest_of}
 use Rattle.lsp_frames.specs.declared.reader.FrameError.TheVariants as frame
-use Rattle.lsp_wire.specs.declared.message.Body.{Body}
 use Rattle.lsp_wire.specs.declared.reply.Reply.{Reply}
 use Rattle.lsp_messages.specs.declared.halt.Halt.{Halt}
 use Rattle.lsp_messages.specs.declared.halt.Halt.TheVariants.{SourceFailed, SinkFailed, NoMemory, Large, Broken}
@@ -20,7 +19,7 @@ use Rattle.lsp_messages.specs.Inputs.{max_messages, is_exit, whole_body, up_to_e
 use Rattle.lsp_messages.specs.Reached.{AreFirst, HasRead, AreTaken, AreAllTaken}
 use Rattle.lsp_messages.specs.Serving.{Told, reply_frame, replies_text, Serves}
 use Rattle.lsp_messages.specs.Turns.{ReadsFrame, FailsToRead, ReadsNext, LooksOn}
-use Rattle.lsp_messages.proofs.Behind.{to_answer-cut, ending-cut, stands_behind, frames-more}
+use Rattle.lsp_messages.proofs.Behind.{to_answer-cut, ending-cut, stands_behind}
 use Rattle.lsp_messages.proofs.Reached.{read_nothing, read_on, taken_of, all_taken_of, IsAhead, ahead_of, of_ahead}
 
 -- So many messages were answered of what the source had, none of them an `exit`, and their replies are written.

@@ -1,6 +1,5 @@
 -- What is held where nothing was written.
-use Rattle.std.proofs.Common.{◌≡◌, ℕ, List, [], ◌++◌, Option, refl, sym}
-use Rattle.std.specs.Io.KnownBytes.{append_known}
+use Rattle.std.proofs.Common.{ℕ, List, [], Option, refl, sym}
 use Rattle.nav_io.specs.Write.{HoldsPrefix}
 use Rattle.nav_io.proofs.Written.{append_known-nil}
 

@@ -1,8 +1,7 @@
 -- Which messages of an input are to be answered, and why no more are. A message is the body of a frame.
-use Rattle.std.specs.Prelude.{◌≡◌, ℕ, zero, suc, ◌&&◌, Bool, true, false, is_none, List, [], ◌∷◌, ◌++◌, length, if◌then◌else◌, Option, None, Some}
+use Rattle.std.specs.Prelude.{◌≡◌, ℕ, zero, suc, ◌&&◌, Bool, true, false, is_none, List, [], ◌∷◌, if◌then◌else◌, Option, None, Some}
 use Rattle.lsp_wire.specs.declared.message.Asks.{Asks}
 use Rattle.lsp_wire.specs.declared.message.Asks.TheVariants.{Initialize, Initialized, Shutdown, Exit, DidOpen, DidChange, DidClose, Definition, References, Unknown, WrongParams}
-use Rattle.lsp_wire.specs.declared.message.Message.{Message}
 use Rattle.lsp_wire.specs.declared.message.Body.{Body}
 use Rattle.lsp_wire.specs.declared.message.Body.TheVariants as body
 use Rattle.lsp_wire.specs.Messages.{body_from}

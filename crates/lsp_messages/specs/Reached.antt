@@ -1,9 +1,9 @@
 -- How far the messages that were read reach in an input.
-use Rattle.std.specs.Prelude.{◌≡◌, ℕ, Bool, true, IsTrue, List, [], ◌++◌, Option, IfSome}
+use Rattle.std.specs.Prelude.{◌≡◌, ℕ, true, IsTrue, List, [], ◌++◌, Option}
 use Rattle.std.specs.Io.KnownBytes.{prepend_known, IsAtEnd}
 use Rattle.nav_io.specs.Reading.{Reading}
 use Rattle.lsp_frames.specs.Frames.{cut, is_short}
-use Rattle.lsp_messages.specs.Inputs.{max_messages, to_answer, AreFrames, HaveNoExit}
+use Rattle.lsp_messages.specs.Inputs.{AreFrames, HaveNoExit}
 
 -- the one list of messages begins the other
 abbrev pub AreFirst : List (List ℕ) → List (List ℕ) → Type 0

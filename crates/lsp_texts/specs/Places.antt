@@ -1,5 +1,5 @@
 -- Places as editors count them: lines from 0, and UTF-16 code units from the start of the line.
-use Rattle.std.specs.Prelude.{ℕ, List, Option, None, Some, take, option_map}
+use Rattle.std.specs.Prelude.{ℕ, List, Option, None, Some, take}
 use Rattle.std.specs.Option.{option_map_or}
 use Rattle.graph_nodes.specs.declared.node.Span.{Span}
 use Rattle.text_units.specs.Lines.{line_at}

@@ -1,5 +1,5 @@
 -- The texts of open documents: which document has which path, and the last text that was put at each.
-use Rattle.std.specs.Prelude.{◌≡◌, ℕ, Bool, is_some, List, ◌++◌, ◌∷◌, Option, None, Some, option_and_then, if◌then◌else◌}
+use Rattle.std.specs.Prelude.{◌≡◌, ℕ, Bool, is_some, List, ◌++◌, ◌∷◌, Option, None, option_and_then, if◌then◌else◌}
 use Rattle.std.specs.BTreeMap.{get_by_text}
 use Rattle.std.specs.Str.{bytes_eq}
 use Rattle.lsp_wire.specs.Uris.{encoded}
