@@ -1,0 +1,5 @@
+use Rattle.shared_board.proofs.tests.threads_share_one_log.Given as goal
+
+-- the board is the one that was made here
+abbrev pub ghosts-tied_by_board : goal.ghosts-tied_by_board
+ghosts-tied_by_board g a = record { board = a.board }

@@ -1,0 +1,5 @@
+pub mod Books
+pub mod Seats
+pub mod Bodies
+pub mod Commits
+pub mod Tied

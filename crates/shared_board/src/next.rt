@@ -1,0 +1,85 @@
+//! The version that edits make of another, made before anything is appended.
+ghost use Rattle.std.specs.Prelude.{◌≡◌, ◌≢◌, true, false, ◌<◌, ◌+◌, ◌^◌, ℕ, None, Some, Err, IfOk, length, slice_index, slice_set};
+ghost use Rattle.std.specs.Arc.{arc_value};
+ghost use Rattle.version_tree.specs.declared.edit.EditFault.{EditFault as Faults};
+ghost use Rattle.version_tree.specs.declared.edit.EditFault.TheVariants as faults;
+ghost use Rattle.version_tree.specs.Contents.{edited_all};
+ghost use Rattle.version_tree.specs.Verdict.{edit_fault};
+ghost use Rattle.root_index.specs.Roots.{IsIndexOf};
+ghost use Rattle.version_board.specs.declared.fault.CommitFault.TheVariants as why;
+ghost use Rattle.version_board.specs.Logs.{FitsHead, IsStale};
+ghost use Rattle.shared_board.specs.Bodies.{IsNext, Refuses};
+
+use std::alloc::{AllocError, Global};
+use std::sync::Arc;
+use version_board::{CommitFault, Pinned};
+use version_tree::{Edit, EditFault, Version};
+
+/// The version that the edits make of a pinned one, with its index. It is refused as a commit on that head is.
+pub(crate) fn next_pinned(
+    alloc: Global,
+    head: &Pinned,
+    base: Option<u32>,
+    edits: &[Edit],
+) -> Result<Pinned, CommitFault>
+    requires { IsIndexOf (arc_value head.now.version).content.rows (arc_value head.now.index) }
+    ensures made { IfOk result (IsNext base edits.now (arc_value head.now.version)) }
+    ensures stale { (n : ℕ) → result ≡ Err (why.Stale n) → IsStale base (arc_value head.now.version).number n }
+    ensures refused { (e : Faults) → result ≡ Err (why.Edit e) → Refuses base edits.now (arc_value head.now.version) e }
+{
+    let number = head.version.number();
+    if !fits_head(base, number) {
+        return Err(CommitFault::Stale(number));
+    }
+    let version = amended(alloc, &head.version, edits)?;
+    let index = head.index.amended(alloc, &head.version, &version, edits)?;
+    let version = Arc::new(alloc, version)?;
+    let index = Arc::new(alloc, index)?;
+    Ok(Pinned { version, index })
+}
+
+/// Whether the base, where one is given, is the head.
+fn fits_head(base: Option<u32>, head: u32) -> bool
+    ensures yes { result ≡ true → FitsHead base head }
+    ensures no { result ≡ false → ¬ FitsHead base head }
+{
+    match base {
+        Some(base) => base == head,
+        None => true,
+    }
+}
+
+/// The version that the edits make of the head.
+fn amended(alloc: Global, head: &Version, edits: &[Edit]) -> Result<Version, CommitFault>
+    ensures fit { IfOk result (λ _. edit_fault head.now.number head.now.content edits.now ≡ None) }
+    ensures version { IfOk result (λ version. version ≡ record { number = head.now.number + 1; content = edited_all edits.now head.now.content }) }
+    ensures refused { (e : Faults) → result ≡ Err (why.Edit e) → (edit_fault head.now.number head.now.content edits.now ≡ Some e) × (e ≢ faults.NoMemory) }
+    ensures stale { (n : ℕ) → result ≢ Err (why.Stale n) }
+{
+    match head.amend(alloc, edits) {
+        Ok(version) => Ok(version),
+        Err(fault) => Err(refused_by(fault)),
+    }
+}
+
+/// The refusal of a commit by its edits.
+fn refused_by(fault: EditFault) -> CommitFault
+    ensures edit { (e : Faults) → result ≡ why.Edit e → (e ≡ fault) × (e ≢ faults.NoMemory) }
+    ensures stale { (n : ℕ) → result ≢ why.Stale n }
+{
+    match fault {
+        EditFault::NoMemory => CommitFault::NoMemory,
+        fault => CommitFault::Edit(fault),
+    }
+}
+
+/// The counts with one more for the seat.
+pub(crate) fn counted(counts: &Vec<u32>, seat: u32) -> Result<Vec<u32>, AllocError>
+    requires within { seat < length counts.now.items }
+    requires room { slice_index counts.now.items seat + 1 < 2 ^ 32 }
+    ensures { IfOk result (λ more. more.items ≡ slice_set counts.now.items seat (slice_index counts.now.items seat + 1)) }
+{
+    let mut more = counts.clone()?;
+    more[seat as usize] += 1;
+    Ok(more)
+}
