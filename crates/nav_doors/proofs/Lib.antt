@@ -1,0 +1,3 @@
+mod UnderWay
+mod Placed
+mod Logs

@@ -1,0 +1,37 @@
+//! One connection of a door.
+ghost use Rattle.std.specs.Prelude.{◌≡◌, IfOk, OnErr};
+ghost use Rattle.nav_doors.specs.Connections.{outside};
+ghost use Rattle.nav_doors.specs.Inside.{ServesNext, FailsNext};
+
+use graph_nodes::Steps;
+use nav_io::{Door, Failed, Gate};
+use nav_session::{Desk, serve_session};
+use std::alloc::Global;
+use std::sync::ledger::Ledger;
+use std::thread::Threads;
+use version_board::Commits;
+
+/// Serves the door's next connection as a session of the seat, and gives the session's status. `Failed` where the door
+/// failed in place of a connection.
+pub(crate) fn serve_next<R: Threads + Sync, B: Commits<R>, D: Door, G: Gate + Sync, L: Ledger>(
+    rt: &R,
+    alloc: Global,
+    desk: &mut Desk,
+    door: &mut D,
+    seat: &mut B,
+    gate: &G,
+    steps: &mut Steps<L>,
+) -> Result<u8, Failed>
+    ensures served { IfOk result (λ status. ServesNext
+        (outside D.gave D.got_back D.faults D.S.left D.S.faults D.K.held D.K.faults)
+        (B.seat seat.old) door.old door.new (B.log seat.old) (B.log seat.new) status) }
+    ensures failed { OnErr result (FailsNext
+        (outside D.gave D.got_back D.faults D.S.left D.S.faults D.K.held D.K.faults)
+        door.old door.new (B.log seat.old) (B.log seat.new)) }
+    ensures seat { B.seat seat.new ≡ B.seat seat.old }
+{
+    let (mut source, mut sink) = door.accept()?;
+    let status = serve_session(rt, alloc, desk, seat, gate, &mut source, &mut sink, steps);
+    door.done(source, sink);
+    Ok(status)
+}

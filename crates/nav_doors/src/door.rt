@@ -1,0 +1,52 @@
+//! One door's loop.
+ghost use Rattle.std.specs.Prelude.{◌≡◌};
+ghost use Rattle.nav_doors.specs.Connections.{outside, ServesDoor};
+
+use crate::connecting::serve_next;
+use graph_nodes::Steps;
+use nav_io::{Door, Failed, Gate};
+use nav_session::Desk;
+use std::alloc::Global;
+use std::sync::ledger::Ledger;
+use std::thread::Threads;
+use version_board::Commits;
+
+/// All connections were served that were asked for.
+pub(crate) const ALL_SERVED: u8 = 0;
+
+/// Memory was refused.
+pub(crate) const NO_MEMORY: u8 = 5;
+
+/// A door failed where it was asked for a connection.
+pub const ACCEPT_FAILED: u8 = 8;
+
+/// Serves so many connections of a door, one after the other, each as a session of the seat, on one desk. Each pair goes
+/// back to the door when its session ended, however it did. The status:
+///
+/// - 0: so many connections were served. A session that ends with 3, 4, 6 or 7 ends alone.
+/// - 5: a session ended for want of memory; no further connection is asked for.
+/// - 8: the door failed where it was asked for a connection; its count rose.
+pub fn serve_door<R: Threads + Sync, B: Commits<R>, D: Door, G: Gate + Sync, L: Ledger>(
+    rt: &R,
+    alloc: Global,
+    desk: &mut Desk,
+    door: &mut D,
+    seat: &mut B,
+    gate: &G,
+    connections: u32,
+    steps: &mut Steps<L>,
+) -> u8
+    ensures served { ServesDoor
+        (outside D.gave D.got_back D.faults D.S.left D.S.faults D.K.held D.K.faults)
+        (B.seat seat.old) connections door.old door.new (B.log seat.old) (B.log seat.new) result }
+    ensures seat { B.seat seat.new ≡ B.seat seat.old }
+{
+    for _ in 0..connections {
+        match serve_next(rt, alloc, desk, door, seat, gate, steps) {
+            Ok(NO_MEMORY) => return NO_MEMORY,
+            Ok(_) => {}
+            Err(Failed) => return ACCEPT_FAILED,
+        }
+    }
+    ALL_SERVED
+}
