@@ -3,6 +3,7 @@
 
 mod board;
 mod fault;
+mod history;
 mod laws;
 mod plain;
 

@@ -11,17 +11,19 @@ ghost use Rattle.version_board.specs.Ranked.{index_of};
 
 use crate::board::{Commits, Pinned, Pins};
 use crate::fault::CommitFault;
+use crate::history::History;
 use root_index::{RootIndex, rows_have_one_index};
 use std::alloc::{AllocError, Global};
 use std::marker::Model;
 use std::sync::Arc;
-use version_tree::{Edit, EditFault, EditList, Entry, Version};
+use version_tree::{Edit, EditFault, Version};
 
 /// The board of one seat, whose name is 0. It sees all of its log, and pins the newest version. A contract sees its log.
 #[derive(Drop)]
 pub struct PlainBoard {
-    log: Vec<Entry>,
+    log: History,
     pinned: Pinned,
+    alloc: Global,
 }
 
 impl Model for PlainBoard {
@@ -33,11 +35,11 @@ impl Model for PlainBoard {
 
     ghost Value = { List Entry };
 
-    ghost view = { λ b. b.log.items };
+    ghost view = { λ b. b.log.entries };
 
-    ghost invariant = { λ b. (arc_value b.pinned.version ≡ version_of b.log.items)
+    ghost invariant = { λ b. (arc_value b.pinned.version ≡ version_of b.log.entries)
         × (arc_value b.pinned.index ≡ index_of (arc_value b.pinned.version).content.rows)
-        × (own 0 b.log.items ≡ b.log.items) };
+        × (own 0 b.log.entries ≡ b.log.entries) };
 }
 
 impl PlainBoard {
@@ -48,8 +50,9 @@ impl PlainBoard {
         let version = Arc::new(alloc, Version::empty(alloc, 0))?;
         let index = Arc::new(alloc, RootIndex::empty(alloc))?;
         Ok(PlainBoard {
-            log: Vec::new(alloc),
+            log: History::new(),
             pinned: Pinned { version, index },
+            alloc,
         })
     }
 
@@ -58,7 +61,6 @@ impl PlainBoard {
         ensures count { result ≡ length self.now }
         ensures all_own { own 0 self.now ≡ self.now }
     {
-        let _ = &self.log;
         self.pinned.version.number()
     }
 }
@@ -85,13 +87,6 @@ fn refused_by(fault: EditFault) -> CommitFault
     }
 }
 
-/// What a commit appends, made before anything is appended.
-#[derive(Drop)]
-struct Prepared {
-    edits: EditList,
-    pinned: Pinned,
-}
-
 impl PlainBoard {
     /// The version that the edits make of the head.
     fn amended(&self, alloc: Global, edits: &[Edit]) -> Result<Version, CommitFault>
@@ -106,18 +101,17 @@ impl PlainBoard {
         }
     }
 
-    /// Makes what the commit appends.
+    /// Makes what the commit pins.
     fn prepared(
         &self,
         alloc: Global,
         base: Option<u32>,
         edits: &[Edit],
-    ) -> Result<Prepared, CommitFault>
+    ) -> Result<Pinned, CommitFault>
         ensures base { IfOk result (λ _. FitsHead base (length self.now)) }
         ensures fit { IfOk result (λ _. refusal self.now edits.now ≡ None) }
-        ensures edits { IfOk result (λ made. made.edits ≡ edits.now) }
-        ensures version { IfOk result (λ made. arc_value made.pinned.version ≡ record { number = length self.now + 1; content = edited_all edits.now (version_of self.now).content }) }
-        ensures index { IfOk result (λ made. arc_value made.pinned.index ≡ index_of (arc_value made.pinned.version).content.rows) }
+        ensures version { IfOk result (λ made. arc_value made.version ≡ record { number = length self.now + 1; content = edited_all edits.now (version_of self.now).content }) }
+        ensures index { IfOk result (λ made. arc_value made.index ≡ index_of (arc_value made.version).content.rows) }
         ensures stale { (n : ℕ) → result ≡ Err (why.Stale n) → IsStale base (length self.now) n }
         ensures refused { (e : Faults) → result ≡ Err (why.Edit e) → IsRefused base edits.now self.now e }
     {
@@ -128,13 +122,9 @@ impl PlainBoard {
         }
         let next = self.amended(alloc, edits)?;
         let index = self.index_after(alloc, &next, edits)?;
-        let edits = EditList::copy(alloc, edits)?;
         let version = Arc::new(alloc, next)?;
         let index = Arc::new(alloc, index)?;
-        Ok(Prepared {
-            edits,
-            pinned: Pinned { version, index },
-        })
+        Ok(Pinned { version, index })
     }
 
     /// The index of the version that the edits make of the head.
@@ -170,14 +160,9 @@ impl PlainBoard {
         ensures refused { (e : Faults) → result ≡ Err (why.Edit e) → IsRefused base edits.now self.old e }
     {
         let made = self.prepared(alloc, base, edits)?;
-        self.log.reserve(1)?;
         let serial = self.pinned.version.number();
-        self.log.push_reserved(Entry {
-            seat: 0,
-            serial,
-            edits: made.edits,
-        });
-        self.pinned = made.pinned;
+        self.log = self.log.and(0, serial, edits);
+        self.pinned = made;
         Ok(())
     }
 }
@@ -198,7 +183,7 @@ impl Pins for PlainBoard {
 
 impl<R> Commits<R> for PlainBoard {
     fn commit(&mut self, _rt: &R, base: Option<u32>, edits: &[Edit]) -> Result<(), CommitFault> {
-        let alloc = *self.log.allocator();
+        let alloc = self.alloc;
         self.extended(alloc, base, edits)
     }
 }
