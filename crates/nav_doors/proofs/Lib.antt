@@ -1,3 +1,4 @@
+pub mod Housed
 mod UnderWay
 mod Placed
 mod Logs

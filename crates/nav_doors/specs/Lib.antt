@@ -1,3 +1,4 @@
 pub mod Connections
 pub mod Doors
+pub mod Houses
 pub mod Inside

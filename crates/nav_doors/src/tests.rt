@@ -1,15 +1,24 @@
-//! What no clause says: that connections are answered with memory at hand, on one log whatever the door.
-ghost use Rattle.std.specs.Prelude.{◌≡◌, vec_len};
+//! What no clause says: that connections are answered with memory at hand, on one log whatever the door, and that a pin
+//! finds what another seat has committed.
+ghost use Rattle.std.specs.Prelude.{◌≡◌, ◌<◌, ◌≤◌};
+ghost use Rattle.shared_board.specs.Seats.{max_seats};
 
 use super::*;
+use graph_nodes::Steps;
 use left_right::Absorb;
-use nav_io::{MemDoor, MemSink, MemSource};
+use nav_io::{MemDoor, MemHouse, MemSink, MemSource, TcpHouse, Unguarded};
+use nav_session::{Desk, answer_line};
 use shared_board::{Head, Naming, SharedBoard, Slot, close};
 use std::alloc::Global;
+use std::io::{Read, Write};
 use std::marker::Brand;
+use std::net::{Ipv4Addr, Net, OpenStream, Shutdown, TcpListener, TcpStream};
 use std::sync::Wait;
+use std::sync::ledger::{Blank, Ledger};
 use std::test::*;
-use std::thread::Threads;
+use std::thread;
+use std::thread::{Threads, yield_now};
+use version_board::Commits;
 
 /// A pair with these lines; `¶` stands for the end of a line. Behind a `?` the source fails at its first read, and behind
 /// a `!` the sink at its first write.
@@ -57,46 +66,21 @@ fn push_held(text: &mut String, door: MemDoor) -> Result<(), Fail> {
     Ok(())
 }
 
-fn told<J: Naming + Send + Sync, R: Threads + Wait + Sync>(
+/// What serving so many doors of a house tells that has these; one that has none fails.
+fn told<R: Threads + Wait + Sync>(
     rt: &R,
     alloc: Global,
-    board: SharedBoard,
-    mut doors: Vec<MemDoor>,
-    connections: u32,
-) -> Result<String, Fail>
-where
-    Slot<J>: Absorb<Head<J>, State = ()> + Send + Sync,
-    requires board { board ≡ J.board }
-    requires all { vec_len doors ≡ board.seats }
-{
-    let (_shared, mut seats) = board.named::<J, R>(rt, alloc)?;
-    let status = serve_doors(rt, alloc, &mut doors, &mut seats, connections);
-    close(seats);
-    shown(alloc, status, doors)
-}
-
-/// The same of a board that a caller names: a pick of its name is offered where no type in the signature depends on it.
-fn told_by_board<J: Naming + Send + Sync, R: Threads + Wait + Sync>(
-    rt: &R,
-    alloc: Global,
-    board: SharedBoard,
     doors: Vec<MemDoor>,
+    count: u32,
     connections: u32,
 ) -> Result<String, Fail>
-    requires board { board ≡ J.board }
-    requires all { vec_len doors ≡ board.seats }
+    requires some { 1 ≤ count }
+    requires few { count ≤ max_seats }
 {
-    told::<J, R>(rt, alloc, board, doors, connections)
-}
-
-fn told_by_one<R: Threads + Wait + Sync>(
-    rt: &R,
-    alloc: Global,
-    connections: u32,
-    pairs: &str,
-) -> Result<String, Fail> {
-    let doors = vec![in alloc; door_of(alloc, pairs)?]?;
-    told_by_board::<Brand, R>(rt, alloc, SharedBoard::make(1), doors, connections)
+    let fails = doors.is_empty();
+    let mut house = MemHouse::new(doors, fails);
+    let status = serve_house(rt, alloc, &mut house, 4000, count, connections);
+    shown(alloc, status, house.into_doors())
 }
 
 /// One door: how many connections it is asked for and the lines of its pairs, and the status with what the sinks hold. It
@@ -105,6 +89,7 @@ fn told_by_one<R: Threads + Wait + Sync>(
 const ONE_DOOR: &str = r#"0  => 0 /
 1  => 8 /
 3 {"do":"hello","user":"ann"}¶ => 8 / {"version":0}¶
+2 {"do":"hello","user":"operator"}¶{"do":"pin"} => 8 / {"version":0}¶{"version":0}¶
 3 {"do":"hello","user":"ann"}¶|{"do":"pin"} => 8 / {"version":0}¶ {"error":"no_user"}¶
 2 ?{"do":"pin"}|!{"do":"pin"} => 0 /  
 3 {"do":"hello","user":"operator"}¶{"do":"commit","edits":[{"put":"a.py","text":"x = 1"}]}¶|?|{"do":"hello","user":"ann"}¶{"do":"quit"}¶{"do":"pin"} => 0 / {"version":0}¶{"version":1}¶  {"version":1}¶{"ok":true}¶"#;
@@ -115,10 +100,20 @@ fn connections_of_a_door_are_served_in_turn(rt: HostRuntime) -> Result<(), Fail>
     for row in ONE_DOOR.split('\n') {
         let (given, wanted) = row.split_once(" => ").unwrap_or((row, ""));
         let (count, pairs) = given.split_once(' ').unwrap_or((given, ""));
-        let told = told_by_one(&rt, alloc, count.parse()?, pairs)?;
+        let doors = vec![in alloc; door_of(alloc, pairs)?]?;
+        let told = told(&rt, alloc, doors, 1, count.parse()?)?;
         let told = told.replace(alloc, "\n", "¶")?;
         assert_eq!(rt; told.as_str(), wanted, "{row}");
     }
+    Ok(())
+}
+
+#[test]
+fn a_house_that_fails_gives_out_no_door(rt: HostRuntime) -> Result<(), Fail> {
+    let alloc = rt.alloc();
+    assert_eq!(rt; told(&rt, alloc, Vec::new(alloc), 1, 1)?.as_str(), "8");
+    let one = vec![in alloc; door_of(alloc, "{}")?]?;
+    assert_eq!(rt; told(&rt, alloc, one, 2, 1)?.as_str(), "8");
     Ok(())
 }
 
@@ -128,7 +123,7 @@ fn told_by_two<R: Threads + Wait + Sync>(rt: &R, alloc: Global) -> Result<String
         r#"{"do":"hello","user":"operator"}¶{"do":"commit","edits":[{"put":"a.py","text":"x = 1"}]}"#;
     let second = r#"{"do":"hello","user":"operator"}"#;
     let doors = vec![in alloc; door_of(alloc, first)?, door_of(alloc, second)?]?;
-    told_by_board::<Brand, R>(rt, alloc, SharedBoard::make(2), doors, 1)
+    told(rt, alloc, doors, 2, 1)
 }
 
 #[test]
@@ -137,5 +132,162 @@ fn doors_share_one_log(rt: HostRuntime) -> Result<(), Fail> {
     let before = "0 / {\"version\":0}\n{\"version\":1}\n / {\"version\":0}\n";
     let after = "0 / {\"version\":0}\n{\"version\":1}\n / {\"version\":1}\n";
     assert!(rt; told.as_str() == before || told.as_str() == after);
+    Ok(())
+}
+
+/// Each line is the number of a seat, a line of its session, and the reply. No seat tells another one anything.
+const SEATS: &str = r#"0 {"do":"hello","user":"operator"} => {"version":0}
+1 {"do":"hello","user":"operator"} => {"version":0}
+0 {"do":"commit","edits":[{"put":"a.py","text":"x = 1"}]} => {"version":1}
+1 {"do":"define","path":"a.py","line":0,"column":0} => {"error":"no_file"}
+1 {"do":"pin"} => {"version":1}
+0 {"do":"commit","edits":[{"remove":"a.py"}]} => {"version":2}
+1 {"do":"commit","base":1,"edits":[]} => {"error":"stale","head":2}
+1 {"do":"commit","edits":[]} => {"version":3}
+0 {"do":"pin"} => {"version":3}"#;
+
+/// The lines as they stand, each with the reply that it has, over two seats.
+fn replies_of<R: Threads + Sync, B: Commits<R>, L: Ledger>(
+    rt: &R,
+    alloc: Global,
+    first: &mut B,
+    second: &mut B,
+    steps: &mut Steps<L>,
+) -> Result<String, Fail> {
+    let (mut one, mut two) = (Desk::new(alloc), Desk::new(alloc));
+    let mut text = String::new(alloc);
+    for row in SEATS.split('\n') {
+        let given = row.split_once(" => ").unwrap_or((row, "")).0;
+        let (seat, line) = given.split_once(' ').unwrap_or((given, ""));
+        let step = if seat == "0" {
+            answer_line(
+                rt,
+                alloc,
+                &mut one,
+                first,
+                &Unguarded,
+                line.as_bytes(),
+                steps,
+            )?
+        } else {
+            answer_line(
+                rt,
+                alloc,
+                &mut two,
+                second,
+                &Unguarded,
+                line.as_bytes(),
+                steps,
+            )?
+        };
+        push_row(alloc, &mut text, given, step.reply.as_str())?;
+    }
+    Ok(text)
+}
+
+fn push_row(alloc: Global, text: &mut String, given: &str, reply: &str) -> Result<(), Fail> {
+    if !text.is_empty() {
+        text.push('\n')?;
+    }
+    let row = format!(in alloc; "{given} => {reply}")?;
+    text.push_str(row.as_str())?;
+    Ok(())
+}
+
+/// The same over the two seats of a board.
+fn replied<J: Naming + Send + Sync, R: Threads + Wait + Sync, L: Ledger>(
+    rt: &R,
+    alloc: Global,
+    board: SharedBoard,
+    blank: Blank,
+) -> Result<String, Fail>
+where
+    Slot<J>: Absorb<Head<J>, State = ()> + Send + Sync,
+    requires board { board ≡ J.board }
+    requires name { blank.name ≡ L.name }
+    requires parts { blank.parts ≡ L.parts }
+    requires some { 0 < blank.parts }
+{
+    let (_shared, mut seats) = board.named::<J, R>(rt, alloc)?;
+    let mut steps = Steps::<L>::new(blank);
+    let (Some(mut second), Some(mut first)) = (seats.pop(), seats.pop()) else {
+        close(seats);
+        return Err(Fail::new("there are no two seats"));
+    };
+    let replies = replies_of(&rt, alloc, &mut first, &mut second, &mut steps);
+    seats.push_reserved(first);
+    seats.push_reserved(second);
+    close(seats);
+    replies
+}
+
+/// The same on a board and a ledger that a caller names.
+fn replied_by<J: Naming + Send + Sync, R: Threads + Wait + Sync, L: Ledger>(
+    rt: &R,
+    alloc: Global,
+    board: SharedBoard,
+    blank: Blank,
+) -> Result<String, Fail>
+    requires board { board ≡ J.board }
+    requires name { blank.name ≡ L.name }
+    requires parts { blank.parts ≡ L.parts }
+    requires some { 0 < blank.parts }
+{
+    replied::<J, R, L>(rt, alloc, board, blank)
+}
+
+fn replied_by_two<R: Threads + Wait + Sync>(rt: &R, alloc: Global) -> Result<String, Fail> {
+    replied_by::<Brand, R, Brand>(rt, alloc, SharedBoard::make(2), Blank::new(1))
+}
+
+#[test]
+fn a_pin_finds_what_another_seat_committed(rt: HostRuntime) -> Result<(), Fail> {
+    assert_eq!(rt; replied_by_two(&rt, rt.alloc())?.as_str(), SEATS);
+    Ok(())
+}
+
+/// What a client gets at the port that sends these lines and ends its input there.
+fn asked<R: Net + Threads>(rt: &R, alloc: Global, port: u16, lines: &str) -> Result<Vec<u8>, Fail> {
+    let mut told = Vec::new(alloc);
+    for _ in 0..1_000_000 {
+        // Nobody may listen yet.
+        let Ok(mut stream) = TcpStream::connect(rt, (Ipv4Addr::LOCALHOST, port)) else {
+            yield_now();
+            continue;
+        };
+        stream.write_all(lines.as_bytes())?;
+        stream.shutdown(Shutdown::Write)?;
+        stream.read_to_end(&mut told)?;
+        return Ok(told);
+    }
+    Ok(told)
+}
+
+/// What two clients get, of which the first commits and the second one comes later.
+fn asked_by_two<R: Net + Threads>(rt: &R, alloc: Global, port: u16) -> Result<String, Fail> {
+    let first = "{\"do\":\"hello\",\"user\":\"operator\"}\n{\"do\":\"commit\",\"edits\":[]}\n";
+    let second = "{\"do\":\"hello\",\"user\":\"operator\"}\n{\"do\":\"quit\"}\n";
+    let one = asked(rt, alloc, port, first)?;
+    let two = asked(rt, alloc, port, second)?;
+    let (one, two) = (
+        str::from_utf8(one.as_slice())?,
+        str::from_utf8(two.as_slice())?,
+    );
+    Ok(format!(in alloc; "{one}{two}")?)
+}
+
+#[test]
+fn clients_are_served_over_sockets(rt: HostRuntime) -> Result<(), Fail> {
+    let other = TcpListener::bind(&rt, (Ipv4Addr::LOCALHOST, 0))?;
+    let port = other.local_addr()?.port();
+    drop(other);
+    let (rt, alloc) = (&rt, rt.alloc());
+    let (status, told) = thread::join(
+        rt,
+        move || serve_house(rt, alloc, &mut TcpHouse::new(rt), port, 2, 1),
+        move || asked_by_two(rt, alloc, port),
+    );
+    let wanted = "{\"version\":0}\n{\"version\":1}\n{\"version\":1}\n{\"ok\":true}\n";
+    assert_eq!(rt; (status, told?.as_str()), (0, wanted));
     Ok(())
 }
