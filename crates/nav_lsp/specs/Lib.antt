@@ -1,0 +1,6 @@
+pub mod Editing
+pub mod Replies
+pub mod Transcripts
+pub mod Serving
+pub mod Held
+pub mod Turns

@@ -1,0 +1,171 @@
+//! Texts of open documents, as they are committed.
+ghost use Rattle.std.specs.Prelude.{◌≡◌, length, None, Some, true, IfOk, OnErr, if◌then◌else◌};
+ghost use Rattle.version_board.specs.Logs.{own};
+ghost use Rattle.nav_session.specs.Desks.{HasItsView, is_accepted};
+ghost use Rattle.lsp_texts.specs.Texts.{AreSame, has_room, texts_in, with_text};
+ghost use Rattle.nav_lsp.specs.Held.{CommitsOne, GoesOn, IsReady, editing_at};
+ghost use Rattle.nav_lsp.specs.Editing.{operator};
+ghost use Rattle.nav_lsp.specs.Replies.{IsChanged, IsClosed, IsPut};
+
+use crate::editor::Editor;
+use graph_nodes::Steps;
+use lsp_answers::path_under;
+use lsp_texts::{OpenText, OpenTexts};
+use lsp_wire::Text;
+use nav_io::Gate;
+use nav_proto::{DocText, Edits, FileEdit, Reply, Request};
+use nav_session::{Desk, reply_to};
+use std::alloc::{AllocError, Global};
+use std::sync::ledger::Ledger;
+use std::thread::Threads;
+use version_board::Commits;
+use version_tree::PathText;
+
+/// Commits one edit. It tells whether it was accepted; the one error is want of memory, and then no entry of it is in the
+/// log.
+#[tactic(auto, using(crate::proofs::Committed::commits_one, crate::proofs::Committed::still_named))]
+fn commit<R: Threads + Sync, B: Commits<R>, G: Gate + Sync, L: Ledger>(
+    rt: &R,
+    alloc: Global,
+    desk: &mut Desk,
+    board: &mut B,
+    gate: &G,
+    edit: FileEdit,
+    steps: &mut Steps<L>,
+) -> Result<bool, AllocError>
+    requires user { desk.old.user ≡ Some operator }
+    requires view { HasItsView desk.old (B.log board.old) (B.pin_at board.old) }
+    ensures goes_on { GoesOn (B.seat board.old) (B.seat board.new) (B.log board.old) (B.log board.new) }
+    ensures committed { IfOk result (CommitsOne (B.seat board.old) (B.log board.new)
+        (length (B.log board.old)) (B.pin_at board.old) (length (B.log board.new)) (B.pin_at board.new) edit) }
+    ensures user { IfOk result (λ _. desk.new.user ≡ Some operator) }
+    ensures view { IfOk result (λ _. HasItsView desk.new (B.log board.new) (B.pin_at board.new)) }
+    ensures none { OnErr result (own (B.seat board.old) (B.log board.new) ≡ own (B.seat board.old) (B.log board.old)) }
+{
+    let mut edits = Vec::with_capacity(alloc, 1)?;
+    edits.push(edit)?;
+    let request = Request::Commit {
+        base: None,
+        edits: Edits::of(edits),
+    };
+    let reply = reply_to(rt, alloc, desk, board, gate, request, steps)?;
+    Ok(is_accepted(&reply))
+}
+
+/// Whether a commit with this reply was accepted.
+fn is_accepted(reply: &Reply) -> bool
+    ensures { result ≡ is_accepted reply.now }
+{
+    matches!(reply, Reply::Version(_))
+}
+
+/// The document has this text from now on, where it is inside and the text is accepted: the text is committed, and kept
+/// with the places of its lines. The one error is want of memory, and then no entry of it is in the log: what is kept is
+/// made before the text is committed.
+pub(crate) fn put<R: Threads + Sync, B: Commits<R>, G: Gate + Sync, L: Ledger>(
+    rt: &R,
+    alloc: Global,
+    editor: &mut Editor,
+    board: &mut B,
+    gate: &G,
+    uri: &str,
+    text: Text,
+    steps: &mut Steps<L>,
+) -> Result<(), AllocError>
+    requires ready { IsReady editor.old (B.log board.old) (B.pin_at board.old) }
+    ensures goes_on { GoesOn (B.seat board.old) (B.seat board.new) (B.log board.old) (B.log board.new) }
+    ensures put { IfOk result (λ _. IsPut (B.seat board.old) (B.log board.new)
+        (editing_at (length (B.log board.old)) (B.pin_at board.old) editor.old) uri.now text None
+        (editing_at (length (B.log board.new)) (B.pin_at board.new) editor.new)) }
+    ensures ready { IfOk result (λ _. IsReady editor.new (B.log board.new) (B.pin_at board.new)) }
+    ensures none { OnErr result (own (B.seat board.old) (B.log board.new) ≡ own (B.seat board.old) (B.log board.old)) }
+{
+    let Some(path) = path_under(alloc, &editor.root, uri)? else {
+        return Ok(());
+    };
+    let edit = FileEdit::Put {
+        path: path.copy(alloc)?,
+        text: DocText::of(alloc, text.as_str())?,
+    };
+    let kept = OpenText::of(alloc, text)?;
+    editor.texts.make_room(alloc, path.as_str())?;
+    editor.forget_view();
+    let accepted = commit(rt, alloc, &mut editor.desk, board, gate, edit, steps)?;
+    put_if(accepted, &mut editor.texts, path.as_str(), kept);
+    Ok(())
+}
+
+/// Puts the text at the path, where it was accepted.
+fn put_if(accepted: bool, texts: &mut OpenTexts, path: &str, text: OpenText)
+    requires room { has_room texts.old path.now ≡ true }
+    ensures { AreSame (if accepted then with_text path.now (Some text) (texts_in texts.old) else texts_in texts.old) (texts_in texts.new) }
+{
+    if accepted {
+        texts.put(path, text);
+    }
+}
+
+/// The document has this text from now on, as by `put`; where there is no text nothing changes.
+pub(crate) fn change<R: Threads + Sync, B: Commits<R>, G: Gate + Sync, L: Ledger>(
+    rt: &R,
+    alloc: Global,
+    editor: &mut Editor,
+    board: &mut B,
+    gate: &G,
+    uri: &str,
+    text: Option<Text>,
+    steps: &mut Steps<L>,
+) -> Result<(), AllocError>
+    requires ready { IsReady editor.old (B.log board.old) (B.pin_at board.old) }
+    ensures goes_on { GoesOn (B.seat board.old) (B.seat board.new) (B.log board.old) (B.log board.new) }
+    ensures changed { IfOk result (λ _. IsChanged (B.seat board.old) (B.log board.new)
+        (editing_at (length (B.log board.old)) (B.pin_at board.old) editor.old) uri.now text None
+        (editing_at (length (B.log board.new)) (B.pin_at board.new) editor.new)) }
+    ensures ready { IfOk result (λ _. IsReady editor.new (B.log board.new) (B.pin_at board.new)) }
+    ensures none { OnErr result (own (B.seat board.old) (B.log board.new) ≡ own (B.seat board.old) (B.log board.old)) }
+{
+    match text {
+        Some(text) => put(rt, alloc, editor, board, gate, uri, text, steps),
+        None => Ok(()),
+    }
+}
+
+/// The document is no longer open, where it is inside: it is removed from the files, and its text isn't kept any more. The
+/// one error is want of memory, and then no entry of it is in the log.
+pub(crate) fn close<R: Threads + Sync, B: Commits<R>, G: Gate + Sync, L: Ledger>(
+    rt: &R,
+    alloc: Global,
+    editor: &mut Editor,
+    board: &mut B,
+    gate: &G,
+    uri: &str,
+    steps: &mut Steps<L>,
+) -> Result<(), AllocError>
+    requires ready { IsReady editor.old (B.log board.old) (B.pin_at board.old) }
+    ensures goes_on { GoesOn (B.seat board.old) (B.seat board.new) (B.log board.old) (B.log board.new) }
+    ensures closed { IfOk result (λ _. IsClosed (B.seat board.old) (B.log board.new)
+        (editing_at (length (B.log board.old)) (B.pin_at board.old) editor.old) uri.now None
+        (editing_at (length (B.log board.new)) (B.pin_at board.new) editor.new)) }
+    ensures ready { IfOk result (λ _. IsReady editor.new (B.log board.new) (B.pin_at board.new)) }
+    ensures none { OnErr result (own (B.seat board.old) (B.log board.new) ≡ own (B.seat board.old) (B.log board.old)) }
+{
+    let Some(path) = path_under(alloc, &editor.root, uri)? else {
+        return Ok(());
+    };
+    let edit = FileEdit::Remove {
+        path: path.copy(alloc)?,
+    };
+    editor.forget_view();
+    let accepted = commit(rt, alloc, &mut editor.desk, board, gate, edit, steps)?;
+    remove_if(accepted, &mut editor.texts, path.as_str());
+    Ok(())
+}
+
+/// Takes the text at the path away, where its removal was accepted.
+fn remove_if(accepted: bool, texts: &mut OpenTexts, path: &str)
+    ensures { AreSame (if accepted then with_text path.now None (texts_in texts.old) else texts_in texts.old) (texts_in texts.new) }
+{
+    if accepted {
+        texts.remove(path);
+    }
+}
