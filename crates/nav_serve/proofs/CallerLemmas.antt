@@ -3,9 +3,13 @@ use Rattle.std.proofs.Common.{◌≡◌, ℕ, List, [], inl, refl, sym, ap, appe
 use Rattle.std.specs.Io.KnownBytes.{append_known}
 use Rattle.version_tree.specs.declared.entry.Entry.{Entry}
 use Rattle.nav_session.proofs.CallerLemmas.{served_nothing}
+use Rattle.nav_lsp.proofs.CallerLemmas.{edited_nothing}
 use Rattle.nav_demo.proofs.Shown.{shown_nothing}
+use Rattle.nav_doors.specs.Connections.{Outside as Doors}
+use Rattle.nav_doors.specs.Houses.{House}
+use Rattle.nav_doors.proofs.Housed.{opened_nothing}
 use Rattle.nav_serve.specs.declared.words.Command.{Command}
-use Rattle.nav_serve.specs.declared.words.Command.TheVariants.{Once, Upgrade, Run, Demo}
+use Rattle.nav_serve.specs.declared.words.Command.TheVariants.{Once, Upgrade, Run, Lsp, Demo, Serve}
 use Rattle.nav_serve.specs.declared.tasks.Task.{Task}
 use Rattle.nav_serve.specs.declared.tasks.Task.TheVariants as task
 use Rattle.nav_serve.specs.Outside.{seen}
@@ -35,9 +39,11 @@ did_nothing task left held source_faults sink_faults = record {
 }
 
 -- a command that is refused memory before it begins
-pub does_nothing : (command : Command) (seat : ℕ) (log : List Entry) (left held : Option (List ℕ)) (source_faults sink_faults : ℕ)
-    → Does command seat log log (seen left source_faults held sink_faults) (seen left source_faults held sink_faults) 5
-does_nothing Once seat log left held source_faults sink_faults = did_nothing task.Once left held source_faults sink_faults
-does_nothing Upgrade seat log left held source_faults sink_faults = did_nothing task.Upgrade left held source_faults sink_faults
-does_nothing Run seat log left held source_faults sink_faults = served_nothing seat log left held
-does_nothing (Demo files start) seat log left held source_faults sink_faults = shown_nothing seat log held files start
+pub does_nothing : {D S K : Type 0} (o : Doors D S K) (command : Command) (seat : ℕ) (log : List Entry) (left held : Option (List ℕ)) (source_faults sink_faults : ℕ) (house : House D)
+    → Does o command seat log log (seen left source_faults held sink_faults) (seen left source_faults held sink_faults) house house 5
+does_nothing o Once seat log left held source_faults sink_faults house = did_nothing task.Once left held source_faults sink_faults
+does_nothing o Upgrade seat log left held source_faults sink_faults house = did_nothing task.Upgrade left held source_faults sink_faults
+does_nothing o Run seat log left held source_faults sink_faults house = served_nothing seat log left held
+does_nothing o Lsp seat log left held source_faults sink_faults house = edited_nothing seat log left held
+does_nothing o (Demo files start) seat log left held source_faults sink_faults house = shown_nothing seat log held files start
+does_nothing o (Serve port doors connections) seat log left held source_faults sink_faults house = opened_nothing o doors connections house

@@ -5,3 +5,4 @@ pub mod Writing
 pub mod Upgraded
 pub mod Found
 pub mod CallerLemmas
+mod Spelled

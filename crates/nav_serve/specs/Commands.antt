@@ -3,9 +3,13 @@ use Rattle.std.specs.Prelude.{◌≡◌, ℕ, ◌≤◌, ◌⊎◌, Bool, true, 
 use Rattle.version_tree.specs.declared.entry.Entry.{Entry}
 use Rattle.nav_io.specs.Faults.{HasRisen}
 use Rattle.nav_session.specs.Serving.{Serves, ends_session, ends_unhindered}
+use Rattle.lsp_messages.specs.Ends.{ends_session as ends_editor, ends_unhindered as ends_editor_unhindered}
+use Rattle.nav_lsp.specs.Serving.{ServesEditor}
 use Rattle.nav_demo.specs.Summary.{Demonstrates, ends_demo, ends_demo_unhindered}
+use Rattle.nav_doors.specs.Connections.{Outside as Doors, ends_doors}
+use Rattle.nav_doors.specs.Houses.{House, ServesHouse}
 use Rattle.nav_serve.specs.declared.words.Command.{Command}
-use Rattle.nav_serve.specs.declared.words.Command.TheVariants.{Once, Upgrade, Run, Demo}
+use Rattle.nav_serve.specs.declared.words.Command.TheVariants.{Once, Upgrade, Run, Lsp, Demo, Serve}
 use Rattle.nav_serve.specs.declared.tasks.Task.{Task}
 use Rattle.nav_serve.specs.declared.tasks.Task.TheVariants as task
 use Rattle.nav_serve.specs.Outside.{Outside}
@@ -25,12 +29,15 @@ pub record DoesTask (task : Task) (old new : Outside) (status : ℕ) : Type 0 wh
   pub long : status ≡ 6 → IfSome old.left (HasLongLine task)
   pub silent_long : status ≡ 6 → new.held ≡ old.held
 
--- what the command does, over a board whose seat has this name and saw the first of these logs before, and the second afterwards
-abbrev pub Does : Command → ℕ → List Entry → List Entry → Outside → Outside → ℕ → Type 0
-Does Once seat log log' old new status = DoesTask task.Once old new status
-Does Upgrade seat log log' old new status = DoesTask task.Upgrade old new status
-Does Run seat log log' old new status = Serves seat log log' old.left new.left old.held new.held status
-Does (Demo files start) seat log log' old new status = Demonstrates seat log log' old.held new.held files start status
+-- what the command does, over a board whose seat has this name and saw the first of these logs before, and the second
+-- afterwards, and over a house as it was and as it is, whose doors are read so; `serve` has a board of its own
+abbrev pub Does : {D S K : Type 0} → Doors D S K → Command → ℕ → List Entry → List Entry → Outside → Outside → House D → House D → ℕ → Type 0
+Does o Once seat log log' old new house house' status = DoesTask task.Once old new status
+Does o Upgrade seat log log' old new house house' status = DoesTask task.Upgrade old new status
+Does o Run seat log log' old new house house' status = Serves seat log log' old.left new.left old.held new.held status
+Does o Lsp seat log log' old new house house' status = ServesEditor seat log log' old.left new.left old.held new.held status
+Does o (Demo files start) seat log log' old new house house' status = Demonstrates seat log log' old.held new.held files start status
+Does o (Serve port doors connections) seat log log' old new house house' status = ServesHouse o doors connections house house' status
 
 -- whether a task may end with this status
 abbrev pub task_ends : ℕ → Bool
@@ -41,7 +48,9 @@ abbrev pub ends_with : Command → ℕ → Bool
 ends_with Once status = task_ends status
 ends_with Upgrade status = task_ends status
 ends_with Run status = ends_session status
+ends_with Lsp status = ends_editor status
 ends_with (Demo files start) status = ends_demo status
+ends_with (Serve port doors connections) status = ends_doors status
 
 -- whether the status refuses words that are no command
 abbrev pub is_refusal : ℕ → Bool
@@ -56,12 +65,15 @@ may_end (Some command) status = ends_with command status
 abbrev pub EndsTask : Task → Option (List ℕ) → ℕ → Type 0
 EndsTask task left status = (status ≡ 0) ⊎ (status ≡ 5) ⊎ ((status ≡ 6) × IfSome left (HasLongLine task))
 
--- with which status the command ends where nothing outside had a fault
+-- with which status the command ends where neither the source nor the sink had a fault; what a fault of the house or of a
+-- door does is said with what `serve` does
 abbrev pub Ends : Command → Option (List ℕ) → ℕ → Type 0
 Ends Once left status = EndsTask task.Once left status
 Ends Upgrade left status = EndsTask task.Upgrade left status
 Ends Run left status = IsTrue (ends_unhindered status)
+Ends Lsp left status = IsTrue (ends_editor_unhindered status)
 Ends (Demo files start) left status = IsTrue (ends_demo_unhindered status)
+Ends (Serve port doors connections) left status = IsTrue (ends_doors status)
 
 -- Each status that blames the outside has its cause there, and no count of faults falls.
 pub record HasCause (old new : Outside) (status : ℕ) : Type 0 where
@@ -88,13 +100,15 @@ abbrev pub parts_of : Command → Parts
 parts_of Once = record { source = true; sink = true; house = false; board = false; steps = false }
 parts_of Upgrade = record { source = true; sink = true; house = false; board = false; steps = false }
 parts_of Run = record { source = true; sink = true; house = false; board = true; steps = true }
+parts_of Lsp = record { source = true; sink = true; house = false; board = true; steps = true }
 parts_of (Demo files start) = record { source = false; sink = true; house = false; board = true; steps = true }
+parts_of (Serve port doors connections) = record { source = false; sink = false; house = true; board = false; steps = false }
 
 -- The command does what the task does, by the definition of a task alone, and uses neither the house, the board nor the steps.
-abbrev pub IsTask : Command → Task → Type 0
-IsTask command task =
-    ((seat : ℕ) → (log log' : List Entry) → (old new : Outside) → (status : ℕ)
-    → Does command seat log log' old new status → DoesTask task old new status)
+abbrev pub IsTask : {D S K : Type 0} → Doors D S K → Command → Task → Type 0
+IsTask {D} {S} {K} o command task =
+    ((seat : ℕ) (log log' : List Entry) (old new : Outside) (house house' : House D) (status : ℕ)
+    → Does o command seat log log' old new house house' status → DoesTask task old new status)
     × ((parts_of command).house ≡ false) × ((parts_of command).board ≡ false) × ((parts_of command).steps ≡ false)
 
 -- the parts that are used where the words are this command or none

@@ -1,16 +1,20 @@
 //! The whole program, but for making the outside.
 ghost use Rattle.std.specs.Prelude.{◌≡◌, ℕ, None, false, IfSome, IsTrue};
+ghost use Rattle.nav_doors.specs.Connections.{outside};
+ghost use Rattle.nav_doors.specs.Houses.{house_with};
 ghost use Rattle.nav_serve.specs.Words.{command_of, texts};
 ghost use Rattle.nav_serve.specs.Outside.{seen};
 ghost use Rattle.nav_serve.specs.Commands.{Does, HasCause, HasNoFault, Ends, is_refusal, may_end, parts_used};
 
-use crate::session::{run_demo, run_session};
+use crate::session::{run_demo, run_editor, run_session};
 use crate::tasks::{Task, perform};
 use crate::words::{Command, command_of};
 use graph_nodes::Steps;
-use nav_io::{House, Sink, Source};
+use nav_doors::serve_house;
+use nav_io::{Door, House, Sink, Source};
 use nav_session::BAD_WORDS;
 use std::alloc::Global;
+use std::sync::Wait;
 use std::sync::ledger::Ledger;
 use std::thread::Threads;
 use version_board::Commits;
@@ -18,10 +22,12 @@ use version_board::Commits;
 /// Does what the words after the program's name say, and gives the status with which the program ends.
 ///
 /// The words are exactly one command's name: `once` or `upgrade`, which use the source and the sink
-/// alone, or `run`, which serves a session on the board and counts steps besides; or they are `demo` and
-/// two numbers, which uses the sink, the board and the steps. With any others the status is 2, and nothing
-/// is read or written. The other statuses are those of the commands.
-pub fn run<R: Threads + Sync, S: Source, K: Sink, H: House, B: Commits<R>, L: Ledger>(
+/// alone, or `run` or `lsp`, which serve a session on the board and count steps besides; or they are `demo` and
+/// two numbers, which uses the sink, the board and the steps, or `serve` and three numbers, which serves the
+/// doors of the house on a board of its own. With any others the status is 2, and nothing is read or
+/// written. The other statuses are those of the commands. It may wait, for `serve` does: what each other
+/// command does is a function without that leave, and ends.
+pub fn run<R: Threads + Wait + Sync, S: Source, K: Sink, H: House, B: Commits<R>, L: Ledger>(
     rt: &R,
     alloc: Global,
     words: &[String],
@@ -31,16 +37,23 @@ pub fn run<R: Threads + Sync, S: Source, K: Sink, H: House, B: Commits<R>, L: Le
     board: &mut B,
     steps: &mut Steps<L>,
 ) -> u8
+where
+    H::D: Send + Drop,
+    <H::D as Door>::S: Send,
+    <H::D as Door>::K: Send,
     // Which status comes with which words.
     ensures bad_words { result ≡ 2 → command_of (texts words.now) ≡ None }
     ensures no_command { command_of (texts words.now) ≡ None → IsTrue (is_refusal result) }
     ensures statuses { IsTrue (may_end (command_of (texts words.now)) result) }
 
     // What the command does, and why it did no more.
-    ensures does { IfSome (command_of (texts words.now)) (λ command. Does command
+    ensures does { IfSome (command_of (texts words.now)) (λ command. Does
+        (outside H.D.gave H.D.got_back H.D.faults H.D.S.left H.D.S.faults H.D.K.held H.D.K.faults) command
         (B.seat board.old) (B.log board.old) (B.log board.new)
         (seen (S.left source.old) (S.faults source.old) (K.held sink.old) (K.faults sink.old))
-        (seen (S.left source.new) (S.faults source.new) (K.held sink.new) (K.faults sink.new)) result) }
+        (seen (S.left source.new) (S.faults source.new) (K.held sink.new) (K.faults sink.new))
+        (house_with (H.gave house.old) (H.got_back house.old) (H.faults house.old))
+        (house_with (H.gave house.new) (H.got_back house.new) (H.faults house.new)) result) }
     ensures seat { B.seat board.new ≡ B.seat board.old }
     ensures causes { HasCause
         (seen (S.left source.old) (S.faults source.old) (K.held sink.old) (K.faults sink.old))
@@ -63,9 +76,17 @@ pub fn run<R: Threads + Sync, S: Source, K: Sink, H: House, B: Commits<R>, L: Le
         Some(Command::Once) => perform(Task::Once, alloc, source, sink),
         Some(Command::Upgrade) => perform(Task::Upgrade, alloc, source, sink),
         Some(Command::Run) => run_session(rt, alloc, source, sink, board, steps),
+        Some(Command::Lsp) => run_editor(rt, alloc, source, sink, board, steps),
         Some(Command::Demo { files, start }) => run_demo(
             rt, alloc, files, start, sink, board, steps,
         ),
+        Some(
+            Command::Serve {
+                port,
+                doors,
+                connections,
+            },
+        ) => serve_house(rt, alloc, house, port, doors, connections),
         None => BAD_WORDS,
     }
 }

@@ -1,6 +1,8 @@
 //! The commands that use a board.
 ghost use Rattle.std.specs.Prelude.{◌≡◌, ℕ, List, Option, IsTrue};
 ghost use Rattle.nav_session.specs.Serving.{Serves, ends_session, ends_unhindered};
+ghost use Rattle.lsp_messages.specs.Ends.{ends_session as ends_editor, ends_unhindered as ends_editor_unhindered};
+ghost use Rattle.nav_lsp.specs.Serving.{ServesEditor};
 ghost use Rattle.nav_demo.specs.Summary.{Demonstrates, ends_demo, ends_demo_unhindered};
 ghost use Rattle.nav_serve.specs.Outside.{seen};
 ghost use Rattle.nav_serve.specs.Commands.{HasCause, HasNoFault};
@@ -8,6 +10,7 @@ ghost use Rattle.nav_serve.specs.Commands.{HasCause, HasNoFault};
 use graph_nodes::Steps;
 use nav_demo::demo;
 use nav_io::{Sink, Source, Unguarded};
+use nav_lsp::serve_lsp;
 use nav_session::{Desk, serve_session};
 use std::alloc::Global;
 use std::sync::ledger::Ledger;
@@ -38,6 +41,30 @@ pub fn run_session<R: Threads + Sync, S: Source, K: Sink, B: Commits<R>, L: Ledg
 {
     let mut desk = Desk::new(alloc);
     serve_session(rt, alloc, &mut desk, board, &Unguarded, source, sink, steps)
+}
+
+/// Serves one editor on this board by the Language Server Protocol, and gives its status: one of those of `serve_lsp`.
+pub fn run_editor<R: Threads + Sync, S: Source, K: Sink, B: Commits<R>, L: Ledger>(
+    rt: &R,
+    alloc: Global,
+    source: &mut S,
+    sink: &mut K,
+    board: &mut B,
+    steps: &mut Steps<L>,
+) -> u8
+    ensures serves { ServesEditor (B.seat board.old) (B.log board.old) (B.log board.new)
+        (S.left source.old) (S.left source.new) (K.held sink.old) (K.held sink.new) result }
+    ensures seat { B.seat board.new ≡ B.seat board.old }
+    ensures statuses { IsTrue (ends_editor result) }
+    ensures causes { HasCause
+        (seen (S.left source.old) (S.faults source.old) (K.held sink.old) (K.faults sink.old))
+        (seen (S.left source.new) (S.faults source.new) (K.held sink.new) (K.faults sink.new)) result }
+    ensures complete { HasNoFault
+        (seen (S.left source.old) (S.faults source.old) (K.held sink.old) (K.faults sink.old))
+        (seen (S.left source.new) (S.faults source.new) (K.held sink.new) (K.faults sink.new))
+        → IsTrue (ends_editor_unhindered result) }
+{
+    serve_lsp(rt, alloc, board, &Unguarded, source, sink, steps)
 }
 
 /// Commits and queries the made tree of so many files that is drawn from this start, on this board, writes the summary,

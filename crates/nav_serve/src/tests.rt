@@ -1,5 +1,5 @@
 //! What no clause says: that the commands answer with memory at hand, on inputs worked by hand.
-use crate::words::{Command, command_of};
+use crate::words::command_of;
 use crate::{Task, perform};
 use aux_graph_text::files_of;
 use graph_json::print_graph;
@@ -250,50 +250,59 @@ fn upgrade_names_the_nodes(rt: HostRuntime) -> Result<(), Fail> {
     Ok(())
 }
 
-/// The command that words are which blanks part.
-fn command(alloc: Global, line: &str) -> Result<Option<Command>, Fail> {
+/// The command that words are which blanks part, as it is shown.
+fn command(alloc: Global, line: &str) -> Result<String, Fail> {
     let mut words = Vec::new(alloc);
     for word in line.split(' ') {
         words.push(String::from_str(alloc, word)?)?;
     }
-    Ok(command_of(&words))
+    let command = command_of(&words);
+    Ok(format!(in alloc; "{command:?}")?)
 }
+
+/// Words, and the command that they are.
+const WORDS: &str = r#"once => Some(Once)
+upgrade => Some(Upgrade)
+run => Some(Run)
+lsp => Some(Lsp)
+ => None
+Once => None
+--help => None
+once once => None
+demo 3 0 => Some(Demo { files: 3, start: 0 })
+demo 2048 4294967295 => Some(Demo { files: 2048, start: 4294967295 })
+demo => None
+demo 3 => None
+demo 3 0 0 => None
+demos 3 0 => None
+demo 0 0 => None
+demo 2049 0 => None
+demo 3 4294967296 => None
+demo 03 0 => None
+demo 3 00 => None
+demo +3 0 => None
+demo 3 -1 => None
+demo  0 => None
+serve 1 1 1 => Some(Serve { port: 1, doors: 1, connections: 1 })
+serve 65535 32 1000 => Some(Serve { port: 65535, doors: 32, connections: 1000 })
+serve => None
+serve 4000 => None
+serve 4000 1 => None
+serve 4000 1 1 1 => None
+serves 4000 1 1 => None
+serve 0 1 1 => None
+serve 65536 1 1 => None
+serve 4000 0 1 => None
+serve 4000 33 1 => None
+serve 4000 1 0 => None
+serve 4000 1 1001 => None
+serve 04000 1 1 => None"#;
 
 #[test]
 fn words_are_one_command(rt: HostRuntime) -> Result<(), Fail> {
-    let alloc = rt.alloc();
-    let rows: [(&str, Option<Command>); 22] = [
-        ("once", Some(Command::Once)),
-        ("upgrade", Some(Command::Upgrade)),
-        ("", None),
-        ("Once", None),
-        ("--help", None),
-        ("run", Some(Command::Run)),
-        ("serve", None),
-        ("once once", None),
-        ("demo 3 0", Some(Command::Demo { files: 3, start: 0 })),
-        (
-            "demo 2048 4294967295",
-            Some(Command::Demo {
-                files: 2048,
-                start: 4_294_967_295,
-            }),
-        ),
-        ("demo", None),
-        ("demo 3", None),
-        ("demo 3 0 0", None),
-        ("demos 3 0", None),
-        ("demo 0 0", None),
-        ("demo 2049 0", None),
-        ("demo 3 4294967296", None),
-        ("demo 03 0", None),
-        ("demo 3 00", None),
-        ("demo +3 0", None),
-        ("demo 3 -1", None),
-        ("demo  0", None),
-    ];
-    for (line, wanted) in rows {
-        assert_eq!(rt; command(alloc, line)?, wanted, "at {line}");
+    for row in WORDS.split('\n') {
+        let (line, wanted) = row.split_once(" => ").unwrap_or((row, "no arrow"));
+        assert_eq!(rt; command(rt.alloc(), line)?.as_str(), wanted, "at {line}");
     }
     assert_eq!(rt; command_of(&[]), None);
     Ok(())

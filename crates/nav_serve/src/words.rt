@@ -1,5 +1,5 @@
 ghost use Rattle.std.specs.Prelude.{◌≡◌};
-ghost use Rattle.nav_serve.specs.Words.{command_named, command_of, demo_of, number_of, spelled, with_digit, zero_alone, texts};
+ghost use Rattle.nav_serve.specs.Words.{command_named, command_of, demo_of, number_of, serve_of, spelled, with_digit, zero_alone, texts};
 
 /// A command of the program.
 #[derive(Clone, Copy, Debug, PartialEq, Eq)]
@@ -10,11 +10,24 @@ pub enum Command {
     Upgrade,
     /// Serves one session.
     Run,
+    /// Serves an editor by the Language Server Protocol.
+    Lsp,
     /// Commits and queries a made tree of so many files, 1 to 2,048, that is drawn from this start.
-    Demo { files: u32, start: u32 },
+    Demo {
+        files: u32,
+        start: u32,
+    },
+    /// Serves clients at the port, 1 to 65,535, by so many doors, 1 to 32, each for so many connections, 1 to 1,000.
+    Serve {
+        port: u16,
+        doors: u32,
+        connections: u32,
+    },
 }
 
-/// The command that the words are, if they are one: exactly one word, a command's name, or `demo` and two numbers.
+/// The command that the words are, if they are one: exactly one word, a command's name, or `demo` and two numbers, or
+/// `serve` and three.
+#[tactic(auto, using(crate::proofs::Spelled::two_are_none, crate::proofs::Spelled::five_are_none))]
 pub fn command_of(words: &[String]) -> Option<Command>
     ensures { result ≡ command_of (texts words.now) }
 {
@@ -23,6 +36,17 @@ pub fn command_of(words: &[String]) -> Option<Command>
         [word, files, start] => {
             if word.as_str() == "demo" {
                 demo_of(number_of(files.as_str()), number_of(start.as_str()))
+            } else {
+                None
+            }
+        }
+        [word, port, doors, connections] => {
+            if word.as_str() == "serve" {
+                serve_of(
+                    number_of(port.as_str()),
+                    number_of(doors.as_str()),
+                    number_of(connections.as_str()),
+                )
             } else {
                 None
             }
@@ -40,6 +64,28 @@ fn demo_of(files: Option<u32>, start: Option<u32>) -> Option<Command>
             files,
             start,
         }),
+        _ => None,
+    }
+}
+
+/// Serving at this port, by so many doors, for so many connections each.
+fn serve_of(port: Option<u32>, doors: Option<u32>, connections: Option<u32>) -> Option<Command>
+    ensures { result ≡ serve_of port doors connections }
+{
+    match (port, doors, connections) {
+        (Some(port), Some(doors), Some(connections))
+            if 1 <= port
+                && port <= 65535
+                && 1 <= doors
+                && doors <= 32
+                && 1 <= connections
+                && connections <= 1000 => {
+            Some(Command::Serve {
+                port: port as u16,
+                doors,
+                connections,
+            })
+        }
         _ => None,
     }
 }
@@ -95,6 +141,9 @@ fn command_named(word: &str) -> Option<Command>
     }
     if word == "run" {
         return Some(Command::Run);
+    }
+    if word == "lsp" {
+        return Some(Command::Lsp);
     }
     None
 }

@@ -7,11 +7,12 @@ ghost use Rattle.nav_serve.specs.Words.{command_of, texts};
 ghost use Rattle.nav_serve.specs.Commands.{may_end};
 
 use graph_nodes::Steps;
-use nav_io::{MemHouse, StdSink, StdSource};
+use nav_io::{Door, House, StdSink, StdSource, TcpHouse};
 use std::alloc::Global;
 use std::io::{ErrorKind, Read, Write};
 use std::marker::Brand;
 use std::process::ExitCode;
+use std::sync::Wait;
 use std::sync::ledger::{Blank, Ledger};
 use std::thread::Threads;
 use std::{env, io};
@@ -25,7 +26,7 @@ mod tests;
 
 /// What standard error tells where the words are no command.
 const USAGE: &str =
-    "usage: navd once | navd upgrade | navd run (the input is read from standard input) | navd demo FILES START";
+    "usage: navd once | navd upgrade | navd run | navd lsp (each of these reads standard input) | navd demo FILES START | navd serve PORT DOORS CONNECTIONS";
 
 /// The status where the words are no command.
 const BAD_WORDS: u8 = 2;
@@ -34,12 +35,14 @@ const BAD_WORDS: u8 = 2;
 const NO_MEMORY: u8 = 5;
 
 fn main(rt: HostRuntime) -> ExitCode {
-    let status = ended::<_, _, _, Brand>(
+    let mut house = TcpHouse::new(&rt);
+    let status = ended::<_, _, _, _, Brand>(
         &rt,
         rt.alloc(),
         words_of(&rt),
         rt.stdin(),
         rt.stdout(),
+        &mut house,
         Blank::new(1),
     );
     let why = why(status);
@@ -53,11 +56,14 @@ fn main(rt: HostRuntime) -> ExitCode {
 fn why(status: u8) -> &'static str {
     match status {
         BAD_WORDS => USAGE,
+        1 => "navd: the editor left without shutdown",
         3 => "navd: reading standard input failed",
         4 => "navd: writing standard output failed",
         NO_MEMORY => "navd: memory was refused",
-        6 => "navd: a line has more than 8388608 bytes",
-        7 => "navd: 1000000 lines were answered, and more input stands behind them",
+        6 => "navd: a line or a message has more than 8388608 bytes",
+        7 => "navd: 1000000 lines or messages were answered, and more input stands behind them",
+        8 => "navd: the port can't be listened at, or a connection couldn't be accepted",
+        9 => "navd: the input isn't cut into messages as the protocol has it, or ends within one",
         _ => "",
     }
 }
@@ -72,15 +78,20 @@ fn words_of(rt: &HostRuntime) -> io::Result<Vec<String>> {
 }
 
 /// The status with which the program ends on these words, or where they can't be had: that of `run_alone` over
-/// this reader and writer, with no doors and a counter that nobody reads.
-fn ended<T: Threads + Sync, R: Read + Drop, W: Write + Drop, L: Ledger>(
+/// this reader, this writer and this house, with a counter that nobody reads.
+fn ended<T: Threads + Wait + Sync, R: Read + Drop, W: Write + Drop, H: House, L: Ledger>(
     rt: &T,
     alloc: Global,
     words: io::Result<Vec<String>>,
     reader: R,
     writer: W,
+    house: &mut H,
     blank: Blank,
 ) -> u8
+where
+    H::D: Send + Drop,
+    <H::D as Door>::S: Send,
+    <H::D as Door>::K: Send,
     requires name { blank.name ≡ L.name }
     requires parts { blank.parts ≡ L.parts }
     requires some { 0 < blank.parts }
@@ -89,21 +100,26 @@ fn ended<T: Threads + Sync, R: Read + Drop, W: Write + Drop, L: Ledger>(
     ensures no_words { OnErr words ((result ≡ 2) ⊎ (result ≡ 5)) }
 {
     match words {
-        Ok(words) => served::<_, _, _, L>(rt, alloc, &words, reader, writer, blank),
+        Ok(words) => served::<_, _, _, _, L>(rt, alloc, &words, reader, writer, house, blank),
         Err(e) if e.kind() == ErrorKind::OutOfMemory => NO_MEMORY,
         Err(_) => BAD_WORDS,
     }
 }
 
-/// Runs the words over this reader and writer.
-fn served<T: Threads + Sync, R: Read + Drop, W: Write + Drop, L: Ledger>(
+/// Runs the words over this reader, this writer and this house.
+fn served<T: Threads + Wait + Sync, R: Read + Drop, W: Write + Drop, H: House, L: Ledger>(
     rt: &T,
     alloc: Global,
     words: &[String],
     reader: R,
     writer: W,
+    house: &mut H,
     blank: Blank,
 ) -> u8
+where
+    H::D: Send + Drop,
+    <H::D as Door>::S: Send,
+    <H::D as Door>::K: Send,
     requires name { blank.name ≡ L.name }
     requires parts { blank.parts ≡ L.parts }
     requires some { 0 < blank.parts }
@@ -112,15 +128,6 @@ fn served<T: Threads + Sync, R: Read + Drop, W: Write + Drop, L: Ledger>(
 {
     let mut source = StdSource::new(reader);
     let mut sink = StdSink::new(writer);
-    let mut house = MemHouse::new(Vec::new(alloc), false);
     let mut steps = Steps::<L>::new(blank);
-    run_alone(
-        rt,
-        alloc,
-        words,
-        &mut source,
-        &mut sink,
-        &mut house,
-        &mut steps,
-    )
+    run_alone(rt, alloc, words, &mut source, &mut sink, house, &mut steps)
 }

@@ -5,11 +5,13 @@ mod graphs;
 mod sessions;
 
 use crate::ended;
+use nav_io::MemHouse;
 use std::alloc::Global;
 use std::cell::Cell;
 use std::io;
 use std::io::{ErrorKind, Read, Write};
 use std::marker::Brand;
+use std::sync::Wait;
 use std::sync::ledger::Blank;
 use std::test::Fail;
 use std::thread::Threads;
@@ -61,7 +63,7 @@ impl Write for Filled {
 }
 
 /// The status on words that blanks part, and what was written.
-fn run_on<T: Threads + Sync>(
+fn run_on<T: Threads + Wait + Sync>(
     rt: &T,
     alloc: Global,
     line: &str,
@@ -81,39 +83,59 @@ fn run_on<T: Threads + Sync>(
         took: Vec::new(alloc),
         room,
     };
-    let status = ended::<_, _, _, Brand>(rt, alloc, Ok(words), reader, &mut writer, Blank::new(1));
+    let mut house = MemHouse::new(Vec::new(alloc), false);
+    let status = ended::<_, _, _, _, Brand>(
+        rt,
+        alloc,
+        Ok(words),
+        reader,
+        &mut writer,
+        &mut house,
+        Blank::new(1),
+    );
     Ok((status, writer.took))
+}
+
+/// The words, then how many bytes the reader holds back and the writer's room; the status, and how many bytes are
+/// written. To the two lines of the input `run` replies `{"error":"bad_request","field":"do"}` twice. They
+/// are no messages of an editor. The house has no door, so `serve` fails.
+const STATUSES: &str = r#"once | 0 99 => 0 25
+upgrade | 0 99 => 0 35
+once once | 0 99 => 2 0
+once  | 0 99 => 2 0
+serve | 0 99 => 2 0
+once | 5 99 => 3 0
+once | 0 7 => 4 7
+upgrade | 0 0 => 4 0
+run | 0 99 => 0 74
+run | 5 99 => 3 37
+run | 0 40 => 4 40
+demo 3 0 | 0 99 => 0 68
+demo 3 0 | 0 67 => 4 67
+demo 3 | 0 99 => 2 0
+demo 0 0 | 0 99 => 2 0
+serve 0 1 1 | 0 99 => 2 0
+serve 4000 1 1 | 0 99 => 8 0
+lsp | 0 99 => 9 0"#;
+
+/// The status on words with a reader and a writer, as a row has them, and how many bytes are written.
+fn status_of<T: Threads + Wait + Sync>(rt: &T, alloc: Global, given: &str) -> Result<String, Fail> {
+    let input = b"{\"nodes\":[],\"edges\":[]}\n{\"node\":0}\n";
+    let (line, outside) = given.split_once(" | ").unwrap_or((given, ""));
+    let (held_back, room) = outside.split_once(' ').unwrap_or((outside, ""));
+    let (status, written) = run_on(rt, alloc, line, input, held_back.parse()?, room.parse()?)?;
+    let bytes = written.len();
+    Ok(format!(in alloc; "{status} {bytes}")?)
 }
 
 #[test]
 fn each_status_is_told(rt: HostRuntime) -> Result<(), Fail> {
-    let input = b"{\"nodes\":[],\"edges\":[]}\n{\"node\":0}\n";
-    // To these two lines `run` replies `{"error":"bad_request","field":"do"}` twice.
-    // The words, how many bytes the reader holds back, the writer's room, the status, and how many bytes are
-    // written.
-    let rows: [(&str, usize, usize, u8, usize); 15] = [
-        ("once", 0, 99, 0, 25),
-        ("upgrade", 0, 99, 0, 35),
-        ("once once", 0, 99, 2, 0),
-        ("once ", 0, 99, 2, 0),
-        ("serve", 0, 99, 2, 0),
-        ("once", 5, 99, 3, 0),
-        ("once", 0, 7, 4, 7),
-        ("upgrade", 0, 0, 4, 0),
-        ("run", 0, 99, 0, 74),
-        ("run", 5, 99, 3, 37),
-        ("run", 0, 40, 4, 40),
-        ("demo 3 0", 0, 99, 0, 68),
-        ("demo 3 0", 0, 67, 4, 67),
-        ("demo 3", 0, 99, 2, 0),
-        ("demo 0 0", 0, 99, 2, 0),
-    ];
-    for (line, held_back, room, status, bytes) in rows {
-        let (got, written) = run_on(&rt, rt.alloc(), line, input, held_back, room)?;
+    for row in STATUSES.split('\n') {
+        let (given, wanted) = row.split_once(" => ").unwrap_or((row, "no arrow"));
         assert_eq!(rt;
-            (got, written.len()),
-            (status, bytes),
-            "{line} {held_back} {room}"
+            status_of(&rt, rt.alloc(), given)?.as_str(),
+            wanted,
+            "{given}"
         );
     }
     Ok(())
@@ -125,7 +147,7 @@ const SUMMARIES: &str =
 demo 1 0 => {"crowded":0,"files":1,"limited":0,"references":1,"rows":1,"sum":1}"#;
 
 /// The status on these words, where nothing is read, and what was written.
-fn shown<T: Threads + Sync>(rt: &T, alloc: Global, line: &str) -> Result<String, Fail> {
+fn shown<T: Threads + Wait + Sync>(rt: &T, alloc: Global, line: &str) -> Result<String, Fail> {
     let (status, written) = run_on(rt, alloc, line, b"", 0, 99)?;
     let written = str::from_utf8(written.as_slice())?;
     Ok(format!(in alloc; "{status} {written}")?)
@@ -163,7 +185,7 @@ fn scopes(alloc: Global, count: u32) -> Result<(Vec<u8>, Vec<u8>), Fail> {
 
 /// The status of `upgrade` on a graph of 5,000 scopes, how many bytes of the whole output are written, and how
 /// many it has.
-fn upgraded<T: Threads + Sync>(
+fn upgraded<T: Threads + Wait + Sync>(
     rt: &T,
     alloc: Global,
     held_back: usize,
@@ -235,7 +257,11 @@ impl<'a> Write for Screen<'a> {
 }
 
 /// The status of a session whose lines are typed one by one, and how many bytes were shown.
-fn typed_on<T: Threads + Sync>(rt: &T, alloc: Global, input: &[u8]) -> Result<(u8, usize), Fail> {
+fn typed_on<T: Threads + Wait + Sync>(
+    rt: &T,
+    alloc: Global,
+    input: &[u8],
+) -> Result<(u8, usize), Fail> {
     let answered = Cell::new(0);
     let words = vec![in alloc; String::from_str(alloc, "run")?]?;
     let reader = Typist {
@@ -247,7 +273,16 @@ fn typed_on<T: Threads + Sync>(rt: &T, alloc: Global, input: &[u8]) -> Result<(u
         shown: Vec::new(alloc),
         answered: &answered,
     };
-    let status = ended::<_, _, _, Brand>(rt, alloc, Ok(words), reader, &mut writer, Blank::new(1));
+    let mut house = MemHouse::new(Vec::new(alloc), false);
+    let status = ended::<_, _, _, _, Brand>(
+        rt,
+        alloc,
+        Ok(words),
+        reader,
+        &mut writer,
+        &mut house,
+        Blank::new(1),
+    );
     Ok((status, writer.shown.len()))
 }
 

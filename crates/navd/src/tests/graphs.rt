@@ -4,6 +4,7 @@ use aux_graph_text::{ANSWERED, files_of};
 use graph_json::print_graph;
 use graph_nodes::FileGraph;
 use std::alloc::Global;
+use std::sync::Wait;
 use std::test::Fail;
 use std::thread::Threads;
 
@@ -78,7 +79,10 @@ fn refused(alloc: Global) -> Result<String, Fail> {
 }
 
 /// How many rows are answered otherwise than they are to be, and of how many the file is refused as too heavy.
-fn wrong_and_heavy<T: Threads + Sync>(rt: &T, alloc: Global) -> Result<(usize, usize), Fail> {
+fn wrong_and_heavy<T: Threads + Wait + Sync>(
+    rt: &T,
+    alloc: Global,
+) -> Result<(usize, usize), Fail> {
     let mut wrong: usize = 0;
     let mut heavy: usize = 0;
     for row in ANSWERED.split('\n') {

@@ -6,6 +6,7 @@ use graph_nodes::Steps;
 use nav_io::{MemHouse, MemSink, MemSource};
 use std::alloc::Global;
 use std::marker::Brand;
+use std::sync::Wait;
 use std::sync::ledger::{Blank, Ledger};
 use std::test::Fail;
 use std::thread::Threads;
@@ -24,7 +25,7 @@ struct Outside {
 }
 
 /// The status of `run` on this input, and what was written, on a ledger of its own.
-fn session_on<T: Threads + Sync, L: Ledger>(
+fn session_on<T: Threads + Wait + Sync, L: Ledger>(
     rt: &T,
     alloc: Global,
     input: &[u8],
@@ -56,7 +57,7 @@ fn session_on<T: Threads + Sync, L: Ledger>(
     Ok((status, sink.held().to_vec(alloc)?))
 }
 
-fn session<T: Threads + Sync>(
+fn session<T: Threads + Wait + Sync>(
     rt: &T,
     alloc: Global,
     input: &[u8],
@@ -94,7 +95,7 @@ const SESSIONS: &str = r#"# A last line without its end, and an empty line.
 {"do":"hello","user":"operator"}¶{"do":"define","path":"a.py","node":0,"edges":513}¶{"do":"define","path":"a.py","node":0,"depth":97}¶[[[[[[[[[[[[[[[[[[[[[[[[[[[[[[[[[[[[[[[[[[[[[[[[[[[[[[[[[[[[[[[[[[[[[[[[[[[[[[[[[[[[[[[[[[[[[[[[[[[[[[[[[[[[[[[[[[[[[[[[[[[[[[[]]]]]]]]]]]]]]]]]]]]]]]]]]]]]]]]]]]]]]]]]]]]]]]]]]]]]]]]]]]]]]]]]]]]]]]]]]]]]]]]]]]]]]]]]]]]]]]]]]]]]]]]]]]]]]]]]]]]]]]]]]]]]]]¶[[[[[[[[[[[[[[[[[[[[[[[[[[[[[[[[[[[[[[[[[[[[[[[[[[[[[[[[[[[[[[[[[[[[[[[[[[[[[[[[[[[[[[[[[[[[[[[[[[[[[[[[[[[[[[[[[[[[[[[[[[[[[[[[]]]]]]]]]]]]]]]]]]]]]]]]]]]]]]]]]]]]]]]]]]]]]]]]]]]]]]]]]]]]]]]]]]]]]]]]]]]]]]]]]]]]]]]]]]]]]]]]]]]]]]]]]]]]]]]]]]]]]]]]]]]]]]]] => {"version":0}¶{"error":"bad_request","field":"edges"}¶{"error":"bad_request","field":"depth"}¶{"error":"bad_request","field":"do"}¶{"error":"bad_json"}¶"#;
 
 /// What is told of a session whose source gives at most so many bytes at a read.
-pub fn told<T: Threads + Sync>(
+pub fn told<T: Threads + Wait + Sync>(
     rt: &T,
     alloc: Global,
     text: &str,
@@ -167,7 +168,7 @@ fn faults_end_a_session_where_they_come(rt: HostRuntime) -> Result<(), Fail> {
 }
 
 /// The status and the number of bytes written, where lines of `1`, each answered with 37 bytes, are followed by more.
-fn many<T: Threads + Sync>(
+fn many<T: Threads + Wait + Sync>(
     rt: &T,
     alloc: Global,
     lines: u32,
