@@ -13,6 +13,7 @@ build:
 test:
 	rt ci
 
-# Runs the program that `build` leaves under outsides that bring about each of its statuses.
+# Runs the program that `build` leaves under outsides that bring about each of its statuses, and with clients at its port.
 statuses: build
 	python3 bench/statuses.py
+	python3 bench/clients.py

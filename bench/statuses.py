@@ -37,12 +37,18 @@ NOT_JSON = b'{"error":"bad_file","fault":"json","path":"%s.sg.json"}\n'
 LARGE = b'{"bytes":8388608,"error":"bad_file","fault":"large","path":"%s.sg.json"}\n'
 SAID = {
     0: b"",
-    2: b"usage: navd once | navd upgrade | navd run (the input is read from standard input) | navd demo FILES START\n",
+    1: b"navd: the editor left without shutdown\n",
+    2: (
+        b"usage: navd once | navd upgrade | navd run | navd lsp (each of these reads standard input)"
+        b" | navd demo FILES START | navd serve PORT DOORS CONNECTIONS\n"
+    ),
     3: b"navd: reading standard input failed\n",
     4: b"navd: writing standard output failed\n",
     5: b"navd: memory was refused\n",
-    6: b"navd: a line has more than 8388608 bytes\n",
-    7: b"navd: 1000000 lines were answered, and more input stands behind them\n",
+    6: b"navd: a line or a message has more than 8388608 bytes\n",
+    7: b"navd: 1000000 lines or messages were answered, and more input stands behind them\n",
+    8: b"navd: the port can't be listened at, or a connection couldn't be accepted\n",
+    9: b"navd: the input isn't cut into messages as the protocol has it, or ends within one\n",
 }
 HELLO = b'{"do":"hello","user":"operator"}\n'
 PIN = b'{"do":"pin"}\n'
@@ -203,10 +209,32 @@ def in_memory(most):
     return lambda command, data: from_file(command, data, limited(resource.RLIMIT_AS, most))
 
 
+def into_port_in_use(command, _):
+    """A run whose last words but two are a port at which somebody listens."""
+    with socket.socket() as other:
+        other.bind(("127.0.0.1", 0))
+        other.listen()
+        return from_file([*command, str(other.getsockname()[1]), "1", "1"], b"")
+
+
+def frame(body):
+    """A message with its header."""
+    return b"Content-Length: %d\r\n\r\n%s" % (len(body), body)
+
+
 def line(length):
     """A line of so many bytes, and its newline."""
     return b"[" * length + b"\n"
 
+
+INITIALIZE = frame(b'{"id":1,"method":"initialize","params":{}}')
+INITIALIZED = frame(
+    b'{"id":1,"jsonrpc":"2.0","result":{"capabilities":{"definitionProvider":true,'
+    b'"referencesProvider":true,"textDocumentSync":1}}}'
+)
+SHUTDOWN = frame(b'{"id":2,"method":"shutdown"}')
+SHUT = frame(b'{"id":2,"jsonrpc":"2.0","result":null}')
+EXIT = frame(b'{"method":"exit"}')
 
 # The status, the words, what is special, the call that runs it and its data, and what has to be written (None
 # where it isn't seen).
@@ -234,6 +262,16 @@ ROWS_OF_TABLE = [
     (0, ["run"], "as many lines as a session may have", from_file, b"1\n" * LINES_MAX, NO_DO * LINES_MAX),
     (2, [], "no word", from_file, GRAPH + NODE, b""),
     (2, ["serve"], "no command", from_file, GRAPH + NODE, b""),
+    (2, ["serve", "4000", "33", "1"], "a door too many", from_file, GRAPH + NODE, b""),
+    (8, ["serve"], "a port in use", into_port_in_use, None, b""),
+    (0, ["lsp"], "no input", from_file, b"", b""),
+    (0, ["lsp"], "an exit behind a shutdown", from_file, INITIALIZE + SHUTDOWN + EXIT, INITIALIZED + SHUT),
+    (1, ["lsp"], "an exit without a shutdown", from_file, INITIALIZE + EXIT, INITIALIZED),
+    (3, ["lsp"], "standard input fails within a message", from_failing, INITIALIZE + SHUTDOWN[:-1], INITIALIZED),
+    (4, ["lsp"], "standard output has room for 20 bytes", into_room(20), INITIALIZE, INITIALIZED[:20]),
+    (6, ["lsp"], "a header that states one byte more", from_file, INITIALIZE + b"Content-Length: 8388609\r\n\r\n", INITIALIZED),
+    (9, ["lsp"], "the input ends within a message", from_file, INITIALIZE + SHUTDOWN[:-1], INITIALIZED),
+    (9, ["lsp"], "a header without a length", from_file, b"Content-Type: x\r\n\r\n", b""),
     (2, [""], "an empty word", from_file, GRAPH + NODE, b""),
     (2, ["ONCE"], "a command in capitals", from_file, GRAPH + NODE, b""),
     (2, ["--help"], "a word that begins with a hyphen", from_file, GRAPH + NODE, b""),

@@ -5,8 +5,8 @@
     python3 examples/ask.py FOLDER references PATH:LINE:COLUMN
     python3 examples/ask.py FOLDER uses PATH
 
-The `.py` and `.sg.json` files below FOLDER are committed to a `navd run` that is started for it. PATH is relative to
-FOLDER. LINE and COLUMN count from 1, as editors show them; a column is one in bytes. `uses` lists, for each name that the
+The `.py` and `.sg.json` files below FOLDER are committed to a `navd run` that is started for it, or with --port to a
+`navd serve` that listens there, where they stay and others see them by its grants. PATH is relative to FOLDER. LINE and COLUMN count from 1, as editors show them; a column is one in bytes. `uses` lists, for each name that the
 file uses, where it is defined. A file that navd doesn't take is left out and listed with the reason, and its line where
 there is one. The program is found by --navd, else at crates/navd/out/navd beside this script's folder.
 
@@ -18,6 +18,7 @@ import io
 import json
 import keyword
 import os
+import socket
 import subprocess
 import sys
 import tokenize
@@ -54,6 +55,29 @@ class Navd:
     def end(self):
         self.ask(do="quit")
         self.process.wait()
+
+
+class Client:
+    """A connection to a running `navd serve`: one request, one reply."""
+
+    def __init__(self, port):
+        try:
+            self.socket = socket.create_connection(("127.0.0.1", port))
+        except OSError as error:
+            sys.exit(f"nobody answers at port {port}: {error}")
+        self.replies = self.socket.makefile("rb")
+
+    def ask(self, **request):
+        self.socket.sendall(json.dumps(request, ensure_ascii=False).encode() + b"\n")
+        reply = self.replies.readline()
+        if not reply:
+            sys.exit("navd ended the connection")
+        return json.loads(reply)
+
+    def end(self):
+        self.ask(do="quit")
+        self.replies.close()
+        self.socket.close()
 
 
 def files_of(folder):
@@ -178,14 +202,15 @@ def main():
     beside = os.path.join(os.path.dirname(os.path.abspath(__file__)), "..", "crates", "navd", "out", "navd")
     parser = argparse.ArgumentParser(description=__doc__, formatter_class=argparse.RawDescriptionHelpFormatter)
     parser.add_argument("--navd", default=beside, help="the program")
+    parser.add_argument("--port", type=int, help="of a `navd serve` on this machine, in place of a program to start")
     parser.add_argument("folder")
     parser.add_argument("question", choices=("define", "references", "uses"))
     parser.add_argument("place", help="PATH:LINE:COLUMN, or PATH for `uses`")
     given = parser.parse_args()
-    if not os.access(given.navd, os.X_OK):
+    if given.port is None and not os.access(given.navd, os.X_OK):
         sys.exit(f"there is no program at {given.navd}; `make build` leaves one there, or name one by --navd")
 
-    navd, refused = Navd(given.navd), []
+    navd, refused = Navd(given.navd) if given.port is None else Client(given.port), []
     navd.ask(do="hello", user="operator")
     for batch in batches_of(texts_of(given.folder, refused)):
         commit(navd, batch, refused)
