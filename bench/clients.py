@@ -180,6 +180,7 @@ def never_reads():
     time.sleep(1)
     one.shutdown(socket.SHUT_RDWR)
     sender.join()
+    closes((one, replies))
     ends(server, 0)
 
 
