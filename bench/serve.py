@@ -72,6 +72,8 @@ class Client:
     def take(self, due):
         """Takes so many replies."""
         while due > 0:
+            # The server's replies are small writes, each of which waits until the one before it is acknowledged.
+            self.socket.setsockopt(socket.IPPROTO_TCP, socket.TCP_QUICKACK, 1)
             more = self.socket.recv(1 << 16)
             if not more:
                 raise SystemExit("navd ended the connection")
