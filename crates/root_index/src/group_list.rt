@@ -70,6 +70,13 @@ impl GroupList {
         &self.groups
     }
 
+    /// How many paths there are.
+    pub(crate) fn len(&self) -> usize
+        ensures { result ≡ length self.now }
+    {
+        self.count
+    }
+
     /// The path at that place, and the number of its group; None past the last. It takes constant time where
     /// that is the group told or the next one, else time that follows the logarithm of the number of groups.
     pub(crate) fn get(&self, place: usize, near: usize) -> Option<(&Slot, usize)>

@@ -1,15 +1,16 @@
 //! Taking from an index what it offers to a stack of symbols, path by path.
-ghost use Rattle.std.specs.Prelude.{◌≡◌, ◌≤◌, ◌<◌, ◌+◌, ◌-◌, [], ◌∷◌, length, take, drop, filter, slice_get, None, Some, MatchOption, IfSome};
+ghost use Rattle.std.specs.Prelude.{◌≡◌, ◌≤◌, ◌<◌, ◌+◌, ◌-◌, [], ◌∷◌, length, take, drop, filter, slice_get, true, false, None, Some, MatchOption, IfSome};
 ghost use Rattle.std.specs.List.{prefix_len};
-ghost use Rattle.std.specs.List.Sorted.{IsPartitionedBy};
-ghost use Rattle.std.specs.Ordering.{nat_cmp, is_lt, is_eq};
-ghost use Rattle.partial_path.specs.Keys.{key_cmp, key_size, texts};
-ghost use Rattle.root_index.specs.Roots.{AreByRank, root_key};
+ghost use Rattle.std.specs.Option.{option_map_or};
+ghost use Rattle.partial_path.specs.Keys.{key_size, texts};
+ghost use Rattle.root_index.specs.Roots.{AreByRank};
 ghost use Rattle.root_index.specs.Offers.{asks, next_paths, paths_left, offers_at};
-ghost use Rattle.root_index.specs.Inside.{key_order, is_before_key, is_at_key};
+ghost use Rattle.root_index.specs.Blocks.{is_within_key};
+ghost use Rattle.root_index.specs.Inside.{is_at_key};
 
 use crate::group_list::GroupList;
 use crate::slot::Slot;
+use crate::slot_list::is_within_key;
 use partial_path::KEY_SIZE;
 use stacks_vars::SymbolStack;
 
@@ -72,7 +73,7 @@ fn next_run<'a>(
 {
     let most = KEY_SIZE.min(symbols.len());
     for asked in at.asked..most + 1 {
-        let (place, end) = run_asking(slots, symbols, asked);
+        let (place, end) = run_asking(slots, symbols, asked, at.near);
         if place < end {
             let (slot, near) = slots.at(place, at.near);
             let after = RootOffers {
@@ -88,14 +89,69 @@ fn next_run<'a>(
 }
 
 /// Where the paths stand whose key is made of the texts of the stack's first symbols, so many of them: from
-/// which place on, and before which. They are found by halving.
-fn run_asking(slots: &GroupList, symbols: &SymbolStack, count: usize) -> (usize, usize)
+/// which place on, and before which. The first of them is found by halving; that there is none, or one alone, is seen
+/// there, and the end of more is found by halving once more.
+fn run_asking(slots: &GroupList, symbols: &SymbolStack, count: usize, near: usize) -> (usize, usize)
     requires order { AreByRank slots.now }
     requires count { count ≤ key_size }
     ensures run { take (result.1 - result.0) (drop result.0 slots.now) ≡ filter (is_at_key (take count (texts symbols.now))) slots.now }
     ensures bound { result.1 ≤ length slots.now }
 {
-    let place = slots.end_of(symbols, count, false);
-    let end = slots.end_of(symbols, count, true);
+    let place = run_start(slots, symbols, count);
+    let end = run_end(slots, symbols, count, place, near);
     (place, end)
+}
+
+/// How many paths stand before that key: none before that of no symbol.
+fn run_start(slots: &GroupList, symbols: &SymbolStack, count: usize) -> usize
+    requires order { AreByRank slots.now }
+    requires count { count ≤ key_size }
+    ensures { result ≡ prefix_len (is_within_key false (take count (texts symbols.now))) slots.now }
+{
+    if count == 0 {
+        return 0;
+    }
+    slots.end_of(symbols, count, false)
+}
+
+/// How many paths stand before that key or have it, where so many stand before it.
+fn run_end(
+    slots: &GroupList,
+    symbols: &SymbolStack,
+    count: usize,
+    place: usize,
+    near: usize,
+) -> usize
+    requires order { AreByRank slots.now }
+    requires count { count ≤ key_size }
+    requires before { place ≡ prefix_len (is_within_key false (take count (texts symbols.now))) slots.now }
+    ensures value { result ≡ prefix_len (is_within_key true (take count (texts symbols.now))) slots.now }
+    ensures bound { result ≤ length slots.now }
+{
+    let _count = slots.len();
+    if !is_within(slots, symbols, count, place, near) {
+        return place;
+    }
+    if !is_within(slots, symbols, count, place + 1, near) {
+        return place + 1;
+    }
+    slots.end_of(symbols, count, true)
+}
+
+/// Whether there is a path at the place, and it stands before that key or has it.
+fn is_within(
+    slots: &GroupList,
+    symbols: &SymbolStack,
+    count: usize,
+    place: usize,
+    near: usize,
+) -> bool
+    requires { count ≤ key_size }
+    ensures value { result ≡ option_map_or (is_within_key true (take count (texts symbols.now))) (slice_get slots.now place) false }
+    ensures there { result ≡ true → place < length slots.now }
+{
+    match slots.get(place, near) {
+        Some((slot, _)) => is_within_key(slot, symbols, count, true),
+        None => false,
+    }
 }
