@@ -1,15 +1,15 @@
 -- What an editor is told of definitions and references.
-use Rattle.std.specs.Prelude.{◌≡◌, ◌⊎◌, ℕ, Bool, if◌then◌else◌, List, [], ◌∷◌, ◌++◌, map, Option, None, Some, MatchOption, Result, Ok, Err, MatchResult, Contains}
+use Rattle.std.specs.Prelude.{◌≡◌, ◌⊎◌, ℕ, Bool, if◌then◌else◌, List, [], ◌∷◌, ◌++◌, map, Option, MatchOption, Result, Ok, Err, MatchResult}
 use Rattle.graph_nodes.specs.Graph.{is_definition_kind}
 use Rattle.partial_path.specs.declared.bounds.Bounds.{Bounds}
 use Rattle.version_tree.specs.declared.row.Answer.{Answer}
 use Rattle.version_tree.specs.declared.row.Row.{Row}
 use Rattle.version_tree.specs.Graphs.{GraphRow}
 use Rattle.nav_answers.specs.declared.found.At.{At}
-use Rattle.nav_answers.specs.declared.found.At.TheVariants.{Node, Point}
+use Rattle.nav_answers.specs.declared.found.At.TheVariants.{Point}
 use Rattle.nav_answers.specs.declared.found.AskFault.{AskFault}
 use Rattle.nav_answers.specs.declared.found.AskFault.TheVariants as ask
-use Rattle.nav_answers.specs.Replies.{IsDefineReply, IsReferencesReply, meant, hit_of, row_of}
+use Rattle.nav_answers.specs.Replies.{IsDefineReply, ReferToEach, IsOneCrowded, meant, hit_of, row_of}
 use Rattle.text_units.specs.Lines.{line_at}
 use Rattle.text_units.specs.Units.{IsBytesAt}
 use Rattle.lsp_wire.specs.declared.message.Position.{Position}
@@ -69,30 +69,14 @@ AreTargets files path at targets =
     (λ node. targets ≡ Ok (row_of files (hit_of node) ∷ []))
     (λ fault. AreDefinitions files path at targets)
 
--- the references of a target: a node that is no definition would have none, but each target is one
-abbrev pub rows_found : Result Answer AskFault → Option (List Row)
-rows_found (Ok answer) = Some answer.rows
-rows_found (Err ask.NoFile) = Some []
-rows_found (Err ask.NoReference) = Some []
-rows_found (Err ask.NoDefinition) = Some []
-rows_found (Err ask.Crowded) = None
-rows_found (Err ask.NoMemory) = None
-
--- the rows are the references of the target
-abbrev pub Refer : List GraphRow → Row → List Row → Type 0
-Refer files target rows =
-    (found : Result Answer AskFault) × IsReferencesReply usual files target.path (Node target.node) found × (rows_found found ≡ Some rows)
-
--- the rows are the references of each of the targets, one target after the other
+-- the rows are the references of each of the targets, one target after the other: a node that is no definition would
+-- have none, but each target is one
 abbrev pub ReferToAll : List GraphRow → List Row → List Row → Type 0
-ReferToAll files [] all = all ≡ []
-ReferToAll files (target ∷ targets) all =
-    (rows more : List Row) × Refer files target rows × ReferToAll files targets more × (all ≡ rows ++ more)
+ReferToAll files targets all = ReferToEach usual files targets all
 
 -- a target of which the references are crowded
 abbrev pub IsCrowdedOne : List GraphRow → List Row → Type 0
-IsCrowdedOne files targets =
-    (target : Row) × Contains targets target × IsReferencesReply usual files target.path (Node target.node) (Err ask.Crowded)
+IsCrowdedOne files targets = IsOneCrowded usual files targets
 
 -- what an editor is told of the references of targets: with the targets where the declaration is asked for, each once
 -- in file order

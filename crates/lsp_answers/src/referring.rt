@@ -1,32 +1,32 @@
 //! What an editor is told of the references of what stands at a place.
-ghost use Rattle.std.specs.Prelude.{◌≡◌, ◌≢◌, ◌++◌, ◌∷◌, [], List, Err, None, IfOk, slice_get, if◌then◌else◌};
+ghost use Rattle.std.specs.Prelude.{◌≡◌, ◌≢◌, ◌++◌, ◌∷◌, [], List, Err, IfOk, slice_get, if◌then◌else◌};
 ghost use Rattle.std.specs.Option.{option_and_then, option_copied};
 ghost use Rattle.graph_nodes.specs.declared.node.Node.{Node};
 ghost use Rattle.graph_nodes.specs.Whole.{node_of};
-ghost use Rattle.nav_answers.specs.Replies.{graphs_in, number_of, IsReferencesReply};
+ghost use Rattle.nav_answers.specs.Replies.{graphs_in, number_of, ReferToAny, IsReferencesOfAnyReply};
 ghost use Rattle.nav_answers.specs.Sources.{graphs_seen};
 ghost use Rattle.root_index.specs.Offers.{files_of};
-ghost use Rattle.lsp_answers.specs.Inside.{AsksAll, AsksOne, row_in, span_in};
+ghost use Rattle.lsp_answers.specs.Inside.{row_in, span_in};
 ghost use Rattle.lsp_texts.specs.Texts.{texts_in};
 ghost use Rattle.nav_answers.specs.declared.found.AskFault.TheVariants as ask;
 ghost use Rattle.nav_answers.specs.declared.found.At.TheVariants as at;
 ghost use Rattle.root_index.specs.Roots.{IsIndexOfView};
 ghost use Rattle.version_tree.specs.Graphs.{GraphRow, graph_rows};
-ghost use Rattle.lsp_answers.specs.Queries.{AreTargets, TellsReferences, TellsTargets, rows_found, usual};
+ghost use Rattle.lsp_answers.specs.Queries.{AreTargets, IsUnion, TellsReferences, TellsTargets, usual};
 
 use crate::outcomes::{located, outcome_of_fault};
 use crate::querying::{Place, definitions};
 use graph_nodes::Span;
 use lsp_texts::OpenTexts;
-use lsp_wire::{Outcome, Refusal};
-use nav_answers::{AskFault, At, definition_at, references};
+use lsp_wire::Outcome;
+use nav_answers::{AskFault, definition_at, references_of_any};
 use nav_io::Gate;
 use partial_path::{Bounds, FilePaths};
 use root_index::RootIndex;
 use row_sets::in_order;
 use std::alloc::{AllocError, Global};
 use std::thread::Threads;
-use version_tree::{Answer, PathText, Row, Rows, View};
+use version_tree::{PathText, Row, Rows, View};
 
 /// The row of the node in the file with the path; without a span where there is no such node.
 fn row_at(alloc: Global, view: &View, path: &str, node: u32) -> Result<Row, AllocError>
@@ -110,68 +110,7 @@ fn targets(alloc: Global, view: &View, index: &RootIndex, place: &Place) -> Resu
     }
 }
 
-// What `references` answers at the target, in the usual bounds.
-fn references_at<R: Threads + Sync, G: Gate + Sync>(
-    rt: &R,
-    alloc: Global,
-    view: &View,
-    index: &RootIndex,
-    gate: &G,
-    target: &Row,
-) -> Result<Answer, AskFault>
-    requires index { IsIndexOfView index.now view.now }
-    ensures { result ≢ Err ask.NoMemory
-        → IsReferencesReply usual (graph_rows view.now) target.now.path (at.Node target.now.node) result }
-{
-    let at = At::Node(target.node);
-    references(
-        rt,
-        alloc,
-        view,
-        index,
-        gate,
-        target.path.as_str(),
-        at,
-        Bounds::usual(),
-    )
-}
-
-/// The references of the target, or None where they are crowded. The one error is want of memory.
-fn refer<R: Threads + Sync, G: Gate + Sync>(
-    rt: &R,
-    alloc: Global,
-    view: &View,
-    index: &RootIndex,
-    gate: &G,
-    target: &Row,
-) -> Result<Option<Rows>, AllocError>
-    requires index { IsIndexOfView index.now view.now }
-    ensures { IfOk result (λ rows. AsksOne (graph_rows view.now) target.now rows) }
-{
-    match references_at(rt, alloc, view, index, gate, target) {
-        Ok(answer) => Ok(Some(answer.rows)),
-        Err(fault) => no_rows(alloc, fault),
-    }
-}
-
-// The references where there is that fault: none of a node that is no definition, and None where they are crowded. The
-// one error is want of memory.
-fn no_rows(alloc: Global, fault: AskFault) -> Result<Option<Rows>, AllocError>
-    ensures rows { IfOk result (λ rows. rows ≡ rows_found (Err fault)) }
-    ensures crowded { IfOk result (λ rows. rows ≡ None → fault ≡ ask.Crowded) }
-    ensures definite { IfOk result (λ _. fault ≢ ask.NoMemory) }
-{
-    match fault {
-        AskFault::NoFile | AskFault::NoReference | AskFault::NoDefinition => {
-            Ok(Some(Rows::of(Vec::new(alloc))))
-        }
-        AskFault::Crowded => Ok(None),
-        AskFault::NoMemory => Err(AllocError),
-    }
-}
-
-/// The references of the targets, one target after the other, or None where those of one are crowded. The one error is
-/// want of memory.
+// The references of all the targets, in the usual bounds.
 fn refer_to_all<R: Threads + Sync, G: Gate + Sync>(
     rt: &R,
     alloc: Global,
@@ -179,23 +118,15 @@ fn refer_to_all<R: Threads + Sync, G: Gate + Sync>(
     index: &RootIndex,
     gate: &G,
     targets: &[Row],
-) -> Result<Option<Rows>, AllocError>
+) -> Result<Rows, AskFault>
     requires index { IsIndexOfView index.now view.now }
-    ensures { IfOk result (λ rows. AsksAll (graph_rows view.now) targets.now rows) }
+    ensures { result ≢ Err ask.NoMemory → IsReferencesOfAnyReply usual (graph_rows view.now) targets.now result }
 {
-    let mut all = Vec::new(alloc);
-    for target in targets {
-        let Some(rows) = refer(rt, alloc, view, index, gate, target)? else {
-            return Ok(None);
-        };
-        let mut more = rows.into_items();
-        all.append(&mut more)?;
-    }
-    Ok(Some(Rows::of(all)))
+    references_of_any(rt, alloc, view, index, gate, targets, Bounds::usual())
 }
 
 /// What an editor is told of the references of what stands at the place, and of the targets too where the declaration is
-/// asked for. The one error is want of memory.
+/// asked for. All targets are asked about at once. The one error is want of memory.
 pub fn tell_references<R: Threads + Sync, G: Gate + Sync>(
     rt: &R,
     alloc: Global,
@@ -213,9 +144,27 @@ pub fn tell_references<R: Threads + Sync, G: Gate + Sync>(
 {
     match targets(alloc, view, index, place) {
         Ok(targets) => {
-            let asked = refer_to_all(rt, alloc, view, index, gate, targets.items())?;
-            tell_all(alloc, root, texts, targets, asked, declaration)
+            let asked = refer_to_all(rt, alloc, view, index, gate, targets.items());
+            tell_asked(alloc, root, texts, targets, asked, declaration)
         }
+        Err(fault) => outcome_of_fault(fault),
+    }
+}
+
+// The references of the targets as an editor is told of them, or why there are none. The one error is want of memory.
+fn tell_asked(
+    alloc: Global,
+    root: &[u8],
+    texts: &OpenTexts,
+    targets: Rows,
+    asked: Result<Rows, AskFault>,
+    declaration: bool,
+) -> Result<Outcome, AllocError>
+    ensures { (files : List GraphRow) → (asked ≢ Err ask.NoMemory → IsReferencesOfAnyReply usual files targets asked)
+        → IfOk result (TellsTargets files root.now (texts_in texts.now) targets declaration) }
+{
+    match asked {
+        Ok(rows) => tell_all(alloc, root, texts, targets, rows, declaration),
         Err(fault) => outcome_of_fault(fault),
     }
 }
@@ -227,24 +176,21 @@ fn tell_all(
     root: &[u8],
     texts: &OpenTexts,
     targets: Rows,
-    asked: Option<Rows>,
+    found: Rows,
     declaration: bool,
 ) -> Result<Outcome, AllocError>
-    ensures { (files : List GraphRow) → AsksAll files targets asked
-        → IfOk result (TellsTargets files root.now (texts_in texts.now) targets declaration) }
+    ensures { (files : List GraphRow) → ReferToAny usual files targets found
+        → IfOk result (λ outcome. IsUnion files root.now (texts_in texts.now) targets declaration outcome) }
 {
-    let Some(all) = asked else {
-        return Ok(Outcome::Refused(Refusal::Crowded));
-    };
-    let rows = in_order(with_targets(all, targets, declaration)?);
+    let rows = in_order(with_targets(found, targets, declaration)?);
     located(alloc, root, texts, &rows)
 }
 
 // The references, and behind them the targets where the declaration is asked for.
-fn with_targets(all: Rows, targets: Rows, declaration: bool) -> Result<Vec<Row>, AllocError>
-    ensures { IfOk result (λ rows. rows.items ≡ if declaration then all ++ targets else all) }
+fn with_targets(found: Rows, targets: Rows, declaration: bool) -> Result<Vec<Row>, AllocError>
+    ensures { IfOk result (λ rows. rows.items ≡ if declaration then found ++ targets else found) }
 {
-    let mut rows = all.into_items();
+    let mut rows = found.into_items();
     if declaration {
         let mut more = targets.into_items();
         rows.append(&mut more)?;

@@ -7,4 +7,5 @@ pub mod OneReply
 pub mod Told
 pub mod Asked
 pub mod Referred
+pub mod United
 pub mod Shared

@@ -1,6 +1,6 @@
 -- The replies to the queries, as relations over the graphs that a user sees, each at its path, and over the query
 -- alone. Want of memory is no reply: of that no query tells anything.
-use Rattle.std.specs.Prelude.{◌≡◌, ℕ, List, [], map, Bool, Option, Result, Ok, Err, ok_or, option_map, slice_get, IsTrue, IsSomeAnd, MatchResult, ◌↔◌}
+use Rattle.std.specs.Prelude.{◌≡◌, ℕ, List, [], ◌∷◌, ◌++◌, map, Bool, Option, Some, None, Result, Ok, Err, ok_or, option_map, slice_get, IsTrue, IsSomeAnd, MatchResult, Contains, ◌↔◌}
 use Rattle.std.specs.List.{position_from}
 use Rattle.std.specs.Option.{option_and_then, option_map_or}
 use Rattle.std.specs.Ordering.{is_eq}
@@ -18,10 +18,11 @@ use Rattle.version_tree.specs.declared.row.Row.{Row}
 use Rattle.version_tree.specs.Contents.{path_cmp}
 use Rattle.version_tree.specs.Graphs.{GraphRow}
 use Rattle.whole_search.specs.declared.found.Hit.{Hit}
-use Rattle.whole_search.specs.Answers.{AreRows, IsDefinitionFrom, IsReferenceOf, IsAnyCrowded, HasAnyLimit}
+use Rattle.whole_search.specs.Answers.{AreRows, IsRising, IsDefinitionFrom, IsReferenceOf, IsAnyCrowded, HasAnyLimit}
 use Rattle.nav_answers.specs.declared.found.At.{At}
+use Rattle.nav_answers.specs.declared.found.At.TheVariants as at
 use Rattle.nav_answers.specs.declared.found.AskFault.{AskFault}
-use Rattle.nav_answers.specs.declared.found.AskFault.TheVariants.{NoFile, NoReference, NoDefinition, Crowded}
+use Rattle.nav_answers.specs.declared.found.AskFault.TheVariants.{NoFile, NoReference, NoDefinition, Crowded, NoMemory}
 use Rattle.nav_answers.specs.Points.{node_meant}
 
 -- the graphs of the files, by number
@@ -86,3 +87,45 @@ IsDefineReply bounds rows path at reply =
 abbrev pub IsReferencesReply : Bounds → List GraphRow → List ℕ → At → Result Answer AskFault → Type 0
 IsReferencesReply bounds rows path at reply =
     MatchResult (meant is_definition_kind NoDefinition rows path at) (λ node. IsReferenceReply bounds rows node reply) (λ fault. reply ≡ Err fault)
+
+-- the rows that such a reply has: a node that is no definition has no references
+abbrev pub rows_found : Result Answer AskFault → Option (List Row)
+rows_found (Ok answer) = Some answer.rows
+rows_found (Err NoFile) = Some []
+rows_found (Err NoReference) = Some []
+rows_found (Err NoDefinition) = Some []
+rows_found (Err Crowded) = None
+rows_found (Err NoMemory) = None
+
+-- the rows are the references of the node that another row names by its path and its position
+abbrev pub ReferTo : Bounds → List GraphRow → Row → List Row → Type 0
+ReferTo bounds files definition rows =
+    (found : Result Answer AskFault) × IsReferencesReply bounds files definition.path (at.Node definition.node) found × (rows_found found ≡ Some rows)
+
+-- the rows are the references of each of the nodes, those of one node after those of the other
+abbrev pub ReferToEach : Bounds → List GraphRow → List Row → List Row → Type 0
+ReferToEach bounds files [] all = all ≡ []
+ReferToEach bounds files (definition ∷ definitions) all =
+    (rows more : List Row) × ReferTo bounds files definition rows × ReferToEach bounds files definitions more × (all ≡ rows ++ more)
+
+-- one of the nodes has references that are crowded
+abbrev pub IsOneCrowded : Bounds → List GraphRow → List Row → Type 0
+IsOneCrowded bounds files definitions =
+    (definition : Row) × Contains definitions definition × IsReferencesReply bounds files definition.path (at.Node definition.node) (Err Crowded)
+
+-- the rows are the references of all the nodes, each once in file order
+pub record ReferToAny (bounds : Bounds) (files : List GraphRow) (definitions rows : List Row) : Type 0 where
+  -- the references of each
+  pub all : List Row
+  pub each : ReferToEach bounds files definitions all
+  -- the rows are the same ones
+  pub same : (row : Row) → Contains rows row ↔ Contains all row
+  -- in file order
+  pub hits : List Hit
+  pub rising : IsRising hits
+  pub told : rows ≡ map (row_of files) hits
+
+-- the reply about all the nodes
+abbrev pub IsReferencesOfAnyReply : Bounds → List GraphRow → List Row → Result (List Row) AskFault → Type 0
+IsReferencesOfAnyReply bounds files definitions (Ok rows) = ReferToAny bounds files definitions rows
+IsReferencesOfAnyReply bounds files definitions (Err fault) = IsOneCrowded bounds files definitions × (fault ≡ Crowded)

@@ -3,7 +3,7 @@ ghost use Rattle.std.specs.List.{list_any};
 ghost use Rattle.graph_nodes.specs.Whole.{is_reference_of};
 ghost use Rattle.root_index.specs.Roots.{IsIndexOfView};
 ghost use Rattle.whole_search.specs.Answers.{IsAnyCrowded};
-ghost use Rattle.nav_answers.specs.Asking.{IsTold, rows_in, same_hit};
+ghost use Rattle.nav_answers.specs.Asking.{IsTold, has_any, rows_in, same_hit};
 ghost use Rattle.nav_answers.specs.Sources.{graphs_seen};
 ghost use Rattle.nav_answers.specs.declared.asking.Told.{Told};
 
@@ -18,16 +18,17 @@ use stitcher::StitchFault;
 use version_tree::View;
 use whole_search::Hit;
 
-/// What is asked of each reference of the files that are seen: whether this definition is one of its definitions.
+/// What is asked of each reference of the files that are seen: whether one of these definitions, which stand in any
+/// order, is one of its own.
 #[derive(Drop)]
 pub struct Query<'a> {
     pub view: &'a View,
     pub index: &'a RootIndex,
-    pub definition: Hit,
+    pub definitions: &'a [Hit],
     pub bounds: Bounds,
 }
 
-/// What is told of a reference: whether the definition that is asked about is one of its definitions, and whether a
+/// What is told of a reference: whether one of the definitions that are asked about is one of its own, and whether a
 /// run of it was left out for its length or depth.
 #[derive(Clone, Copy, Debug)]
 pub struct Told {
@@ -47,7 +48,7 @@ pub fn ask<G: Gate>(
     requires index { IsIndexOfView query.now.index.now query.now.view.now }
     requires reference { IsTrue (is_reference_of (graphs_seen query.now.view.now) reference.file reference.node) }
     ensures asked { IfOk result (λ told. told.reference ≡ reference) }
-    ensures told { IfOk result (IsTold query.now.bounds (graphs_seen query.now.view.now) query.now.definition) }
+    ensures told { IfOk result (IsTold query.now.bounds (graphs_seen query.now.view.now) query.now.definitions.now) }
     ensures crowded { result ≡ Err StitchFault.Crowded → IsAnyCrowded query.now.bounds (graphs_seen query.now.view.now) }
 {
     gate.enter(job);
@@ -56,11 +57,20 @@ pub fn ask<G: Gate>(
     match found {
         Ok(found) => Ok(Told {
             reference,
-            refers: is_among(found.rows.items(), query.definition),
+            refers: has_any(query.definitions, found.rows.items()),
             limit: found.limit,
         }),
         Err(fault) => Err(fault),
     }
+}
+
+/// Whether one of these definitions is among the nodes.
+fn has_any(definitions: &[Hit], hits: &[Hit]) -> bool
+    ensures { result ≡ has_any definitions.now hits.now }
+{
+    definitions
+        .iter()
+        .any(|definition| is_among(hits, *definition))
 }
 
 /// Whether the node is one of these.
@@ -71,7 +81,7 @@ fn is_among(hits: &[Hit], hit: Hit) -> bool
         .any(|other| other.file == hit.file && other.node == hit.node)
 }
 
-/// The references that refer to the definition; the one error is want of memory.
+/// The references that refer to one of the definitions; the one error is want of memory.
 pub fn rows_in(alloc: Global, told: &[Told]) -> Result<Vec<Hit>, AllocError>
     ensures { IfOk result (λ rows. rows.items ≡ rows_in told.now) }
 {

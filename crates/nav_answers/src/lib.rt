@@ -12,10 +12,12 @@ mod referring;
 mod rows;
 mod sharing;
 mod source;
+mod uniting;
 
 pub use defining::define;
 pub use found::{AskFault, At};
 pub use laws::queries_have_one_reply;
 pub use meaning::definition_at;
 pub use referring::references;
+pub use uniting::references_of_any;
 pub use version_tree::{Answer, Row};

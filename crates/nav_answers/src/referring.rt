@@ -1,8 +1,10 @@
 ghost use Rattle.std.specs.Prelude.{◌≡◌, ◌≢◌, ◌↔◌, Err, IfOk, OnOk, IsTrue};
 ghost use Rattle.version_tree.specs.Graphs.{graph_rows};
 ghost use Rattle.root_index.specs.Roots.{IsIndexOfView};
-ghost use Rattle.whole_search.specs.Answers.{AreReferences, HasAnyLimit, IsAnyCrowded};
-ghost use Rattle.nav_answers.specs.Replies.{IsReferenceReply, IsReferencesReply};
+ghost use Rattle.whole_search.specs.declared.found.Hit.{Hit};
+ghost use Rattle.whole_search.specs.Answers.{AreRows, HasAnyLimit, IsAnyCrowded};
+ghost use Rattle.nav_answers.specs.Asking.{HasReferences, IsReferenceOfAny, IsReplyToAny};
+ghost use Rattle.nav_answers.specs.Replies.{graphs_in, IsReferenceReply, IsReferencesReply};
 ghost use Rattle.nav_answers.specs.Sources.{graphs_seen};
 
 use crate::asking::{Query, has_limit, rows_in};
@@ -66,20 +68,35 @@ fn references_to<R: Threads + Sync, G: Gate + Sync>(
     requires { IsIndexOfView index.now view.now }
     ensures { result ≢ Err AskFault.NoMemory → IsReferenceReply bounds (graph_rows view.now) node result }
 {
+    let definition = [hit_of(node)];
     let query = Query {
         view,
         index,
-        definition: hit_of(node),
+        definitions: &definition,
         bounds,
     };
-    match references_of(rt, alloc, &query, gate) {
-        Ok(found) => Ok(answer_of(alloc, view, &found)?),
+    answer_to(rt, alloc, &query, gate)
+}
+
+/// The answer to the query: a row for each reference that has one of the definitions among its own.
+pub fn answer_to<R: Threads + Sync, G: Gate + Sync>(
+    rt: &R,
+    alloc: Global,
+    query: &Query,
+    gate: &G,
+) -> Result<Answer, AskFault>
+    requires { IsIndexOfView query.now.index.now query.now.view.now }
+    ensures reply { result ≢ Err AskFault.NoMemory → IsReplyToAny query.now.bounds (graph_rows query.now.view.now) query.now.definitions.now result }
+    ensures each { IfOk result (λ _. (definition : Hit) → HasReferences query.now.bounds (graphs_in (graph_rows query.now.view.now)) definition) }
+{
+    match references_of(rt, alloc, query, gate) {
+        Ok(found) => Ok(answer_of(alloc, query.view, &found)?),
         Err(StitchFault::Crowded) => Err(AskFault::Crowded),
         Err(StitchFault::NoMemory) => Err(AskFault::NoMemory),
     }
 }
 
-/// The references of the definition among those of the files that are seen.
+/// The references of the definitions among those of the files that are seen.
 fn references_of<R: Threads + Sync, G: Gate + Sync>(
     rt: &R,
     alloc: Global,
@@ -87,7 +104,8 @@ fn references_of<R: Threads + Sync, G: Gate + Sync>(
     gate: &G,
 ) -> Result<Found, StitchFault>
     requires { IsIndexOfView query.now.index.now query.now.view.now }
-    ensures rows { IfOk result (λ found. AreReferences query.now.bounds (graphs_seen query.now.view.now) query.now.definition found.rows) }
+    ensures rows { IfOk result (λ found. AreRows (IsReferenceOfAny query.now.bounds (graphs_seen query.now.view.now) query.now.definitions.now) found.rows) }
+    ensures each { IfOk result (λ _. (definition : Hit) → HasReferences query.now.bounds (graphs_seen query.now.view.now) definition) }
     ensures limit { IfOk result (λ found. IsTrue found.limit ↔ HasAnyLimit query.now.bounds (graphs_seen query.now.view.now)) }
     ensures crowded { result ≡ Err StitchFault.Crowded → IsAnyCrowded query.now.bounds (graphs_seen query.now.view.now) }
     ensures not_crowded { OnOk result (¬ IsAnyCrowded query.now.bounds (graphs_seen query.now.view.now)) }

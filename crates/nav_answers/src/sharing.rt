@@ -33,7 +33,7 @@ pub fn ask_all<R: Threads + Sync, G: Gate + Sync>(
     requires index { IsIndexOfView query.now.index.now query.now.view.now }
     requires references { All (IsReferenceIn (graphs_seen query.now.view.now)) all.now }
     ensures asked { IfOk result (λ told. asked_in told.items ≡ all.now) }
-    ensures told { IfOk result (λ told. All (IsTold query.now.bounds (graphs_seen query.now.view.now) query.now.definition) told.items) }
+    ensures told { IfOk result (λ told. All (IsTold query.now.bounds (graphs_seen query.now.view.now) query.now.definitions.now) told.items) }
     ensures crowded { result ≡ Err StitchFault.Crowded → IsAnyCrowded query.now.bounds (graphs_seen query.now.view.now) }
 {
     let mut shares = empty_shares(alloc, thread_count(rt, all.len()))?;
@@ -76,7 +76,7 @@ fn ask_shares<R: Threads + Sync, G: Gate + Sync>(
     requires references { All (IsReferenceIn (graphs_seen query.now.view.now)) all.now }
     requires some { 0 < length shares.old }
     ensures len { length shares.new ≡ length shares.old }
-    ensures done { (i : ℕ) (d : _) → i < length shares.old → IsDone query.now.bounds (graphs_seen query.now.view.now) query.now.definition all.now (length shares.old) i (slice_index_or shares.new i d) }
+    ensures done { (i : ℕ) (d : _) → i < length shares.old → IsDone query.now.bounds (graphs_seen query.now.view.now) query.now.definitions.now all.now (length shares.old) i (slice_index_or shares.new i d) }
 {
     let step = shares.len();
     thread::for_each_mut(
@@ -99,7 +99,7 @@ fn ask_share<G: Gate>(
     requires index { IsIndexOfView query.now.index.now query.now.view.now }
     requires references { All (IsReferenceIn (graphs_seen query.now.view.now)) all.now }
     requires step { 0 < step }
-    ensures { IsDone query.now.bounds (graphs_seen query.now.view.now) query.now.definition all.now step first result }
+    ensures { IsDone query.now.bounds (graphs_seen query.now.view.now) query.now.definitions.now all.now step first result }
 {
     let mut told = Vec::with_capacity(alloc, all.len().div_ceil(step))?;
     let mut wait = first;
@@ -122,9 +122,9 @@ fn together(
     shares: &[Share],
 ) -> Result<Vec<Told>, StitchFault>
     requires some { 0 < length shares.now }
-    requires done { (i : ℕ) (d : _) → i < length shares.now → IsDone query.now.bounds (graphs_seen query.now.view.now) query.now.definition all.now (length shares.now) i (slice_index_or shares.now i d) }
+    requires done { (i : ℕ) (d : _) → i < length shares.now → IsDone query.now.bounds (graphs_seen query.now.view.now) query.now.definitions.now all.now (length shares.now) i (slice_index_or shares.now i d) }
     ensures asked { IfOk result (λ told. asked_in told.items ≡ all.now) }
-    ensures told { IfOk result (λ told. All (IsTold query.now.bounds (graphs_seen query.now.view.now) query.now.definition) told.items) }
+    ensures told { IfOk result (λ told. All (IsTold query.now.bounds (graphs_seen query.now.view.now) query.now.definitions.now) told.items) }
     ensures crowded { result ≡ Err StitchFault.Crowded → IsAnyCrowded query.now.bounds (graphs_seen query.now.view.now) }
 {
     let step = shares.len();
@@ -145,9 +145,9 @@ fn told_at(
 ) -> Result<Told, StitchFault>
     requires step { 0 < step }
     requires inside { place < length all.now }
-    requires done { IsDone _query.now.bounds (graphs_seen _query.now.view.now) _query.now.definition all.now step (place % step) share.now }
+    requires done { IsDone _query.now.bounds (graphs_seen _query.now.view.now) _query.now.definitions.now all.now step (place % step) share.now }
     ensures asked { IfOk result (λ told. slice_get all.now place ≡ Some told.reference) }
-    ensures told { IfOk result (IsTold _query.now.bounds (graphs_seen _query.now.view.now) _query.now.definition) }
+    ensures told { IfOk result (IsTold _query.now.bounds (graphs_seen _query.now.view.now) _query.now.definitions.now) }
     ensures crowded { result ≡ Err StitchFault.Crowded → IsAnyCrowded _query.now.bounds (graphs_seen _query.now.view.now) }
 {
     match share {

@@ -4,9 +4,9 @@ use Rattle.lsp_texts.specs.Texts.{texts_in}
 use Rattle.lsp_answers.proofs.Asked.{tells_if}
 use Rattle.lsp_answers.proofs.referring.tell_references.Goals as goal
 
-pub returns-in_ok-asked-in-Ok : goal.returns-in_ok-asked-in-Ok
-returns-in_ok-asked-in-Ok g c =
+pub returns-in-Ok : goal.returns-in-Ok
+returns-in-Ok g c =
     tells_if (graph_rows c.args.view.now) c.args.root.now (texts_in c.args.texts.now) c.args.declaration c.args.place.now.path
-    (at.Point c.args.place.now.line c.args.place.now.column) c.in-Ok.targets c.tell_all.result
+    (at.Point c.args.place.now.line c.args.place.now.column) c.in-Ok.targets c.tell_asked.result
     (c.in-Ok.ensures (λ e. cc))
-    (c.tell_all.ensures (graph_rows c.args.view.now) (rw c.items.ensures at c.in_ok-asked-in-Ok.ensures))
+    (c.tell_asked.ensures (graph_rows c.args.view.now) (rw c.items.ensures at c.refer_to_all-asked.ensures))

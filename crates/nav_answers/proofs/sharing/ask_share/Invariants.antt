@@ -5,4 +5,4 @@ use Rattle.nav_answers.proofs.sharing.ask_share.Given as goal
 
 abbrev pub invariant-loop-job : goal.invariant-loop-job
 invariant-loop-job g l =
-    IsSoFar (IsTold l.query.bounds (graphs_seen l.query.view.now) l.query.definition) l.all l.step l.first l.job l.wait l.told.items
+    IsSoFar (IsTold l.query.bounds (graphs_seen l.query.view.now) l.query.definitions.now) l.all l.step l.first l.job l.wait l.told.items

@@ -5,4 +5,4 @@ use Rattle.nav_answers.proofs.Shared.{AreTold}
 use Rattle.nav_answers.proofs.sharing.together.Given as goal
 
 abbrev pub invariant-loop-place : goal.invariant-loop-place
-invariant-loop-place l = AreTold (IsTold l.query.bounds (graphs_seen l.query.view.now) l.query.definition) (take l.place l.all) l.told.items
+invariant-loop-place l = AreTold (IsTold l.query.bounds (graphs_seen l.query.view.now) l.query.definitions.now) (take l.place l.all) l.told.items
