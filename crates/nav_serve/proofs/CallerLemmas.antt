@@ -1,5 +1,5 @@
 -- What callers of the program as a function need beside its contract.
-use Rattle.std.proofs.Common.{◌≡◌, ℕ, List, [], inl, refl, sym, ap, append-nil, Option, Some, None, IfSome}
+use Rattle.std.proofs.Common.{◌≡◌, ℕ, List, [], inl, inr, refl, sym, ap, append-nil, Option, Some, None, IfSome, IsTrue}
 use Rattle.std.specs.Io.KnownBytes.{append_known}
 use Rattle.version_tree.specs.declared.entry.Entry.{Entry}
 use Rattle.nav_session.proofs.CallerLemmas.{served_nothing}
@@ -14,7 +14,7 @@ use Rattle.nav_serve.specs.declared.tasks.Task.{Task}
 use Rattle.nav_serve.specs.declared.tasks.Task.TheVariants as task
 use Rattle.nav_serve.specs.Outside.{seen}
 use Rattle.nav_serve.specs.Taken.{IsBeginning, WritesBeginning}
-use Rattle.nav_serve.specs.Commands.{DoesTask, Does}
+use Rattle.nav_serve.specs.Commands.{DoesTask, Does, Ends, may_end}
 
 -- nothing more was written
 append_known-nil : (held : Option (List ℕ)) → held ≡ append_known held []
@@ -47,3 +47,27 @@ does_nothing o Run seat log left held source_faults sink_faults house = served_n
 does_nothing o Lsp seat log left held source_faults sink_faults house = edited_nothing seat log left held
 does_nothing o (Demo files start) seat log left held source_faults sink_faults house = shown_nothing seat log held files start
 does_nothing o (Serve port doors connections) seat log left held source_faults sink_faults house = opened_nothing o doors connections house
+
+-- words that couldn't be read for want of memory, whatever they are
+pub none_done : {D S K : Type 0} (o : Doors D S K) (command : Option Command) (seat : ℕ) (log : List Entry) (left held : Option (List ℕ)) (source_faults sink_faults : ℕ) (house : House D)
+    → IfSome command (λ one. Does o one seat log log (seen left source_faults held sink_faults) (seen left source_faults held sink_faults) house house 5)
+none_done o None seat log left held source_faults sink_faults house = tt
+none_done o (Some one) seat log left held source_faults sink_faults house = does_nothing o one seat log left held source_faults sink_faults house
+
+pub may_end_unread : (command : Option Command) → IsTrue (may_end command 5)
+may_end_unread None = refl
+may_end_unread (Some Once) = refl
+may_end_unread (Some Upgrade) = refl
+may_end_unread (Some Run) = refl
+may_end_unread (Some Lsp) = refl
+may_end_unread (Some (Demo files start)) = refl
+may_end_unread (Some (Serve port doors connections)) = refl
+
+pub ends_unread : (command : Option Command) (left : Option (List ℕ)) → IfSome command (λ one. Ends one left 5)
+ends_unread None left = tt
+ends_unread (Some Once) left = inr (inl refl)
+ends_unread (Some Upgrade) left = inr (inl refl)
+ends_unread (Some Run) left = refl
+ends_unread (Some Lsp) left = refl
+ends_unread (Some (Demo files start)) left = refl
+ends_unread (Some (Serve port doors connections)) left = refl

@@ -6,3 +6,6 @@ pub mod Upgraded
 pub mod Found
 pub mod CallerLemmas
 mod Spelled
+mod Hyphens
+mod CommandLine
+mod Builders

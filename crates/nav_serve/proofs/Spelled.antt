@@ -1,27 +1,10 @@
 -- What words that spell `serve` tell of its numbers.
-use Rattle.std.proofs.Common.{◌≡◌, ℕ, ◌<◌, ◌≤◌, ◌&&◌, nat_le, Bool, true, false, List, [], ◌∷◌, length, Option, None, Some, if◌then◌else◌, codes, refl, subst, arith}
-use Rattle.std.specs.Prelude.{String}
-use Rattle.std.specs.Global.{Global}
+use Rattle.std.proofs.Common.{◌≡◌, ℕ, ◌≤◌, ◌&&◌, nat_le, Bool, true, false, List, [], ◌∷◌, Option, None, Some, if◌then◌else◌, codes, refl, subst}
 use Rattle.std.specs.Str.{bytes_eq}
 use Rattle.std.proofs.lemmas.Bool.{leb-true}
 use Rattle.nav_serve.specs.declared.words.Command.{Command}
 use Rattle.nav_serve.specs.declared.words.Command.TheVariants.{Once, Upgrade, Run, Lsp, Demo, Serve}
-use Rattle.nav_serve.specs.Words.{command_of, command_named, demo_of, serve_of, number_of, texts}
-
--- two words are no command, nor are more than four
-pub two_are_none : (words : List (String Global)) → 2 ≤ length words → length words < 3 → None ≡ command_of (texts words)
-two_are_none [] some few = absurd (omega (arith, some))
-two_are_none (word ∷ []) some few = absurd (omega (arith, some))
-two_are_none (word ∷ files ∷ []) some few = refl
-two_are_none (word ∷ files ∷ start ∷ words) some few = absurd (omega (arith, few))
-
-pub five_are_none : (words : List (String Global)) → 5 ≤ length words → None ≡ command_of (texts words)
-five_are_none [] many = absurd (omega (arith, many))
-five_are_none (word ∷ []) many = absurd (omega (arith, many))
-five_are_none (word ∷ files ∷ []) many = absurd (omega (arith, many))
-five_are_none (word ∷ files ∷ start ∷ []) many = absurd (omega (arith, many))
-five_are_none (word ∷ port ∷ doors ∷ connections ∷ []) many = absurd (omega (arith, many))
-five_are_none (word ∷ port ∷ doors ∷ connections ∷ more ∷ words) many = refl
+use Rattle.nav_serve.specs.Words.{command_of, command_named, demo_of, serve_of, number_of}
 
 if_some : (test : Bool) (given : Command) (wanted : Command) → (if test then Some given else None) ≡ Some wanted → (test ≡ true) × (given ≡ wanted)
 if_some true given wanted e = (refl, cc e)

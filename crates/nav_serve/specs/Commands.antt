@@ -52,9 +52,9 @@ ends_with Lsp status = ends_editor status
 ends_with (Demo files start) status = ends_demo status
 ends_with (Serve port doors connections) status = ends_doors status
 
--- whether the status refuses words that are no command
+-- whether the status refuses words that are no command: 2, or 5 where memory was refused
 abbrev pub is_refusal : ℕ → Bool
-is_refusal status = status == 2
+is_refusal status = status == 2 || status == 5
 
 -- whether the program may end with this status, where the words are this command or none
 abbrev pub may_end : Option Command → ℕ → Bool

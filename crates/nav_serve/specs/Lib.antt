@@ -1,4 +1,5 @@
 pub mod Words
+pub mod CommandLine
 pub mod Files
 pub mod NodeLine
 pub mod Once

@@ -7,6 +7,7 @@ mod input_lines;
 mod laws;
 mod node_line;
 mod once_input;
+mod parser;
 mod running;
 mod session;
 mod tasks;

@@ -12,7 +12,7 @@ use crate::words::{Command, command_of};
 use graph_nodes::Steps;
 use nav_doors::serve_house;
 use nav_io::{Door, House, Sink, Source};
-use nav_session::BAD_WORDS;
+use nav_session::{BAD_WORDS, Halt};
 use std::alloc::Global;
 use std::sync::Wait;
 use std::sync::ledger::Ledger;
@@ -25,7 +25,8 @@ use version_board::Commits;
 /// alone, or `run` or `lsp`, which serve a session on the board and count steps besides; or they are `demo` and
 /// two numbers, which uses the sink, the board and the steps, or `serve` and three numbers, which serves the
 /// doors of the house on a board of its own. With any others the status is 2, and nothing is read or
-/// written. The other statuses are those of the commands. It may wait, for `serve` does: what each other
+/// written; or 5 where memory is refused before the words are read, whatever they are. The other statuses are those
+/// of the commands. It may wait, for `serve` does: what each other
 /// command does is a function without that leave, and ends.
 pub fn run<R: Threads + Wait + Sync, S: Source, K: Sink, H: House, B: Commits<R>, L: Ledger>(
     rt: &R,
@@ -72,7 +73,10 @@ where
     ensures unused_board { (parts_used (command_of (texts words.now))).board ≡ false → board.new ≡ board.old }
     ensures unused_steps { (parts_used (command_of (texts words.now))).steps ≡ false → steps.new ≡ steps.old }
 {
-    match command_of(words) {
+    let Ok(command) = command_of(alloc, words) else {
+        return Halt::NoMemory.status();
+    };
+    match command {
         Some(Command::Once) => perform(Task::Once, alloc, source, sink),
         Some(Command::Upgrade) => perform(Task::Upgrade, alloc, source, sink),
         Some(Command::Run) => run_session(rt, alloc, source, sink, board, steps),

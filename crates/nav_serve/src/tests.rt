@@ -256,7 +256,7 @@ fn command(alloc: Global, line: &str) -> Result<String, Fail> {
     for word in line.split(' ') {
         words.push(String::from_str(alloc, word)?)?;
     }
-    let command = command_of(&words);
+    let command = command_of(alloc, &words)?;
     Ok(format!(in alloc; "{command:?}")?)
 }
 
@@ -268,7 +268,14 @@ lsp => Some(Lsp)
  => None
 Once => None
 --help => None
+-h => None
+help => None
+- => None
+-- once => None
+once -- => None
+demo -- 3 0 => None
 once once => None
+once  => None
 demo 3 0 => Some(Demo { files: 3, start: 0 })
 demo 2048 4294967295 => Some(Demo { files: 2048, start: 4294967295 })
 demo => None
@@ -304,6 +311,6 @@ fn words_are_one_command(rt: HostRuntime) -> Result<(), Fail> {
         let (line, wanted) = row.split_once(" => ").unwrap_or((row, "no arrow"));
         assert_eq!(rt; command(rt.alloc(), line)?.as_str(), wanted, "at {line}");
     }
-    assert_eq!(rt; command_of(&[]), None);
+    assert_eq!(rt; command_of(rt.alloc(), &[])?, None);
     Ok(())
 }

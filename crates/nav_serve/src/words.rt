@@ -1,5 +1,14 @@
-ghost use Rattle.std.specs.Prelude.{◌≡◌};
-ghost use Rattle.nav_serve.specs.Words.{command_named, command_of, demo_of, number_of, serve_of, spelled, with_digit, zero_alone, texts};
+ghost use Rattle.std.specs.Prelude.{◌≡◌, None, IfOk};
+ghost use Rattle.std.specs.List.{list_any};
+ghost use Rattle.std.specs.String.{string_bytes};
+ghost use Rattle.clap.specs.Words.{found_of, rows_of, subcommand_rows_of};
+ghost use Rattle.nav_serve.specs.CommandLine.{chosen, chosen_of, has_hyphen, number_at};
+ghost use Rattle.nav_serve.specs.Words.{command_named, command_of, demo_of, number_of, serve_of, spelled, with_digit, texts};
+
+use crate::parser::command_line;
+use clap::ArgMatches;
+use clap::error::ErrorKind;
+use std::alloc::{AllocError, Global};
 
 /// A command of the program.
 #[derive(Clone, Copy, Debug, PartialEq, Eq)]
@@ -26,33 +35,73 @@ pub enum Command {
 }
 
 /// The command that the words are, if they are one: exactly one word, a command's name, or `demo` and two numbers, or
-/// `serve` and three.
-#[tactic(auto, using(crate::proofs::Spelled::two_are_none, crate::proofs::Spelled::five_are_none))]
-pub fn command_of(words: &[String]) -> Option<Command>
-    ensures { result ≡ command_of (texts words.now) }
+/// `serve` and three. A word that begins with a hyphen is part of no command. It fails where memory is refused.
+pub fn command_of(alloc: Global, words: &[String]) -> Result<Option<Command>, AllocError>
+    ensures { IfOk result (λ command. command ≡ command_of (texts words.now)) }
 {
-    match words {
-        [word] => command_named(word.as_str()),
-        [word, files, start] => {
-            if word.as_str() == "demo" {
-                demo_of(number_of(files.as_str()), number_of(start.as_str()))
-            } else {
-                None
-            }
-        }
-        [word, port, doors, connections] => {
-            if word.as_str() == "serve" {
-                serve_of(
-                    number_of(port.as_str()),
-                    number_of(doors.as_str()),
-                    number_of(connections.as_str()),
-                )
-            } else {
-                None
-            }
-        }
-        _ => None,
+    if has_hyphens(words) {
+        return Ok(None);
     }
+    match command_line(alloc)?.try_get_matches_from(words) {
+        Ok(matches) => Ok(chosen_of(&matches)),
+        Err(error) => refused(error.kind()),
+    }
+}
+
+/// No command, but where the words were refused for want of memory alone.
+fn refused(kind: ErrorKind) -> Result<Option<Command>, AllocError>
+    ensures { IfOk result (λ command. (command ≡ None) × (kind ≡ ErrorKind.OutOfMemory → ⊥)) }
+{
+    match kind {
+        ErrorKind::OutOfMemory => Err(AllocError),
+        _ => Ok(None),
+    }
+}
+
+/// Whether any of the words begins with a hyphen.
+fn has_hyphens(words: &[String]) -> bool
+    ensures { result ≡ list_any (λ word. has_hyphen (string_bytes word)) words.now }
+{
+    words.iter().any(|word| has_hyphen(word.as_str()))
+}
+
+/// Whether the word begins with a hyphen.
+fn has_hyphen(word: &str) -> bool
+    ensures { result ≡ has_hyphen word.now }
+{
+    matches!(word.as_bytes(), [b'-', ..])
+}
+
+/// The command that the matches are.
+fn chosen_of(matches: &ArgMatches<'_>) -> Option<Command>
+    ensures { result ≡ chosen_of (subcommand_rows_of matches.now) }
+{
+    let (name, values) = matches.subcommand()?;
+    chosen(name, values)
+}
+
+/// The command that a subcommand of this name with these matches is.
+fn chosen(name: &str, values: &ArgMatches<'_>) -> Option<Command>
+    ensures { result ≡ chosen name.now (rows_of (found_of values.now)) }
+{
+    if name == "demo" {
+        demo_of(number_at(values, "files"), number_at(values, "start"))
+    } else if name == "serve" {
+        serve_of(
+            number_at(values, "port"),
+            number_at(values, "doors"),
+            number_at(values, "connections"),
+        )
+    } else {
+        command_named(name)
+    }
+}
+
+/// The number that stands at this place.
+fn number_at(values: &ArgMatches<'_>, id: &str) -> Option<u32>
+    ensures { result ≡ number_at id.now (rows_of (found_of values.now)) }
+{
+    number_of(values.get_str(id)?)
 }
 
 /// The demonstration of so many files from this start.

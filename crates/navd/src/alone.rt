@@ -18,7 +18,7 @@ use std::thread::Threads;
 use version_board::PlainBoard;
 
 /// Does what the words say on a board that has no version yet and no other seat, and gives the status: that of `run`,
-/// or 5 where memory for the board was refused. Where the words are no command, no board is made.
+/// or 5 where memory for the words or the board was refused. Where the words are no command, no board is made.
 pub fn run_alone<R: Threads + Wait + Sync, S: Source, K: Sink, H: House, L: Ledger>(
     rt: &R,
     alloc: Global,
@@ -56,7 +56,10 @@ where
     ensures untouched { command_of (texts words.now) ≡ None → (source.new ≡ source.old) × (sink.new ≡ sink.old)
         × (house.new ≡ house.old) × (steps.new ≡ steps.old) }
 {
-    if command_of(words).is_none() {
+    let Ok(command) = command_of(alloc, words) else {
+        return NO_MEMORY;
+    };
+    if command.is_none() {
         return BAD_WORDS;
     }
     let Ok(mut board) = PlainBoard::new(alloc) else {
