@@ -4,6 +4,10 @@
 #[cfg(test)]
 mod boards;
 #[cfg(test)]
+mod enumerated;
+#[cfg(test)]
+mod indexed;
+#[cfg(test)]
 mod paths;
 #[cfg(test)]
 mod python;
@@ -11,6 +15,8 @@ mod python;
 mod queries;
 #[cfg(test)]
 mod roots;
+#[cfg(test)]
+mod searched;
 #[cfg(test)]
 mod stitched;
 #[cfg(test)]

@@ -12,7 +12,7 @@ use stitcher::{EdgePath, StitchFault, Stitched, stitch};
 use whole_search::{Hit, SearchFault, is_reference, search};
 
 /// Rows, each as its file and its node, and a flag, as a text.
-fn told(alloc: Global, rows: &[Hit], limit: bool) -> Result<String, Fail> {
+pub fn told(alloc: Global, rows: &[Hit], limit: bool) -> Result<String, Fail> {
     let mut text = String::new(alloc);
     for hit in rows {
         text.push_str(format!(in alloc; "{}/{} ", hit.file, hit.node)?.as_str())?;
@@ -22,7 +22,7 @@ fn told(alloc: Global, rows: &[Hit], limit: bool) -> Result<String, Fail> {
 }
 
 /// What the search of the whole graph answers, as such a text.
-fn searched(
+pub fn searched(
     alloc: Global,
     files: &[FileGraph],
     at: NodeAt,

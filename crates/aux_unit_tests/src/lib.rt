@@ -7,6 +7,10 @@ mod bare;
 #[cfg(test)]
 mod graph_files;
 #[cfg(test)]
+mod lines;
+#[cfg(test)]
+mod messages;
+#[cfg(test)]
 mod offers;
 #[cfg(test)]
 mod python_graphs;

@@ -8,6 +8,3 @@ mod starting;
 
 pub use enumerating::{enumerate, find_paths};
 pub use fault::{MAX_WEIGHT, PathsFault};
-
-#[cfg(test)]
-mod tests;

@@ -14,6 +14,3 @@ pub use indexing::index_all;
 pub use kind::DocumentKind;
 pub use laws::{a_document_has_one_fault, a_document_has_one_graph, added_documents_are_held};
 pub use reading::read_document;
-
-#[cfg(test)]
-mod tests;

@@ -8,8 +8,6 @@ mod members;
 mod message;
 mod print;
 mod reply;
-#[cfg(test)]
-mod tests;
 mod text;
 mod uris;
 

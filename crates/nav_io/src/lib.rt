@@ -20,6 +20,3 @@ pub use source::{Failed, Source};
 pub use std_io::{StdSink, StdSource};
 pub use tcp::{TcpDoor, TcpHouse};
 pub use write::{WriteError, write_all};
-
-#[cfg(test)]
-mod tests;

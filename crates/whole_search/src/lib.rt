@@ -19,6 +19,3 @@ mod watch;
 
 pub use answer::{is_reference, search};
 pub use found::{Found, Hit, Hits, SearchFault};
-
-#[cfg(test)]
-mod tests;

@@ -1,4 +1,4 @@
-use Rattle.index_gate.proofs.tests.indexed.Given as goal
+use Rattle.aux_tests.proofs.indexed.indexed.Given as goal
 
 -- the ledger is the one that was opened here
 abbrev pub ghosts-indexed_on : goal.ghosts-indexed_on

@@ -2,48 +2,17 @@
 mod compared;
 mod plain;
 
-use crate::{Hit, SearchFault, is_reference, search};
+use crate::stitched::{bounds_of, searched};
 use aux_graph_text::{ANSWERED, files_of};
 use graph_nodes::FileGraph;
 use partial_path::Bounds;
+use stacks_vars::NodeAt;
 use std::alloc::Global;
 use std::test::Fail;
 
-/// The answer to the reference at node 0 of the first file, as a text: each row as its file and its node,
-/// then `limit` where the flag is true.
+/// The answer to the reference at node 0 of the first file, as a text.
 fn answer(alloc: Global, files: &[FileGraph], bounds: Bounds) -> Result<String, Fail> {
-    if files.len() > 100 || !is_reference(files, 0, 0) {
-        return Ok(String::from_str(alloc, "no reference")?);
-    }
-    match search(alloc, files, 0, 0, bounds) {
-        Ok(found) => told(alloc, found.rows.items(), found.limit),
-        Err(SearchFault::Crowded) => Ok(String::from_str(alloc, "crowded")?),
-        Err(SearchFault::NoMemory) => Ok(String::from_str(alloc, "no memory")?),
-    }
-}
-
-/// Rows and a flag as such a text.
-fn told(alloc: Global, rows: &[Hit], limit: bool) -> Result<String, Fail> {
-    let mut text = String::new(alloc);
-    for hit in rows {
-        text.push_str(format!(in alloc; "{}/{} ", hit.file, hit.node)?.as_str())?;
-    }
-    text.push_str(if limit { "limit" } else { "whole" })?;
-    Ok(text)
-}
-
-fn number(text: &str) -> u32 {
-    text.parse::<u32>().unwrap_or(0)
-}
-
-/// The bounds that a text such as `129 edges 48 symbols` says.
-fn bounds_of(text: &str) -> Bounds {
-    let (edges, rest) = text.split_once(" edges ").unwrap_or((text, ""));
-    let (depth, _) = rest.split_once(" symbols").unwrap_or((rest, ""));
-    Bounds {
-        edges: number(edges),
-        depth: number(depth),
-    }
+    searched(alloc, files, NodeAt { file: 0, node: 0 }, bounds)
 }
 
 /// The answer to a row's graph.

@@ -1,31 +1,44 @@
 //! What no clause says: that calls succeed, how bytes are cut over many reads, and the bounds of the outside.
 ghost use Rattle.std.specs.Prelude.{◌≡◌, None};
 
-use crate::*;
+use nav_io::{
+    Door, Failed, Gate, House, HouseFault, LINE_MAX, LineError, LineReader, MemDoor, MemHouse,
+    MemSink, MemSource, Sink, SinkError, Source, StdSink, StdSource, TcpHouse, TooLong, Unguarded,
+    WriteError, write_all,
+};
 use std::alloc::{AllocError, Global};
 use std::io;
 use std::io::{ErrorKind, Read, Write};
 use std::net::{Ipv4Addr, Net, OpenListener, TcpListener, TcpStream};
 use std::test::Fail;
 
+fn reader_of(alloc: Global) -> Result<LineReader, Fail> {
+    match LineReader::new(alloc) {
+        Ok(reader) => Ok(reader),
+        Err(_) => Err(Fail::new("there is no reader")),
+    }
+}
+
 // What a line reader answers, as a text: each line and a bar, or a mark for the error.
-fn answers<S: Source>(alloc: Global, source: &mut S) -> Result<Vec<u8>, AllocError> {
+fn answers<S: Source>(alloc: Global, source: &mut S) -> Result<Vec<u8>, Fail> {
+    let mut reader = reader_of(alloc)?;
     let mut text = Vec::new(alloc);
-    let Ok(mut reader) = LineReader::new(alloc) else {
-        return Ok(text);
-    };
     for _ in 0..100 {
         match reader.next_line(source) {
             Ok(Some(line)) => text.extend_from_slice(line)?,
-            Ok(None) => return Ok(text),
+            Ok(None) => break,
             Err(error) => {
                 text.push(mark_of(error))?;
-                return Ok(text);
+                break;
             }
         }
         text.push(b'|')?;
     }
     Ok(text)
+}
+
+fn is_answered<S: Source>(alloc: Global, source: &mut S, wanted: &[u8]) -> Result<bool, Fail> {
+    Ok(answers(alloc, source)?.as_slice() == wanted)
 }
 
 fn mark_of(error: LineError) -> u8 {
@@ -36,33 +49,52 @@ fn mark_of(error: LineError) -> u8 {
     }
 }
 
+// A text, in which `¶` stands for a newline, how many bytes a read gives, the call that fails, and the answers.
+const CUT: &str = " 3 9 =>
+ab¶cd 2 99 => ab|cd|
+ab¶cd¶ 4 99 => ab|cd|
+¶¶ 1 99 => ||
+abc 9 99 => abc|
+ab¶¶c 1 99 => ab||c|
+ab¶c 9 0 => !
+ab¶c 2 1 => !
+ab¶c 9 1 => ab|!
+ab¶cd¶ef 6 1 => ab|cd|!
+ab¶c 9 2 => ab|c|";
+
+// The call that the text tells; none where it is no number.
+fn calls_of(alloc: Global, text: &str) -> Result<Vec<u32>, AllocError> {
+    let mut calls = Vec::new(alloc);
+    if let Ok(call) = text.parse::<u32>() {
+        calls.push(call)?;
+    }
+    Ok(calls)
+}
+
+// A source of the text that gives so many bytes at a read and fails at that call.
+fn source_of(alloc: Global, text: &str, piece: &str, failing: &str) -> Result<MemSource, Fail> {
+    let text = text.replace(alloc, '¶', "\n")?;
+    let piece = piece.parse::<u32>().unwrap_or(1).max(1);
+    let calls = calls_of(alloc, failing)?;
+    Ok(MemSource::new(text.into_bytes(), piece, calls))
+}
+
+// Whether the reader's answers to a row's source are these.
+fn is_cut(alloc: Global, row: &str, wanted: &str) -> Result<bool, Fail> {
+    let mut parts = row.split(' ');
+    let (Some(text), Some(piece), Some(failing)) = (parts.next(), parts.next(), parts.next()) else {
+        return Err(Fail::new("a row has three parts"));
+    };
+    let mut source = source_of(alloc, text, piece, failing)?;
+    is_answered(alloc, &mut source, wanted.as_bytes())
+}
+
+// In the last row the end of input is met once; the source isn't read again.
 #[test]
 fn lines_are_cut_across_reads(rt: HostRuntime) -> Result<(), Fail> {
-    let alloc = rt.alloc();
-    // The text, the bytes of a read, the call that fails, and the answers.
-    let rows: [(&[u8], u32, u32, &[u8]); 11] = [
-        (b"", 3, 9, b""),
-        (b"ab\ncd", 2, 99, b"ab|cd|"),
-        (b"ab\ncd\n", 4, 99, b"ab|cd|"),
-        (b"\n\n", 1, 99, b"||"),
-        (b"abc", 9, 99, b"abc|"),
-        (b"ab\n\nc", 1, 99, b"ab||c|"),
-        (b"ab\nc", 9, 0, b"!"),
-        (b"ab\nc", 2, 1, b"!"),
-        (b"ab\nc", 9, 1, b"ab|!"),
-        (b"ab\ncd\nef", 6, 1, b"ab|cd|!"),
-        // The end of input is met once; the source isn't read again.
-        (b"ab\nc", 9, 2, b"ab|c|"),
-    ];
-    for (text, piece, failing, wanted) in rows {
-        let bytes = text.to_vec(alloc)?;
-        let piece = if piece == 0 { 1 } else { piece };
-        let mut source = MemSource::new(bytes, piece, vec![in alloc; failing]?);
-        assert_eq!(rt;
-            answers(alloc, &mut source)?.as_slice(),
-            wanted,
-            "at {text:?}, {piece}, {failing}"
-        );
+    for row in CUT.split('\n') {
+        let (asked, wanted) = row.split_once(" =>").unwrap_or((row, "no arrow"));
+        assert!(rt; is_cut(rt.alloc(), asked, wanted.trim_start())?, "{row}");
     }
     Ok(())
 }
@@ -77,22 +109,29 @@ $ => /
 ab/$/cd => //ab|/cd|
 ¶a/¶/b¶c/$ => /|/a|/b|/c|";
 
+// Pushes the piece, or ends the input.
+fn push_piece(alloc: Global, reader: &mut LineReader, piece: &str) -> Result<(), Fail> {
+    if piece == "$" {
+        reader.end();
+        return Ok(());
+    }
+    push_bytes(reader, piece.replace(alloc, '¶', "\n")?.as_bytes())
+}
+
+fn push_bytes(reader: &mut LineReader, bytes: &[u8]) -> Result<(), Fail> {
+    match reader.push(bytes) {
+        Ok(()) => Ok(()),
+        Err(_) => Err(Fail::new("nothing can be pushed")),
+    }
+}
+
 // What the lines are that are whole after each piece: each with a bar, behind a slash for the piece.
 fn pushed(alloc: Global, pieces: &str) -> Result<Vec<u8>, Fail> {
-    let Ok(mut reader) = LineReader::new(alloc) else {
-        return Err(Fail::new("there is no reader"));
-    };
+    let mut reader = reader_of(alloc)?;
     let mut told = Vec::new(alloc);
     for piece in pieces.split('/') {
         told.push(b'/')?;
-        if piece == "$" {
-            reader.end();
-        } else if reader
-            .push(piece.replace(alloc, '¶', "\n")?.as_bytes())
-            .is_err()
-        {
-            return Err(Fail::new("nothing can be pushed"));
-        }
+        push_piece(alloc, &mut reader, piece)?;
         whole_lines(&mut reader, &mut told)?;
     }
     Ok(told)
@@ -124,32 +163,28 @@ fn pushed_bytes_are_cut_into_lines(rt: HostRuntime) -> Result<(), Fail> {
     Ok(())
 }
 
+// So many bytes of one letter.
+fn letters(alloc: Global, count: usize) -> Result<Vec<u8>, AllocError> {
+    vec![in alloc; b'a'; count]
+}
+
 // What a reader tells that so many bytes are pushed to.
-fn pushed_at_once(alloc: Global, bytes: usize) -> Result<Vec<u8>, Fail> {
-    let Ok(mut reader) = LineReader::new(alloc) else {
-        return Err(Fail::new("there is no reader"));
-    };
-    if reader
-        .push(vec![in alloc; b'a'; bytes]?.as_slice())
-        .is_err()
-    {
-        return Err(Fail::new("nothing can be pushed"));
-    }
+fn pushed_at_once(alloc: Global, count: usize) -> Result<Vec<u8>, Fail> {
+    let mut reader = reader_of(alloc)?;
+    push_bytes(&mut reader, letters(alloc, count)?.as_slice())?;
     let mut told = Vec::new(alloc);
     whole_lines(&mut reader, &mut told)?;
     Ok(told)
 }
 
+fn is_told(alloc: Global, count: usize, wanted: &[u8]) -> Result<bool, Fail> {
+    Ok(pushed_at_once(alloc, count)?.as_slice() == wanted)
+}
+
 #[test]
 fn a_pushed_line_is_too_long_before_it_ends(rt: HostRuntime) -> Result<(), Fail> {
-    assert_eq!(rt;
-        pushed_at_once(rt.alloc(), LINE_MAX)?.as_slice(),
-        b"".as_slice()
-    );
-    assert_eq!(rt;
-        pushed_at_once(rt.alloc(), LINE_MAX + 1)?.as_slice(),
-        b">".as_slice()
-    );
+    assert!(rt; is_told(rt.alloc(), LINE_MAX, b"")?);
+    assert!(rt; is_told(rt.alloc(), LINE_MAX + 1, b">")?);
     Ok(())
 }
 
@@ -163,35 +198,48 @@ abc 2 0321 => |abc|..
 abcd 2 2l => ab|cd|
 abcd 1 5l => .abcd|";
 
-// The answers of a reader: each with a bar, a dot at the end of input, or a mark for the error.
+// Puts what the reader answers to a letter behind the text: with a bar, a dot at the end of input, or a mark for the
+// error.
+fn push_answer(
+    reader: &mut LineReader,
+    source: &mut MemSource,
+    letter: u8,
+    told: &mut Vec<u8>,
+) -> Result<(), AllocError> {
+    let answer = if letter == b'l' {
+        reader.next_line(source)
+    } else {
+        reader.next_bytes(source, letter.saturating_sub(b'0') as usize)
+    };
+    let mark = match answer {
+        Ok(Some(bytes)) => {
+            told.extend_from_slice(bytes)?;
+            b'|'
+        }
+        Ok(None) => b'.',
+        Err(error) => mark_of(error),
+    };
+    told.push(mark).map_err(AllocError::from)
+}
+
+// The answers of a reader over the source to these letters.
+fn asked_for(alloc: Global, source: &mut MemSource, letters: &str) -> Result<Vec<u8>, Fail> {
+    let mut reader = reader_of(alloc)?;
+    let mut told = Vec::new(alloc);
+    for letter in letters.bytes() {
+        push_answer(&mut reader, source, letter, &mut told)?;
+    }
+    Ok(told)
+}
+
+// The answers to a row.
 fn framed(alloc: Global, row: &str) -> Result<Vec<u8>, Fail> {
     let mut parts = row.split(' ');
     let (Some(text), Some(piece), Some(asked)) = (parts.next(), parts.next(), parts.next()) else {
         return Err(Fail::new("a row has three parts"));
     };
-    let piece = piece.parse::<u32>().unwrap_or(1).max(1);
-    let text = text.replace(alloc, '¶', "\n")?;
-    let mut source = MemSource::new(text.as_bytes().to_vec(alloc)?, piece, Vec::new(alloc));
-    let Ok(mut reader) = LineReader::new(alloc) else {
-        return Err(Fail::new("there is no reader"));
-    };
-    let mut told = Vec::new(alloc);
-    for letter in asked.bytes() {
-        let answer = if letter == b'l' {
-            reader.next_line(&mut source)
-        } else {
-            reader.next_bytes(&mut source, letter.saturating_sub(b'0') as usize)
-        };
-        match answer {
-            Ok(Some(bytes)) => {
-                told.extend_from_slice(bytes)?;
-                told.push(b'|')?;
-            }
-            Ok(None) => told.push(b'.')?,
-            Err(error) => told.push(mark_of(error))?,
-        }
-    }
-    Ok(told)
+    let mut source = source_of(alloc, text, piece, "never")?;
+    asked_for(alloc, &mut source, asked)
 }
 
 #[test]
@@ -218,19 +266,27 @@ fn first_len<S: Source>(alloc: Global, source: &mut S) -> Result<Option<usize>, 
     }
 }
 
+// So many letters, and a newline where one is wanted.
+fn line_of(alloc: Global, count: usize, ends: bool) -> Result<Vec<u8>, AllocError> {
+    let mut bytes = letters(alloc, count)?;
+    if ends {
+        bytes.push(b'\n')?;
+    }
+    Ok(bytes)
+}
+
+// How long the first line is of such a source.
+fn line_len(alloc: Global, count: usize, ends: bool) -> Result<Result<Option<usize>, u8>, Fail> {
+    let bytes = line_of(alloc, count, ends)?;
+    let mut source = MemSource::new(bytes, 8_388_608, Vec::new(alloc));
+    Ok(first_len(alloc, &mut source))
+}
+
 #[test]
 fn the_longest_line_is_answered_and_one_byte_more_is_too_long(rt: HostRuntime) -> Result<(), Fail> {
-    let alloc = rt.alloc();
-    let bytes = vec![in alloc; b'a'; LINE_MAX]?;
-    let mut source = MemSource::new(bytes, 8_388_608, Vec::new(alloc));
-    assert_eq!(rt; first_len(alloc, &mut source), Ok(Some(LINE_MAX)));
-    let mut bytes = vec![in alloc; b'a'; LINE_MAX]?;
-    bytes.push(b'\n')?;
-    let mut source = MemSource::new(bytes, 8_388_608, Vec::new(alloc));
-    assert_eq!(rt; first_len(alloc, &mut source), Ok(Some(LINE_MAX)));
-    let bytes = vec![in alloc; b'a'; LINE_MAX + 1]?;
-    let mut source = MemSource::new(bytes, 8_388_608, Vec::new(alloc));
-    assert_eq!(rt; first_len(alloc, &mut source), Err(b'>'));
+    assert_eq!(rt; line_len(rt.alloc(), LINE_MAX, false)?, Ok(Some(LINE_MAX)));
+    assert_eq!(rt; line_len(rt.alloc(), LINE_MAX, true)?, Ok(Some(LINE_MAX)));
+    assert_eq!(rt; line_len(rt.alloc(), LINE_MAX + 1, false)?, Err(b'>'));
     Ok(())
 }
 
@@ -263,35 +319,45 @@ fn written<K: Sink>(sink: &mut K, bytes: &[u8]) -> Result<(), WriteError> {
     write_all(sink, bytes)
 }
 
+const LINE: &[u8] = b"{\"version\":0}\n";
+
+fn written_twice<K: Sink>(sink: &mut K) -> Result<(), WriteError> {
+    written(sink, LINE)?;
+    written(sink, LINE)
+}
+
+// How many bytes from the front of two lines are held as they were, and how the work ended.
+fn held_of_two(alloc: Global, piece: &str, failing: &str) -> Result<(usize, bool), Fail> {
+    let piece = piece.parse::<u32>().unwrap_or(1).max(1);
+    let mut sink = MemSink::new(alloc, piece, calls_of(alloc, failing)?);
+    let ended = written_twice(&mut sink);
+    let held = sink.held();
+    let both = b"{\"version\":0}\n{\"version\":0}\n";
+    if ended == Err(WriteError::NoMemory) || !both.starts_with(held) {
+        return Err(Fail::new("memory was refused, or other bytes are held"));
+    }
+    Ok((held.len(), ended.is_ok()))
+}
+
+// The bytes of a write, the call that fails, and how many bytes are written of two lines.
+const WRITTEN: &str = "1 99 => 28
+100 2 => 28
+8 2 => 14
+8 1 => 8
+1 5 => 5
+100 0 => 0";
+
 #[test]
 fn all_is_written_or_a_prefix(rt: HostRuntime) -> Result<(), Fail> {
-    let alloc = rt.alloc();
-    let line = b"{\"version\":0}\n";
-    // The bytes of a write, the call that fails, and how many bytes are written of two lines.
-    for (piece, failing, wanted) in [
-        (1, 99, 28),
-        (100, 2, 28),
-        (8, 2, 14),
-        (8, 1, 8),
-        (1, 5, 5),
-        (100, 0, 0),
-    ] {
-        let mut sink = MemSink::new(alloc, piece, vec![in alloc; failing]?);
-        let first = written(&mut sink, line);
-        let second = if first.is_ok() {
-            written(&mut sink, line)
-        } else {
-            first
-        };
-        let wanted_end = if wanted == 28 {
-            Ok(())
-        } else {
-            Err(WriteError::WriteFault)
-        };
-        assert_eq!(rt; second, wanted_end, "at {piece}, {failing}");
-        let mut both = line.to_vec(alloc)?;
-        both.extend_from_slice(line)?;
-        assert_eq!(rt; sink.held(), &both[..wanted], "at {piece}, {failing}");
+    for row in WRITTEN.split('\n') {
+        let (asked, wanted) = row.split_once(" => ").unwrap_or((row, "no arrow"));
+        let (piece, failing) = asked.split_once(' ').unwrap_or((asked, "never"));
+        let wanted = wanted.parse::<usize>()?;
+        assert_eq!(rt;
+            held_of_two(rt.alloc(), piece, failing)?,
+            (wanted, wanted == 28),
+            "{row}"
+        );
     }
     Ok(())
 }
@@ -406,17 +472,9 @@ impl Read for Broken {
 
 #[test]
 fn std_readers_are_sources(rt: HostRuntime) -> Result<(), Fail> {
-    let alloc = rt.alloc();
     let text: &[u8] = b"ab\ncd";
-    let mut source = StdSource::new(text);
-    assert_eq!(rt;
-        answers(alloc, &mut source)?.as_slice(),
-        b"ab|cd|".as_slice()
-    );
-    assert_eq!(rt;
-        answers(alloc, &mut StdSource::new(Broken))?.as_slice(),
-        b"!".as_slice()
-    );
+    assert!(rt; is_answered(rt.alloc(), &mut StdSource::new(text), b"ab|cd|")?);
+    assert!(rt; is_answered(rt.alloc(), &mut StdSource::new(Broken), b"!")?);
     Ok(())
 }
 
@@ -478,59 +536,107 @@ fn pair(alloc: Global) -> (MemSource, MemSink) {
     )
 }
 
-#[test]
-fn a_door_gives_its_pairs_in_order_and_gets_them_back(rt: HostRuntime) -> Result<(), Fail> {
-    let alloc = rt.alloc();
+// A door with so many pairs.
+fn door_of(alloc: Global, count: u32) -> Result<MemDoor, Fail> {
     let mut pairs = Vec::new(alloc);
-    for _ in 0..3 {
+    for _ in 0..count {
         pairs.push(pair(alloc)).map_err(AllocError::from)?;
     }
-    let mut door = MemDoor::new(pairs);
-    assert_eq!(rt; visit(&mut door, b'a'), Ok(true));
-    assert_eq!(rt; visit(&mut door, b'b'), Ok(true));
+    Ok(MemDoor::new(pairs))
+}
+
+// What the sinks hold of the pairs that came back, each with a bar.
+fn held_by(alloc: Global, door: MemDoor) -> Result<Vec<u8>, Fail> {
+    let mut told = Vec::new(alloc);
     let back = door.into_pairs();
-    assert_eq!(rt; back.len(), 2);
-    for ((_, sink), letter) in back.iter().zip(b"ab") {
-        assert_eq!(rt; sink.held(), [*letter].as_slice());
+    for (_, sink) in back.iter() {
+        told.extend_from_slice(sink.held())?;
+        told.push(b'|')?;
     }
-    let mut empty = MemDoor::new(Vec::new(alloc));
-    assert_eq!(rt; visit(&mut empty, b'c'), Err(Failed));
+    Ok(told)
+}
+
+// What a door with three pairs holds after two visits.
+fn visited(alloc: Global) -> Result<Vec<u8>, Fail> {
+    let mut door = door_of(alloc, 3)?;
+    if visit(&mut door, b'a') != Ok(true) || visit(&mut door, b'b') != Ok(true) {
+        return Err(Fail::new("a visit failed"));
+    }
+    held_by(alloc, door)
+}
+
+#[test]
+fn a_door_gives_its_pairs_in_order_and_gets_them_back(rt: HostRuntime) -> Result<(), Fail> {
+    assert_eq!(rt; visited(rt.alloc())?.as_slice(), b"a|b|".as_slice());
+    assert_eq!(rt; visit(&mut door_of(rt.alloc(), 0)?, b'c'), Err(Failed));
     Ok(())
+}
+
+// A house with so many doors.
+fn house_of(alloc: Global, count: u32, fails: bool) -> Result<MemHouse, Fail> {
+    let mut doors = Vec::new(alloc);
+    for _ in 0..count {
+        doors.push(door_of(alloc, 0)?).map_err(AllocError::from)?;
+    }
+    Ok(MemHouse::new(doors, fails))
+}
+
+// What a house with three doors answers that is asked for four, two and two, and how many it got back.
+type Opened = Result<usize, HouseFault>;
+
+fn asked_thrice(alloc: Global) -> Result<(Opened, Opened, Opened, usize), Fail> {
+    let mut house = house_of(alloc, 3, false)?;
+    let four = open(alloc, &mut house, 4);
+    let two = open(alloc, &mut house, 2);
+    let more = open(alloc, &mut house, 2);
+    Ok((four, two, more, house.into_doors().len()))
 }
 
 #[test]
 fn a_house_gives_doors_and_gets_them_back(rt: HostRuntime) -> Result<(), Fail> {
-    let alloc = rt.alloc();
-    let mut doors = Vec::new(alloc);
-    for _ in 0..3 {
-        doors
-            .push(MemDoor::new(Vec::new(alloc)))
-            .map_err(AllocError::from)?;
-    }
-    let mut house = MemHouse::new(doors, false);
-    assert_eq!(rt; open(alloc, &mut house, 4), Err(HouseFault::Failed));
-    assert_eq!(rt; open(alloc, &mut house, 2), Ok(2));
-    assert_eq!(rt; open(alloc, &mut house, 2), Err(HouseFault::Failed));
-    assert_eq!(rt; house.into_doors().len(), 2);
-    let mut broken = MemHouse::new(Vec::new(alloc), true);
-    assert_eq!(rt; open(alloc, &mut broken, 0), Err(HouseFault::Failed));
+    let failed = Err(HouseFault::Failed);
+    assert_eq!(rt; asked_thrice(rt.alloc())?, (failed, Ok(2), failed, 2));
+    let broken = open(rt.alloc(), &mut house_of(rt.alloc(), 0, true)?, 0);
+    assert_eq!(rt; broken, failed);
     Ok(())
 }
 
+// Sends the first line back.
+fn reply<S: Source, K: Sink>(alloc: Global, source: &mut S, sink: &mut K) -> bool {
+    let Ok(mut reader) = LineReader::new(alloc) else {
+        return false;
+    };
+    match reader.next_line(source) {
+        Ok(Some(line)) => written(sink, line).is_ok(),
+        _ => false,
+    }
+}
+
 // Sends the first line of the next connection back.
-fn echo<D: Door>(alloc: Global, door: &mut D) -> Result<bool, Fail> {
-    let Ok((mut source, mut sink)) = door.accept() else {
-        return Ok(false);
-    };
-    let sent = match LineReader::new(alloc) {
-        Ok(mut reader) => match reader.next_line(&mut source) {
-            Ok(Some(line)) => written(&mut sink, line).is_ok(),
-            _ => false,
-        },
-        Err(_) => false,
-    };
+fn echo<D: Door>(alloc: Global, door: &mut D) -> Result<bool, Failed> {
+    let (mut source, mut sink) = door.accept()?;
+    let sent = reply(alloc, &mut source, &mut sink);
     door.done(source, sink);
     Ok(sent)
+}
+
+// Puts what a connection that sends the line gets back behind the text, with a bar.
+fn exchange<R: Net, D: Door>(
+    net: &R,
+    alloc: Global,
+    port: u16,
+    door: &mut D,
+    line: &[u8],
+    told: &mut Vec<u8>,
+) -> Result<(), Fail> {
+    let mut stream = TcpStream::connect(net, (Ipv4Addr::LOCALHOST, port))?;
+    stream.write_all(line)?;
+    if echo(alloc, door).is_err() {
+        return Err(Fail::new("the door has no connection"));
+    }
+    stream.read_to_end(told)?;
+    told.push(b'|')?;
+    Ok(())
 }
 
 // What two connections get back that each send a line to the port; one mark where no doors are to be had.
@@ -542,13 +648,9 @@ fn echoed<R: Net>(net: &R, alloc: Global, port: u16) -> Result<Vec<u8>, Fail> {
         return Ok(told);
     };
     for line in [b"ab\n", b"cd\n"] {
-        let mut stream = TcpStream::connect(net, (Ipv4Addr::LOCALHOST, port))?;
-        stream.write_all(line)?;
         if let Some(mut door) = doors.pop() {
-            echo(alloc, &mut door)?;
+            exchange(net, alloc, port, &mut door, line, &mut told)?;
         }
-        stream.read_to_end(&mut told)?;
-        told.push(b'|')?;
     }
     house.close(doors);
     Ok(told)

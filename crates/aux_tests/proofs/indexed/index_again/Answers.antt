@@ -1,5 +1,5 @@
 use Rattle.index_gate.proofs.Once.{counted_once}
-use Rattle.index_gate.proofs.tests.index_again.Goals as goal
+use Rattle.aux_tests.proofs.indexed.index_again.Goals as goal
 
 -- what the first call kept isn't walked by the second
 pub returns : goal.returns

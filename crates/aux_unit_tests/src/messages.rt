@@ -1,4 +1,5 @@
-use crate::{
+//! What no clause says: that bodies are read, paths found and replies printed with memory at hand, by tables.
+use lsp_wire::{
     Asks, Body, Id, Location, Locations, Message, Outcome, Position, Refusal, Reply, Text, inside,
     path_of_uri, print_reply, read_body, root_of, uri_of_path,
 };

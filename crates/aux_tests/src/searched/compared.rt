@@ -1,6 +1,7 @@
 //! The search beside the plain enumeration of all lists of edges.
-use super::{answer, bounds_of, number, told};
-use crate::tests::plain::{Told, told_by};
+use super::answer;
+use super::plain::{Told, told_by};
+use crate::stitched::{bounds_of, told};
 use aux_graph_text::{COMPARED, files_of};
 use graph_nodes::FileGraph;
 use partial_path::Bounds;
@@ -26,7 +27,8 @@ fn both(alloc: Global, row: &str) -> Result<(String, String), Fail> {
     let (bounds, longest) = rest.split_once(" by lists of ").unwrap_or((rest, ""));
     let files = files_of(alloc, graph)?;
     let bounds = bounds_of(bounds);
-    let plain = plain_answer(alloc, files.as_slice(), bounds, number(longest))?;
+    let longest = longest.parse::<u32>().unwrap_or(0);
+    let plain = plain_answer(alloc, files.as_slice(), bounds, longest)?;
     Ok((answer(alloc, files.as_slice(), bounds)?, plain))
 }
 

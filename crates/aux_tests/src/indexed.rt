@@ -1,8 +1,10 @@
+//! What no clause says: that documents are indexed with memory at hand, in which order their faults are told, and on
+//! how many threads.
 ghost use Rattle.std.specs.Prelude.{◌≡◌, ◌<◌, [], OnOk, drop, length};
 ghost use Rattle.index_gate.specs.Indexed.{AreIndexed, CountsAllWalks};
 
-use crate::{IndexFault, index_all};
 use graph_nodes::Steps;
+use index_gate::{IndexFault, index_all};
 use nav_io::{Gate, Unguarded};
 use partial_path::SharedPaths;
 use path_store::{Document, PathStore};

@@ -1,4 +1,4 @@
-use Rattle.index_gate.proofs.tests.again.Given as goal
+use Rattle.aux_tests.proofs.indexed.again.Given as goal
 
 -- the ledger is the one that was opened here
 abbrev pub ghosts-again_on : goal.ghosts-again_on

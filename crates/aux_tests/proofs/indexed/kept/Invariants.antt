@@ -1,4 +1,4 @@
-use Rattle.index_gate.proofs.tests.kept.Given as goal
+use Rattle.aux_tests.proofs.indexed.kept.Given as goal
 
 -- the ledger is the one that was opened here
 abbrev pub ghosts-kept_on : goal.ghosts-kept_on

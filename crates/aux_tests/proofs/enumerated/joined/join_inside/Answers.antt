@@ -6,7 +6,7 @@ use Rattle.partial_path.specs.Rules.{Rule}
 use Rattle.partial_path.specs.FileNumbers.{IsOfFileZero}
 use Rattle.path_join.specs.Joins.{IsJoin}
 use Rattle.file_paths.proofs.StoredLaws.{joined_zero}
-use Rattle.file_paths.proofs.tests.joined.join_inside.Goals as goal
+use Rattle.aux_tests.proofs.enumerated.joined.join_inside.Goals as goal
 
 pub returns : goal.returns
 returns c =

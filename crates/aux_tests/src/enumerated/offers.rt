@@ -1,5 +1,5 @@
 //! Which paths a list of files offers to a symbol stack, asked as any source of paths is.
-use super::found;
+use crate::paths::paths_in;
 use aux_graph_text::{files_of, stacks_of};
 use partial_path::{FileList, PartialPath, PathSource, Spot, Start};
 use stacks_vars::{NodeAt, SymbolStack};
@@ -16,7 +16,7 @@ const FILES: &str =
 fn listed(alloc: Global, text: &str) -> Result<FileList, Fail> {
     let mut list = FileList::new(alloc);
     for graph in files_of(alloc, text)? {
-        let Ok(file) = found(alloc, graph) else {
+        let Ok(file) = paths_in(alloc, graph) else {
             return Err(Fail::new("the paths weren't found"));
         };
         if list.len() > 100 {

@@ -1,5 +1,4 @@
 //! The definitions as the plainest program tells them: every list of edges up to a length is tried.
-use crate::Hit;
 use graph_nodes::FileGraph;
 use partial_path::{
     Bounds, Config, EdgeAt, MAX_RUNS, Spot, edge_at, is_at_definition, is_cut_edge, start, step,
@@ -7,6 +6,7 @@ use partial_path::{
 use stacks_vars::NodeAt;
 use std::alloc::Global;
 use std::test::Fail;
+use whole_search::Hit;
 
 /// A run: its edges, where it ends, the start and the configurations after its cut edges, and whether it
 /// was nowhere deeper than the bound.
