@@ -78,6 +78,10 @@ const SESSIONS: &str = r#"# A last line without its end, and an empty line.
 {"do":"quit","x":1}¶{"do":"quit"} => {"error":"bad_request","field":"x"}¶{"ok":true}¶
 # What the head refuses changes nothing.
 {"do":"hello","user":"operator"}¶{"do":"commit","base":1,"edits":[]}¶{"do":"commit","edits":[{"remove":"z.py"}]}¶{"do":"revoke","user":"bob","prefix":""}¶{"do":"commit","edits":[{"put":"a.py","text":"x = [i for i in y]"}]}¶{"do":"commit","base":0,"edits":[]}¶ => {"version":0}¶{"error":"stale","head":0}¶{"error":"absent","path":"z.py"}¶{"error":"absent","prefix":"","user":"bob"}¶{"error":"bad_file","fault":"unsupported","line":0,"path":"a.py"}¶{"version":1}¶
+# A base that isn't the head is refused, and the next query is answered as before.
+{"do":"hello","user":"operator"}¶{"do":"commit","edits":[{"put":"a.sg.json","text":"{\"nodes\":[{\"kind\":\"push\",\"symbol\":\"x\",\"reference\":true},{\"kind\":\"pop\",\"symbol\":\"x\",\"definition\":true}],\"edges\":[[0,1,0]]}"}]}¶{"do":"define","path":"a.sg.json","node":0}¶{"do":"commit","edits":[]}¶{"do":"commit","edits":[]}¶{"do":"commit","edits":[]}¶{"do":"commit","base":3,"edits":[{"remove":"a.sg.json"}]}¶{"do":"define","path":"a.sg.json","node":0}¶{"do":"commit","base":4,"edits":[{"remove":"a.sg.json"}]}¶{"do":"define","path":"a.sg.json","node":0}¶ => {"version":0}¶{"version":1}¶{"limit":false,"rows":[{"node":1,"path":"a.sg.json","span":null}]}¶{"version":2}¶{"version":3}¶{"version":4}¶{"error":"stale","head":4}¶{"limit":false,"rows":[{"node":1,"path":"a.sg.json","span":null}]}¶{"version":5}¶{"error":"no_file"}¶
+# The heaviest ladder is taken, and leads nowhere.
+{"do":"hello","user":"operator"}¶{"do":"commit","edits":[{"put":"ladder.sg.json","text":"{\"nodes\":[{\"kind\":\"push\",\"symbol\":\"m\",\"reference\":true},{\"kind\":\"scope\"},{\"kind\":\"scope\"},{\"kind\":\"scope\"},{\"kind\":\"scope\"},{\"kind\":\"scope\"},{\"kind\":\"scope\"},{\"kind\":\"scope\"},{\"kind\":\"scope\"},{\"kind\":\"scope\"},{\"kind\":\"scope\"},{\"kind\":\"scope\"},{\"kind\":\"scope\"},{\"kind\":\"scope\"},{\"kind\":\"scope\"},{\"kind\":\"scope\"},{\"kind\":\"scope\"}],\"edges\":[[0,1,0],[1,2,0],[1,2,0],[2,3,0],[2,3,0],[3,4,0],[3,4,0],[4,5,0],[4,5,0],[5,6,0],[5,6,0],[6,7,0],[6,7,0],[7,8,0],[7,8,0],[8,9,0],[8,9,0],[9,10,0],[9,10,0],[10,11,0],[10,11,0],[11,12,0],[11,12,0],[12,13,0],[12,13,0],[13,14,0],[13,14,0],[14,15,0],[14,15,0],[15,16,0],[15,16,0]]}"}]}¶{"do":"define","path":"ladder.sg.json","node":0}¶ => {"version":0}¶{"version":1}¶{"limit":false,"rows":[]}¶
 # Another user sees what it was granted, and changes nothing.
 {"do":"hello","user":"operator"}¶{"do":"commit","edits":[{"put":"a.py","text":"x = 1\nx"},{"put":"b.py","text":"y = 1\ny"}]}¶{"do":"grant","user":"ann","prefix":"a.py"}¶{"do":"hello","user":"ann"}¶{"do":"commit","edits":[]}¶{"do":"define","path":"b.py","line":1,"column":0}¶ => {"version":0}¶{"version":1}¶{"version":2}¶{"version":2}¶{"error":"forbidden"}¶{"error":"no_file"}¶
 # By way of a file that another user doesn't see.
@@ -343,7 +347,8 @@ fn a_failing_write_leaves_what_was_taken(rt: HostRuntime) -> Result<(), Fail> {
     let text = typed(alloc)?;
     let replies = due(alloc, text.len(), true)?;
     for piece in [1, 8, 4_096] {
-        for write in 0..40 {
+        for at in 0..41 {
+            let write = if at < 40 { at } else { NEVER };
             let outside = Outside {
                 piece: 4_096,
                 read: NEVER,
