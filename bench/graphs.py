@@ -1,6 +1,8 @@
 #!/usr/bin/env python3
 """Times the finding of a file's paths and the indexing of documents, and prints one table; every figure is of this one run.
-The last rows are the least memory in which one module is indexed whose one reference has a long or a short name.
+One row splits what one module costs on one processor into its reading, the making of its graph, the finding of its paths
+and what else it takes to have it indexed, beside the time in which CPython's `compile` takes the same text. The last rows
+are the least memory in which one module is indexed whose one reference has a long or a short name.
 
 usage: bench/graphs.py [PROGRAM]     (crates/aux_bench/out/aux_bench, as bench/graphs.sh leaves it)
 
@@ -14,6 +16,7 @@ import os
 import subprocess
 import sys
 import time
+import timeit
 
 from measure import least_memory
 
@@ -81,6 +84,18 @@ def seconds(case, times, text, alone=False):
     return min(took)
 
 
+def split():
+    """The microseconds that one module's reading, graph, paths and keeping take on one processor, and CPython's `compile`."""
+    took = []
+    for case in ("parse", "translate", "found", "modules"):
+        took.append((seconds(case, 1 + DOCUMENTS, MODULE, True) - seconds(case, 1, MODULE, True)) / DOCUMENTS)
+    parts = [took[0]] + [later - earlier for earlier, later in zip(took, took[1:])]
+    compiled = min(timeit.repeat(lambda: compile(MODULE, "module.py", "exec"), number=100, repeat=5)) / 100
+    names = ("read", "graph", "paths", "kept")
+    told = ", ".join(f"{name} {part * 1e6:4.0f}" for name, part in zip(names, parts))
+    print(f"one module of {len(MODULE):,} bytes, microseconds: {told}, all {took[-1] * 1e6:4.0f}: {took[-1] / compiled:.2f} times CPython's compile")
+
+
 def main():
     for name, (text, walks), times in [("a ladder of 16 scopes", ladder(16), 5), ("500 nodes in groups of five", groups(100), 500)]:
         said = answer("walk", 1, text)
@@ -97,6 +112,7 @@ def main():
         name = f"{DOCUMENTS:,} {name} of {len(document):,} bytes"
         processors = len(os.sched_getaffinity(0))
         print(f"{name:40} {rates[0]:8,.0f} documents/s on one processor, {rates[1]:8,.0f} on {processors}, {rates[1] / rates[0]:.1f} times as many")
+    split()
     none = seconds("index", 0, text)
     first = seconds("index", DOCUMENTS, text) - none
     again = (seconds("again", DOCUMENTS, text) - first - none) / 10

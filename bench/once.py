@@ -6,7 +6,8 @@ the first: it is to follow the number of runs, and not the length of the symbol 
 usage: bench/once.py [PROGRAM]     (crates/navd/out/navd, as `make build` leaves it)
 
 The first row compares bytes a second with a plain JSON parser, Python's, on the same bytes. The others
-are seconds, beside those of the smallest graph, which is what starting the program costs.
+are seconds, beside those of the smallest graph, which is what starting the program costs. One row compares a chain that
+is answered with the same text that is read and not searched.
 """
 
 import json
@@ -107,6 +108,10 @@ def main():
     for name, data in rows:
         took = smallest if data is None else seconds([PROGRAM, "once"], data + asked)
         print(f"{name:46} {took:8.3f} s   {took / smallest:8.1f} times the smallest")
+    graph = chain(16_381, DEFINITION)
+    answered, read = seconds([PROGRAM, "once"], graph + asked), seconds([PROGRAM, "once"], graph + b'\n{"node":1}\n')
+    print(f"a chain of 16,383 nodes: {(answered - smallest) / (read - smallest):.2f} times as long as the same text takes that is read alone, "
+          f"where a node is asked that is no reference")
     first = None
     for runs, length in [(4_000, 8), (4_000, 800_000), (8_000, 8)]:
         graph = fan("x" * length, runs)

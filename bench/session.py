@@ -12,16 +12,20 @@ to a definition, asked first and again at one version; and the program's memory 
 """
 
 import json
+import os
 import subprocess
 import sys
 import threading
 import time
 
+from graphs import MODULE
+
 PROGRAM = sys.argv[1] if len(sys.argv) > 1 else "crates/navd/out/navd"
 FILES = (64, 512, 2_048)
 BATCH = 64
+MODULES = 256
 # How many commits of one file, definitions and who-refers questions are timed.
-COMMITS, DEFINES, REFERENCES = 40, 20_000, 8
+COMMITS, DEFINES, REFERENCES = 40, 100_000, 8
 
 
 def drawn(files):
@@ -55,8 +59,9 @@ def line_of(**request):
 class Session:
     """A running `navd run` with its operator named."""
 
-    def __init__(self):
-        self.process = subprocess.Popen([PROGRAM, "run"], stdin=subprocess.PIPE, stdout=subprocess.PIPE)
+    def __init__(self, alone=False):
+        limit = (lambda: os.sched_setaffinity(0, {min(os.sched_getaffinity(0))})) if alone else None
+        self.process = subprocess.Popen([PROGRAM, "run"], stdin=subprocess.PIPE, stdout=subprocess.PIPE, preexec_fn=limit)
         self.replies([line_of(do="hello", user="operator")])
 
     def replies(self, lines):
@@ -121,6 +126,18 @@ def measured(files):
     return all_files, one_file, defining, sorted(first)[REFERENCES // 2], sorted(again)[REFERENCES // 2], memory
 
 
+def modules_a_second(alone):
+    """Documents a second of a project's first commits, each module with a name of its own in it."""
+    puts = [{"put": f"m{n:03}.py", "text": MODULE + f"own_{n} = 1\n"} for n in range(MODULES)]
+    commits = [line_of(do="commit", edits=puts[n:n + BATCH]) for n in range(0, MODULES, BATCH)]
+    took = []
+    for _ in range(3):
+        session = Session(alone)
+        took.append(session.replies(commits)[1])
+        session.end()
+    return MODULES / min(took)
+
+
 def main():
     print("files   commit all   commit one   ratio   define/s   ratio   of one file   ratio   references   again      memory")
     least = None
@@ -129,6 +146,9 @@ def main():
         least = least or (one_file, spread, alone)
         print(f"{files:5}   {all_files:8.3f} s   {one_file * 1e3:7.2f} ms   {one_file / least[0]:5.2f}   {1 / spread:8,.0f}   {spread / least[1]:5.2f}   "
               f"{1 / alone:9,.0f}     {alone / least[2]:5.2f}   {first * 1e3:7.2f} ms   {again * 1e3:7.2f} ms   {memory:6.1f} MB")
+    one, many = modules_a_second(True), modules_a_second(False)
+    processors = len(os.sched_getaffinity(0))
+    print(f"{MODULES} modules of {len(MODULE):,} bytes: {one:,.0f} documents/s on one processor, {many:,.0f} on {processors}, {many / one:.1f} times as many")
 
 
 if __name__ == "__main__":

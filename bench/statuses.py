@@ -8,6 +8,7 @@ be written. A run that ends otherwise, is stopped by a signal or doesn't end is 
 1. What this machine can't bring about is told as not shown, and fails nothing.
 """
 
+import json
 import os
 import resource
 import signal
@@ -209,12 +210,33 @@ def in_memory(most):
     return lambda command, data: from_file(command, data, limited(resource.RLIMIT_AS, most))
 
 
+def twice(command, data):
+    """A run behind another one, which has to have written the same line."""
+    first, second = from_file(command, data), from_file(command, data)
+    if first.wrote != second.wrote or second.wrote.count(b"\n") != 1:
+        second.status = "another line"
+    return second
+
+
 def into_port_in_use(command, _):
     """A run whose last words but two are a port at which somebody listens."""
     with socket.socket() as other:
         other.bind(("127.0.0.1", 0))
         other.listen()
         return from_file([*command, str(other.getsockname()[1]), "1", "1"], b"")
+
+
+def commit(**texts):
+    """A commit that puts these graph files."""
+    edits = [{"put": f"{name}.sg.json", "text": text} for name, text in texts.items()]
+    return json.dumps({"do": "commit", "edits": edits}).encode() + b"\n"
+
+
+def ladder(rungs):
+    """A graph file in which two edges lead from each scope to the next: with 16 scopes nearly as heavy as one may be."""
+    nodes = [{"kind": "push", "symbol": "m", "reference": True}] + [{"kind": "scope"}] * rungs
+    edges = [[0, 1, 0]] + [[n, n + 1, 0] for n in range(1, rungs) for _ in range(2)]
+    return json.dumps({"nodes": nodes, "edges": edges})
 
 
 def frame(body):
@@ -235,6 +257,24 @@ INITIALIZED = frame(
 SHUTDOWN = frame(b'{"id":2,"method":"shutdown"}')
 SHUT = frame(b'{"id":2,"jsonrpc":"2.0","result":null}')
 EXIT = frame(b'{"method":"exit"}')
+ROOTED = frame(b'{"id":1,"method":"initialize","params":{"rootUri":"file:///w"}}')
+CROWD = {"uri": "file:///w/a.py", "text": "x = 1\n" * 8_193 + "x\n"}
+OPENED = frame(json.dumps({"method": "textDocument/didOpen", "params": {"textDocument": CROWD}}).encode())
+ASKED = {
+    "textDocument": {"uri": CROWD["uri"]},
+    "position": {"line": 8_193, "character": 0},
+    "context": {"includeDeclaration": True},
+}
+CROWDED = b"".join(
+    frame(json.dumps({"id": 2, "method": f"textDocument/{what}", "params": ASKED}).encode())
+    for what in ("definition", "references")
+)
+CROWDED_TOLD = frame(b'{"error":{"code":1,"message":"crowded"},"id":2,"jsonrpc":"2.0"}') * 2
+HEAVY = {f"f{n}": ladder(16) for n in range(25)}
+HEAVY_LINES = HELLO + commit(**dict(list(HEAVY.items())[:24])) + commit(f24=HEAVY["f24"])
+TOO_HEAVY = b'{"version":0}\n{"version":1}\n{"error":"too_heavy","weight":24576025}\n'
+FILES = HELLO + commit(**{f"f{n}": '{"nodes":[],"edges":[]}' for n in range(2_049)})
+TOO_MANY = b'{"version":0}\n{"error":"too_many_files","files":2049}\n'
 
 # The status, the words, what is special, the call that runs it and its data, and what has to be written (None
 # where it isn't seen).
@@ -258,7 +298,10 @@ ROWS_OF_TABLE = [
     (0, ["run"], "two lines, the last without its end", from_file, HELLO + PIN[:-1], VERSION * 2),
     (0, ["run"], "standard input stays open behind a quit", from_open_pipe, QUIT + PIN, b'{"ok":true}\n'),
     (0, ["run"], "a line of the longest length", from_file, HELLO + line(LINE_MAX), VERSION + b'{"error":"bad_json"}\n'),
+    (0, ["run"], "24 of the heaviest files, and one more", from_file, HEAVY_LINES, TOO_HEAVY),
+    (0, ["run"], "a file more than a version may have", from_file, FILES, TOO_MANY),
     (0, ["demo", "3", "0"], "a made tree", from_file, b"", SUMMARY),
+    (0, ["demo", "2048", "7"], "the largest tree, twice the same line", twice, b"", None),
     (0, ["run"], "as many lines as a session may have", from_file, b"1\n" * LINES_MAX, NO_DO * LINES_MAX),
     (2, [], "no word", from_file, GRAPH + NODE, b""),
     (2, ["serve"], "no command", from_file, GRAPH + NODE, b""),
@@ -266,10 +309,13 @@ ROWS_OF_TABLE = [
     (8, ["serve"], "a port in use", into_port_in_use, None, b""),
     (0, ["lsp"], "no input", from_file, b"", b""),
     (0, ["lsp"], "an exit behind a shutdown", from_file, INITIALIZE + SHUTDOWN + EXIT, INITIALIZED + SHUT),
+    (1, ["lsp"], "a name with too many definitions", from_file, ROOTED + OPENED + CROWDED + EXIT, INITIALIZED + CROWDED_TOLD),
     (1, ["lsp"], "an exit without a shutdown", from_file, INITIALIZE + EXIT, INITIALIZED),
     (3, ["lsp"], "standard input fails within a message", from_failing, INITIALIZE + SHUTDOWN[:-1], INITIALIZED),
     (4, ["lsp"], "standard output has room for 20 bytes", into_room(20), INITIALIZE, INITIALIZED[:20]),
     (6, ["lsp"], "a header that states one byte more", from_file, INITIALIZE + b"Content-Length: 8388609\r\n\r\n", INITIALIZED),
+    (5, ["lsp"], "a message of the longest length in just as much memory", in_memory(LINE_MAX), frame(b"[" * LINE_MAX), b""),
+    (7, ["lsp"], "a byte behind as many messages as a session may have", from_file, frame(b"{}") * LINES_MAX + b"x", b""),
     (9, ["lsp"], "the input ends within a message", from_file, INITIALIZE + SHUTDOWN[:-1], INITIALIZED),
     (9, ["lsp"], "a header without a length", from_file, b"Content-Type: x\r\n\r\n", b""),
     (2, [""], "an empty word", from_file, GRAPH + NODE, b""),

@@ -2,6 +2,7 @@
 
 ghost use Rattle.std.specs.Prelude.{◌≡◌, ◌<◌};
 
+use crate::modules::module_graph;
 use file_paths::enumerate;
 use graph_json::read_graph;
 use graph_nodes::{FileGraph, Steps};
@@ -28,6 +29,41 @@ pub fn walk(alloc: Global, text: &[u8], times: u32, walks: bool) -> Option<(u32,
     walked::<Brand>(alloc, text, times, walks, Blank::new(1))
 }
 
+/// Reads the text so many times as a module of Python, makes its graph and finds all its paths each time: the last
+/// file's weight and number of paths. `None` where there is no graph, or it is too heavy.
+pub fn walk_module(alloc: Global, text: &[u8], times: u32) -> Option<(u32, usize)> {
+    walked_module::<Brand>(alloc, text, times, Blank::new(1))
+}
+
+fn walked_module<L: Ledger>(
+    alloc: Global,
+    text: &[u8],
+    times: u32,
+    blank: Blank,
+) -> Option<(u32, usize)>
+    requires name { blank.name ≡ L.name }
+    requires parts { blank.parts ≡ L.parts }
+    requires some { 0 < blank.parts }
+{
+    let mut steps = Steps::<L>::new(blank);
+    let mut last = (0, 0);
+    for _ in 0..times {
+        let graph = module_graph(alloc, text).ok()?;
+        last = figures_of(alloc, graph, &mut steps)?;
+    }
+    Some(last)
+}
+
+// The weight and the number of paths of the file.
+fn figures_of<L: Ledger>(
+    alloc: Global,
+    graph: FileGraph,
+    steps: &mut Steps<L>,
+) -> Option<(u32, usize)> {
+    let file = enumerate(alloc, graph, steps).ok()?;
+    Some((file.weight(), file.paths().len()))
+}
+
 fn walked<L: Ledger>(
     alloc: Global,
     text: &[u8],
@@ -44,8 +80,7 @@ fn walked<L: Ledger>(
     for _ in 0..times {
         let graph = graph(alloc, text)?;
         if walks {
-            let file = enumerate(alloc, graph, &mut steps).ok()?;
-            last = (file.weight(), file.paths().len());
+            last = figures_of(alloc, graph, &mut steps)?;
         }
     }
     Some(last)

@@ -4,7 +4,8 @@
 //! The case stands on the first line of standard input, and what it needs behind it. `parse N` reads the
 //! rest as a module of the Python subset N times, and prints how many statements it has, or its fault.
 //! `translate N` reads it N times and makes its graph each time, as that of `module.py`, and prints how
-//! many nodes and edges that has, or the fault. `read N` reads the rest as a graph file N times; `walk N`
+//! many nodes and edges that has, or the fault. `found N` also finds its paths each time, and prints its weight and how
+//! many paths it has. `read N` reads the rest as a graph file N times; `walk N`
 //! also finds its paths each time, and prints its weight and how many paths it has. `index N` makes N
 //! documents of the rest, as graph files, and indexes them; `again N` then does so ten times more, when all are
 //! kept; `modules N` indexes N documents of the rest as modules of Python. They print how many files that gave.
@@ -25,7 +26,7 @@ mod queries;
 mod roots;
 mod views;
 
-use graphs::{index, walk};
+use graphs::{index, walk, walk_module};
 use modules::{parsed, translated};
 use queries::{Asked, searched, stitched};
 use roots::{committed, offered};
@@ -108,6 +109,10 @@ fn run_case<R: Threads + Sync + Print>(
             Ok((nodes, edges)) => println!(rt; "nodes: {nodes}, edges: {edges}"),
             Err(fault) => println!(rt; "fault: {fault:?}"),
         };
+    }
+    if let Some(times) = times(case, "found ") {
+        let found = walk_module(alloc, text, times);
+        return print_walked(rt, found);
     }
     if let Some(times) = times(case, "read ") {
         let read = walk(alloc, text, times, false);

@@ -1,5 +1,6 @@
 //! The cases of Python modules.
 
+use graph_nodes::FileGraph;
 use py_graph::{TransFault, translate};
 use py_subset::{Module, PyFault, parse};
 use std::alloc::Global;
@@ -18,19 +19,17 @@ pub fn parsed(alloc: Global, text: &[u8], times: u32) -> Result<Module, PyFault>
 /// Reads the text and makes its graph so many times, and once at least: the last graph's numbers of
 /// nodes and edges.
 pub fn translated(alloc: Global, text: &[u8], times: u32) -> Result<(u32, u32), TransFault> {
-    let mut counts = graph_of(alloc, text)?;
+    let mut graph = module_graph(alloc, text)?;
     for _ in 1..times {
-        counts = graph_of(alloc, text)?;
+        graph = module_graph(alloc, text)?;
     }
-    Ok(counts)
+    Ok((graph.node_count(), graph.edge_count()))
 }
 
-fn graph_of(alloc: Global, text: &[u8]) -> Result<(u32, u32), TransFault> {
+/// The graph of the text as the module `module.py`.
+pub fn module_graph(alloc: Global, text: &[u8]) -> Result<FileGraph, TransFault> {
     match parsed(alloc, text, 1) {
-        Ok(module) => {
-            let graph = translate(alloc, "module.py", &module)?;
-            Ok((graph.node_count(), graph.edge_count()))
-        }
+        Ok(module) => translate(alloc, "module.py", &module),
         Err(_) => Err(TransFault::NoMemory),
     }
 }
