@@ -1,0 +1,3 @@
+from pkg.tools import Box as B
+b = B()
+b.size()
