@@ -11,6 +11,7 @@ pub record Pair : Type 0 where
   pub user : List ℕ
   pub prefix : List ℕ
 
+-- the pair of that user and prefix
 abbrev pub pair : List ℕ → List ℕ → Pair
 pair user prefix = record { user = user; prefix = prefix }
 

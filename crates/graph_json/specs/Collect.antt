@@ -5,6 +5,7 @@ use Rattle.graph_nodes.specs.declared.fault.GraphFault.TheVariants as GraphFault
 use Rattle.graph_json.specs.declared.fault.GraphTextFault.{GraphTextFault}
 use Rattle.graph_json.specs.declared.fault.GraphTextFault.TheVariants.{BadJson, BadShape, Graph, NoMemory, SameName, UnknownName}
 
+-- first the one, and then what follows from its value; the first fault ends it
 infixl 10 ◌>>=◌
 abbrev pub ◌>>=◌ : {A B : Type 0} → Result A GraphTextFault → (A → Result B GraphTextFault) → Result B GraphTextFault
 (Ok x) >>= f = f x

@@ -14,12 +14,14 @@ use Rattle.graph_json.specs.Pieces.{◌>>=◌, flag_in, text_in, optional_span}
 unfoldable pub scope_in : Data → Option NodeKind
 scope_in d = option_map Scope (flag_in (codes "exported") d)
 
+-- a `push`: a symbol, and whether it is a reference
 unfoldable pub push_in : Data → Option NodeKind
 push_in d = do
   reference ← flag_in (codes "reference") d
   symbol ← text_in (codes "symbol") d
   Some (Push symbol reference)
 
+-- a `push_scoped`: the same, with the scope that is attached to the symbol
 unfoldable pub push_scoped_in : Option ℕ → Data → Option NodeKind
 push_scoped_in scope d = do
   attached ← scope
@@ -27,12 +29,14 @@ push_scoped_in scope d = do
   symbol ← text_in (codes "symbol") d
   Some (PushScoped symbol attached reference)
 
+-- a `pop`: a symbol, and whether it is a definition
 unfoldable pub pop_in : Data → Option NodeKind
 pop_in d = do
   definition ← flag_in (codes "definition") d
   symbol ← text_in (codes "symbol") d
   Some (Pop symbol definition)
 
+-- a `pop_scoped`: the same members as those of a `pop`
 unfoldable pub pop_scoped_in : Data → Option NodeKind
 pop_scoped_in d = do
   definition ← flag_in (codes "definition") d

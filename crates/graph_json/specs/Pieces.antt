@@ -8,6 +8,7 @@ use Rattle.json_values.specs.Numbers.{only_if, u32_of}
 use Rattle.json_values.specs.Lists.{list_of}
 use Rattle.graph_nodes.specs.declared.node.Span.{Span}
 
+-- first the one, and then what follows from its value, where there is one
 infixl 10 ◌>>=◌
 abbrev pub ◌>>=◌ : {A B : Type 0} → Option A → (A → Option B) → Option B
 o >>= f = option_and_then f o

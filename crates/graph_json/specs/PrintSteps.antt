@@ -17,17 +17,21 @@ use Rattle.graph_json.specs.Printed.{name_text, kind_text, scope_of}
 
 -- ---- what the types say of the numbers
 
+-- the lines and columns of a span are numbers of 32 bits
 abbrev pub SpanFits : Span → Type 0
 SpanFits s = (s.from_line < 2 ^ 32) × (s.from_column < 2 ^ 32) × (s.to_line < 2 ^ 32) × (s.to_column < 2 ^ 32)
 
+-- so are the position of the scope that a node attaches, and the numbers of its span, where it has them
 abbrev pub NodeFits : Node → Type 0
 NodeFits node = IfSome (scope_of node.kind) (λ n. n < 2 ^ 32) × IfSome node.span SpanFits
 
+-- a place's position, where it has one, is a number of 32 bits
 abbrev pub PlaceFits : Place → Type 0
 PlaceFits Root = Unit {0}
 PlaceFits Jump = Unit {0}
 PlaceFits (At n) = n < 2 ^ 32
 
+-- an edge's ends are such places, and its precedence is a number of 16 bits
 abbrev pub EdgeFits : Edge → Type 0
 EdgeFits e = PlaceFits e.source × PlaceFits e.sink × (e.precedence < 2 ^ 16)
 

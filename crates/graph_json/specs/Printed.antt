@@ -29,6 +29,7 @@ with_value name None rest = rest
 
 -- ---- the pieces
 
+-- a number, in decimal digits
 abbrev pub number_json : ℕ → Json
 number_json n = number (decimal n)
 
@@ -41,11 +42,13 @@ abbrev pub position_json : Bool → ℕ → Json
 position_json true n = string (name_text n)
 position_json false n = number_json n
 
+-- an edge's end: the word for the root or for jump, or a node as others name it
 abbrev pub place_json : Bool → Place → Json
 place_json named Root = string (if named then codes "@root" else codes "root")
 place_json named Jump = string (if named then codes "@jump" else codes "jump")
 place_json named (At n) = position_json named n
 
+-- a span: the line and column of its start, then those of its end
 abbrev pub span_json : Span → Json
 span_json s = array (item (number_json s.from_line) (item (number_json s.from_column) (item (number_json s.to_line) (item (number_json s.to_column) no_items))))
 
@@ -95,9 +98,11 @@ abbrev pub nodes_json : Bool → ℕ → List Node → Items
 nodes_json named n [] = no_items
 nodes_json named n (node ∷ rest) = item (node_json named n node) (nodes_json named (n + 1) rest)
 
+-- an edge: its source, its sink and its precedence
 abbrev pub edge_json : Bool → Edge → Json
 edge_json named e = array (item (place_json named e.source) (item (place_json named e.sink) (item (number_json e.precedence) no_items)))
 
+-- the edges, in their order
 abbrev pub edges_json : Bool → List Edge → Items
 edges_json named [] = no_items
 edges_json named (e ∷ es) = item (edge_json named e) (edges_json named es)

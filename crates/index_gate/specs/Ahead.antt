@@ -20,5 +20,6 @@ pub record IsDone (doc : Doc) (done : Done) : Type 0 where
 abbrev pub IsSlotOf : List Doc → Slot → Type 0
 IsSlotOf docs slot = IfSome slot.done (λ done. (doc : Doc) × (slice_get docs slot.place ≡ Some doc) × IsDone doc done)
 
+-- the same of each of the slots
 abbrev pub AreSlotsOf : List Doc → List Slot → Type 0
 AreSlotsOf docs slots = (i : ℕ) (other : Slot) → i < length slots → IsSlotOf docs (slice_index_or slots i other)

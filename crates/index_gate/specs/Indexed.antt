@@ -38,6 +38,7 @@ is_graph_memory (graph.BadEnd n) = false
 is_graph_memory (graph.JumpSource n) = false
 is_graph_memory (graph.BadScope n) = false
 
+-- the same of a fault of a graph's text
 abbrev pub is_text_memory : GraphTextFault → Bool
 is_text_memory text.NoMemory = true
 is_text_memory (text.Graph fault) = is_graph_memory fault
@@ -46,6 +47,7 @@ is_text_memory (text.BadShape part) = false
 is_text_memory (text.SameName n) = false
 is_text_memory (text.UnknownName part) = false
 
+-- the same of a fault of a Python text
 abbrev pub is_python_memory : PyFault → Bool
 is_python_memory python.NoMemory = true
 is_python_memory (python.NotAscii n) = false
@@ -55,12 +57,14 @@ is_python_memory (python.Unsupported n) = false
 is_python_memory (python.Expected n) = false
 is_python_memory (python.TooDeep n) = false
 
+-- the same of a fault of a translation
 abbrev pub is_table_memory : TransFault → Bool
 is_table_memory table.NoMemory = true
 is_table_memory table.BadName = false
 is_table_memory (table.TooManyNodes n) = false
 is_table_memory (table.TooManyEdges n) = false
 
+-- the same of any fault of a file
 abbrev pub is_memory : FileFault → Bool
 is_memory UnknownKind = false
 is_memory (TooLarge n) = false

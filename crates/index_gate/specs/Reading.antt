@@ -51,5 +51,6 @@ pub record AddsOne (held : List Doc) (doc : Doc) (old new : List Kept) (before a
   pub pairs : new ≡ old ++ kept_of doc file ∷ []
   pub steps : CountsWalks file before after
 
+-- the document adds nothing, or one to the store
 abbrev pub Adds : List Doc → Doc → List Kept → List Kept → ℕ → ℕ → Type 0
 Adds held doc old new before after = AddsNone held doc old new before after ⊎ AddsOne held doc old new before after

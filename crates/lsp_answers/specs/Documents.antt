@@ -13,6 +13,7 @@ names_module path = is_path path && ends_with (λ a b. a == b) path (codes ".py"
 abbrev pub is_module : List ℕ → Bool
 is_module path = is_utf8 path && names_module path
 
+-- the path, where it is one of a module
 abbrev pub module_path : List ℕ → Option (List ℕ)
 module_path path = if is_module path then Some path else None
 

@@ -87,10 +87,12 @@ pub record IsUnion (files : List GraphRow) (root : List ℕ) (texts : Texts) (ta
   pub in_order : AreInOrder (if declaration then all ++ targets else all) rows
   pub told : outcome ≡ located root texts rows
 
+-- an editor is told of those, or is refused where the references of a target are crowded
 abbrev pub TellsTargets : List GraphRow → List ℕ → Texts → List Row → Bool → Outcome → Type 0
 TellsTargets files root texts targets declaration outcome =
     IsUnion files root texts targets declaration outcome ⊎ (IsCrowdedOne files targets × (outcome ≡ Refused Crowded))
 
+-- what an editor is told of the references at a place: those of its targets, or why there are no targets
 pub record TellsReferences (files : List GraphRow) (root : List ℕ) (texts : Texts) (declaration : Bool) (path : List ℕ) (at : At) (outcome : Outcome) : Type 0 where
   pub targets : Result (List Row) AskFault
   pub exact : AreTargets files path at targets

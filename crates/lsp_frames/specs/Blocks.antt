@@ -13,6 +13,7 @@ block_max = 4096
 abbrev pub line_end : List ℕ
 line_end = 13 ∷ 10 ∷ []
 
+-- whether the text ends with an end of a line
 abbrev pub ends_line : List ℕ → Bool
 ends_line text = ends_with (λ a b. a == b) text line_end
 
@@ -33,6 +34,7 @@ block_len input = least (λ n. ends_block (take n input)) (min (length input) bl
 abbrev pub without_end : List ℕ → List ℕ
 without_end text = take (length text - 2) text
 
+-- the lines that have an end; what follows the last end is no line
 abbrev pub lines_from : List ℕ → List ℕ → List (List ℕ)
 lines_from begun [] = []
 lines_from begun (byte ∷ more) =
@@ -44,12 +46,15 @@ lines_from begun (byte ∷ more) =
 abbrev pub is_length_name : List ℕ → Bool
 is_length_name name = bytes_eq (map to_ascii_lowercase name) (codes "content-length")
 
+-- a colon
 abbrev pub is_colon : ℕ → Bool
 is_colon byte = byte == 58
 
+-- any byte but a space
 abbrev pub is_no_space : ℕ → Bool
 is_no_space byte = not (byte == 32)
 
+-- any byte but a decimal digit
 abbrev pub is_no_digit : ℕ → Bool
 is_no_digit byte = not (nat_le 48 byte && nat_le byte 57)
 
@@ -62,9 +67,11 @@ abbrev pub number_at_front : ℕ → List ℕ → Option ℕ
 number_at_front n value =
     if nat_le 1 n && is_none (position is_no_space (drop n value)) then Some (number (take n value)) else None
 
+-- a value without the spaces in front of it
 abbrev pub without_spaces : List ℕ → List ℕ
 without_spaces value = drop (position_or_len is_no_space value) value
 
+-- the number that a value is
 abbrev pub length_of : List ℕ → Option ℕ
 length_of value = number_at_front (position_or_len is_no_digit (without_spaces value)) (without_spaces value)
 
@@ -73,6 +80,7 @@ abbrev pub value_behind : Option ℕ → List ℕ → Option (List ℕ)
 value_behind None line = None
 value_behind (Some n) line = if is_length_name (take n line) then Some (drop (n + 1) line) else None
 
+-- the same, by the line's own first colon
 abbrev pub value_in : List ℕ → Option (List ℕ)
 value_in line = value_behind (position is_colon line) line
 
@@ -86,5 +94,6 @@ only_one [] = None
 only_one (stated ∷ []) = stated
 only_one (stated ∷ other ∷ others) = None
 
+-- the length that the lines of the block state
 abbrev pub stated_length : List ℕ → Option ℕ
 stated_length block = only_one (lengths_in (lines_from [] block))

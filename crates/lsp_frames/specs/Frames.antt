@@ -33,6 +33,7 @@ abbrev pub cut_block : Option ℕ → List ℕ → Cut
 cut_block None input = if nat_lt (length input) block_max then Unfinished else Malformed
 cut_block (Some n) input = cut_stated (stated_length (take n input)) (drop n input)
 
+-- what stands at the front of an input; where it is empty, nothing
 abbrev pub cut : List ℕ → Cut
 cut [] = Nothing
 cut (byte ∷ more) = cut_block (block_len (byte ∷ more)) (byte ∷ more)

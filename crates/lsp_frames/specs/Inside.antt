@@ -74,8 +74,11 @@ behind (Some place) input = drop place.to input
 
 -- What a search of the first frame leaves of a reader, where left became left':
 pub record Finds (old mid : Reading) (left left' : Option (List ℕ)) : Type 0 where
+  -- no byte is lost
   pub kept : prepend_known mid.front left' ≡ prepend_known old.front left
+  -- behind the end nothing is read
   pub past_end : old.ended ≡ true → (mid.front ≡ old.front) × (left' ≡ left) × (mid.ended ≡ true)
+  -- the end was met before, or the source has nothing left
   pub at_end : mid.ended ≡ true → (old.ended ≡ true) ⊎ IsAtEnd left'
 
 -- a fault of the source or want of memory came where no whole frame was taken and the end wasn't met
@@ -107,6 +110,7 @@ IsWhy NoMemory mid = Unit {0}
 IsWhy Broken mid = (body_of (cut mid.front) ≡ Err Broken) × (is_short (cut mid.front) ≡ true → mid.ended ≡ true)
 IsWhy TooLong mid = cut mid.front ≡ Large
 
+-- the first frame was looked for: the input ended, or its body stands there, or it is told why none was found
 pub record FindsFrame (old mid : Reading) (left left' : Option (List ℕ)) (result : Result (Option Place) FrameError) : Type 0 where
   pub finds : Finds old mid left left'
   pub found : MatchResult result

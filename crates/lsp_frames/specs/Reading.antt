@@ -31,6 +31,7 @@ pub record AfterFrame (old new : Reading) (left left' next : Option (List ℕ)) 
 pub record AfterFrameError (old new : Reading) (left left' : Option (List ℕ)) (error : FrameError) : Type 0 where
   -- no byte is lost
   pub kept : prepend_known new.front left' ≡ prepend_known old.front left
+  -- a source of which the reader met the end has nothing left
   pub at_end : (IsTrue old.ended → IsAtEnd left) → IsTrue new.ended → IsAtEnd left'
   -- a fault comes only where what was taken is nothing or a beginning of a frame, and the end wasn't met
   pub fault : error ≡ ReadFault → (is_short (cut new.front) ≡ true) × (new.ended ≡ false)

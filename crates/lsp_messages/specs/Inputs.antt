@@ -32,6 +32,7 @@ is_exit_body body.Invalid = false
 is_exit_body body.Passed = false
 is_exit_body (body.Message m) = is_none m.id && asks_exit m.asks
 
+-- the same of the bytes of a body
 abbrev pub is_exit : List ℕ → Bool
 is_exit bytes = is_exit_body (body_from bytes)
 
@@ -79,6 +80,7 @@ ending_with Large behind = AtLarge
 ending_with Unfinished behind = AtBroken
 ending_with (Frame bytes rest) behind = if is_exit bytes then AtExit else behind
 
+-- why no more messages of an input are to be answered, where at most so many may be
 unfoldable pub ending : ℕ → List ℕ → Ending
 ending zero input = ending_full (cut input)
 ending (suc n) input = ending_with (cut input) (ending n (rest_of (cut input)))

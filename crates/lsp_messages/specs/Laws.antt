@@ -7,6 +7,7 @@ pub record StandsBehind (done : List (List ℕ)) (input rest : List ℕ) (n : �
   pub messages : to_answer (length done + n) input ≡ done ++ to_answer n rest
   pub ends : ending (length done + n) input ≡ ending n rest
 
+-- messages at the front of an input, with no `exit` among them, stand so before what follows them
 abbrev pub StandInTurn : Type 0
 StandInTurn =
     (done : List (List ℕ)) (input rest : List ℕ) (n : ℕ) → AreFrames done input rest → HaveNoExit done → StandsBehind done input rest n

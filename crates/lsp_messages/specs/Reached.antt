@@ -14,6 +14,7 @@ AreFirst some all = (more : List (List ℕ)) × (some ++ more ≡ all)
 pub record HasRead (done : List (List ℕ)) (input : Option (List ℕ)) (reader : Reading) (left : Option (List ℕ)) : Type 0 where
   pub taken : List ℕ
   pub frames : AreFrames done taken []
+  -- the frames and what is in front are all that was taken of the input
   pub kept : prepend_known (taken ++ reader.front) left ≡ input
   pub at_end : IsTrue reader.ended → IsAtEnd left
 

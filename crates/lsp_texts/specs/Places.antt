@@ -12,6 +12,7 @@ use Rattle.lsp_texts.specs.Texts.{Texts, uri_under}
 abbrev pub units_before : List ℕ → ℕ → ℕ → ℕ
 units_before text line column = option_map_or (λ (bytes : List ℕ). units_in (take column bytes)) (line_at text line) 0
 
+-- the place of a line and a column in bytes, as editors count it
 abbrev pub position_in : List ℕ → ℕ → ℕ → Position
 position_in text line column = record { line = line; character = units_before text line column }
 

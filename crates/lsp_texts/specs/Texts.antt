@@ -9,6 +9,7 @@ use Rattle.lsp_texts.specs.declared.open_texts.OpenTexts.{OpenTexts}
 abbrev pub Texts : Type 0
 Texts = List ℕ → Option (List ℕ)
 
+-- no path has a text
 abbrev pub no_texts : Texts
 no_texts path = None
 

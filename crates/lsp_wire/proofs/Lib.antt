@@ -1,2 +1,4 @@
+-- Which clause rests on which file. `uri_of_path` and the law `uris_name_their_paths` on Escapes. `print_reply`,
+-- where it tells locations, on Joining.
 pub mod Escapes
 pub mod Joining

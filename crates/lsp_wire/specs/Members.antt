@@ -8,6 +8,7 @@ use Rattle.lsp_wire.specs.declared.message.Id.{Id}
 use Rattle.lsp_wire.specs.declared.message.Id.TheVariants.{Text, Number}
 use Rattle.lsp_wire.specs.declared.message.Position.{Position}
 
+-- first the one, and then what follows from its value, where there is one
 infixl 10 ◌>>=◌
 abbrev pub ◌>>=◌ : {A B : Type 0} → Option A → (A → Option B) → Option B
 o >>= f = option_and_then f o
@@ -21,6 +22,7 @@ abbrev pub has_32_bits : ℤ → Bool
 has_32_bits (pos n) = nat_lt n 2147483648
 has_32_bits (negsuc n) = nat_lt n 2147483648
 
+-- the number of a value, where it is such a one
 abbrev pub i32_of : Data → Option ℤ
 i32_of d = option_and_then (λ z. if has_32_bits z then Some z else None) (option_and_then as_i64 (as_number d))
 

@@ -44,6 +44,7 @@ abbrev pub text_after : Option (List ℕ) → List Data → Option (Option (List
 text_after last [] = Some last
 text_after last (d ∷ ds) = option_and_then (λ text. text_after (Some text) ds) (change_of d)
 
+-- a document is changed: its URI and the text that the last change leaves, if there is a change
 unfoldable pub changed : Data → Option Asks
 changed params = do
   uri ← uri_in params

@@ -23,6 +23,7 @@ is_escaped (byte ∷ more) = (not (byte == percent_sign) || has_digits more) && 
 abbrev pub unescaped : List ℕ → Option (List ℕ)
 unescaped path = if is_escaped path then Some (percent_decode path) else None
 
+-- the path of the whole URI; none where the URI has another form
 abbrev pub decoded : List ℕ → Option (List ℕ)
 decoded uri = option_and_then unescaped (behind (codes "file://") uri)
 
@@ -30,6 +31,7 @@ decoded uri = option_and_then unescaped (behind (codes "file://") uri)
 abbrev pub is_between : ℕ → ℕ → ℕ → Bool
 is_between low high byte = nat_le low byte && nat_le byte high
 
+-- whether a byte is one of those
 abbrev pub is_plain : ℕ → Bool
 is_plain byte = is_between 65 90 byte || is_between 97 122 byte || is_between 48 57 byte
     || (byte == 45) || (byte == 46) || (byte == 95) || (byte == 126) || (byte == 47)
@@ -38,6 +40,7 @@ is_plain byte = is_between 65 90 byte || is_between 97 122 byte || is_between 48
 abbrev pub escaped : ℕ → List ℕ
 escaped byte = if is_plain byte then byte ∷ [] else percent_encode_byte byte
 
+-- the URI, from its first byte on
 abbrev pub encoded : List ℕ → List ℕ
 encoded path = codes "file://" ++ flat_map escaped path
 
@@ -54,6 +57,7 @@ abbrev pub or_empty : Option (List ℕ) → List ℕ
 or_empty None = []
 or_empty (Some path) = path
 
+-- the root of the URI that a client may name
 abbrev pub root_of : Option (List ℕ) → List ℕ
 root_of uri = or_empty (option_map without_slash (option_and_then decoded uri))
 

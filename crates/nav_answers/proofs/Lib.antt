@@ -1,3 +1,10 @@
+-- Which clause rests on which file; each query has one clause. `define`: on Told, which puts the reply together, on
+-- Exact and Kept, which have its definitions and where their runs end. `references`: on Referred, which puts the
+-- reply together, on Asked, which has all references in order, and Shared, what several threads tell of them.
+-- `references_of_any`: on United too, which Referred serves.
+-- All of these: on Own, what the files of a view offer to a search, on Numbers, which number a file has, and on
+-- Pointed, which node is meant; `definition_at` on the last two. `queries_have_one_reply` on OneReply. Numbers is
+-- also for `lsp_answers`.
 pub mod Numbers
 pub mod Pointed
 pub mod Own

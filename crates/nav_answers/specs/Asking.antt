@@ -52,6 +52,7 @@ pub record IsToldFrom (bounds : Bounds) (files : List Graph) (definitions : List
   pub limit : IsTrue told.limit ↔ HasLimit bounds files c
   pub few : IsCrowded bounds files c → ⊥
 
+-- the paths of the reference have a start, and from there what was told of it is so
 abbrev pub IsTold : Bounds → List Graph → List Hit → Told → Type 0
 IsTold bounds files definitions told =
     IsSomeAnd (start files told.reference) (IsToldFrom bounds files definitions told)
@@ -90,6 +91,7 @@ abbrev pub hit_at : Result NodeAt AskFault → Option Hit
 hit_at (Ok node) = Some (hit_of node)
 hit_at (Err fault) = None
 
+-- the definition that a row names by its path and node
 abbrev pub definition_named : List GraphRow → Row → Option Hit
 definition_named files row = hit_at (meant is_definition_kind NoDefinition files row.path (at.Node row.node))
 
@@ -101,6 +103,7 @@ definitions_named files rows = filter_map (definition_named files) rows
 pub record IsShare (so : Told → Type 0) (all : List NodeAt) (step first : ℕ) (told : List Told) : Type 0 where
   pub asked : (k : ℕ) (t : Told) → slice_get told k ≡ Some t → slice_get all (k * step + first) ≡ Some t.reference
   pub each : All so told
+  -- none of these places is left out
   pub whole : length all ≤ length told * step + first
 
 -- what one thread tells in the end: that, or its fault

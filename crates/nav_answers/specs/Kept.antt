@@ -41,6 +41,7 @@ end_of p = hit_of p.end
 abbrev pub ends_in : List Graph → List (List EdgeStep) → List EdgePath → List Hit
 ends_in files paths runs = map end_of (filter (λ (p : EdgePath). stays paths (run_path files p)) runs)
 
+-- where those of the runs end that none of them shadows
 abbrev pub ends_of : List Graph → List EdgePath → List Hit
 ends_of files runs = ends_in files (run_paths files runs) runs
 

@@ -19,6 +19,7 @@ pub record Seen : Type 0 where
   pub rows : List FileRow
   pub paths : List RootPath
 
+-- what is seen, of these rows and paths
 abbrev pub seen_of : List FileRow → List RootPath → Seen
 seen_of rows paths = record { rows = rows; paths = paths }
 

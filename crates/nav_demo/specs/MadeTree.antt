@@ -41,6 +41,7 @@ symbol letter n = letter ++ decimal n
 abbrev pub plain_node : NodeKind → Node
 plain_node kind = record { kind = kind; span = None }
 
+-- a definition of `d` with k, a reference to `a` with j, and for `a` with k what puts `d` with t in its place
 abbrev pub made_nodes : ℕ → ℕ → ℕ → List Node
 made_nodes k j t =
     plain_node (Pop (symbol (codes "d") k) true)
@@ -53,6 +54,7 @@ made_nodes k j t =
 abbrev pub plain_edge : Place → Place → Edge
 plain_edge source sink = record { source = source; sink = sink; precedence = 0 }
 
+-- the root leads to its `d` and its `a`, its `a` leads on to `d` with t, and this and the reference lead to the root
 abbrev pub made_edges : List Edge
 made_edges =
     plain_edge Root (At 0)
@@ -93,6 +95,7 @@ commit_count files = (files + 63) / 64
 abbrev pub made_commits : ℕ → ℕ → ℕ → List Request
 made_commits files start count = map (made_commit files start) (range_with_len 0 count)
 
+-- all requests that commit the tree
 abbrev pub committing : ℕ → ℕ → List Request
 committing files start = request.Hello (codes "operator") ∷ made_commits files start (commit_count files)
 

@@ -31,6 +31,7 @@ is_crowded_error NoReference = false
 is_crowded_error NoDefinition = false
 is_crowded_error Crowded = true
 
+-- whether a reply is that error
 abbrev pub is_crowded : Reply → Bool
 is_crowded (Version n) = false
 is_crowded Done = false
@@ -81,6 +82,7 @@ rows_of (BadFile path fault) = []
 abbrev pub digit_at : List ℕ → ℕ → ℕ
 digit_at path n = get_or path n 48 - 48
 
+-- the number of the digits behind the first letter
 abbrev pub number_in : List ℕ → ℕ
 number_in path = digit_at path 1 * 1000 + digit_at path 2 * 100 + digit_at path 3 * 10 + digit_at path 4
 
@@ -129,6 +131,7 @@ abbrev pub first_members : ℕ → Totals → List ℕ
 first_members files t =
     concat (codes "{\"crowded\":" ∷ decimal t.crowded ∷ codes ",\"files\":" ∷ decimal files ∷ codes ",\"limited\":" ∷ decimal t.limited ∷ [])
 
+-- the whole line
 abbrev pub summary_text : ℕ → Totals → List ℕ
 summary_text files t =
     concat (first_members files t ∷ codes ",\"references\":" ∷ decimal t.references ∷ codes ",\"rows\":" ∷ decimal t.rows

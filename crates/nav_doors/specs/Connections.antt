@@ -17,6 +17,7 @@ pub record Outside (D S K : Type 0) : Type 0 where
   pub held : K → Option (List ℕ)
   pub sink_faults : K → ℕ
 
+-- what is read of them, by these functions
 abbrev pub outside : {D S K : Type 0} → (D → Option (List (S × K))) → (D → Option (List (S × K))) → (D → ℕ)
     → (S → Option (List ℕ)) → (S → ℕ) → (K → Option (List ℕ)) → (K → ℕ) → Outside D S K
 outside gave got_back faults left source_faults held sink_faults = record {

@@ -14,6 +14,7 @@ pub record House (D : Type 0) : Type 0 where
   pub got_back : Option (List D)
   pub faults : ℕ
 
+-- the house that gave and got back these, with so many faults
 abbrev pub house_with : {D : Type 0} → Option (List D) → Option (List D) → ℕ → House D
 house_with gave got_back faults = record { gave = gave; got_back = got_back; faults = faults }
 

@@ -32,9 +32,11 @@ pub record AfterError (old new : Reading) (left left' : Option (List ℕ)) (erro
   -- no byte is lost
   pub kept : prepend_known new.front left' ≡ prepend_known old.front left
   pub same_end : new.ended ≡ old.ended
+  -- a source of which the reader met the end has nothing left
   pub at_end : (IsTrue old.ended → IsAtEnd left) → IsTrue new.ended → IsAtEnd left'
   -- a fault comes only where no line is in front and the end wasn't met
   pub fault : error ≡ ReadFault → (line_len new.front ≡ length new.front) × (new.ended ≡ false)
+  -- a line that is too long is in front
   pub too_long : error ≡ TooLong → line_max < line_len new.front
 
 -- the first line in front is whole: a newline ends it, or the end was met
@@ -70,6 +72,7 @@ pub record AfterBytes (n : ℕ) (old new : Reading) (left left' next : Option (L
   pub kept : prepend_known (bytes_or_none next ++ new.front) left' ≡ prepend_known old.front left
   -- without the bytes, fewer are in front and the end was met
   pub none : next ≡ None → (length new.front < n) × IsTrue new.ended
+  -- a source of which the reader met the end has nothing left
   pub at_end : (IsTrue old.ended → IsAtEnd left) → IsTrue new.ended → IsAtEnd left'
 
 -- After an error in place of n bytes, where left became left':
@@ -77,6 +80,7 @@ pub record AfterBytesError (n : ℕ) (old new : Reading) (left left' : Option (L
   -- no byte is lost
   pub kept : prepend_known new.front left' ≡ prepend_known old.front left
   pub same_end : new.ended ≡ old.ended
+  -- a source of which the reader met the end has nothing left
   pub at_end : (IsTrue old.ended → IsAtEnd left) → IsTrue new.ended → IsAtEnd left'
   -- a fault comes only where fewer are in front and the end wasn't met
   pub fault : error ≡ ReadFault → (length new.front < n) × (new.ended ≡ false)

@@ -1,3 +1,6 @@
+-- Which clause rests on which file. `serve_lsp`: served and seat on Served, with Named where the session begins and
+-- Turned for each message; Later serves Served. `answer_message`: what comes of a document that is opened, changed
+-- or closed, on Put, and of the commit that it makes, on Committed. CallerLemmas is for `nav_serve`.
 mod Committed
 mod Put
 mod Later

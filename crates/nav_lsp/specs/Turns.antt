@@ -39,6 +39,7 @@ pub record Spot : Type 0 where
   pub reader : Reading
   pub left : Option (List ℕ)
 
+-- what is seen, of these parts
 abbrev pub spot : ℕ → List Entry → ℕ → Editor → Reading → Option (List ℕ) → Spot
 spot seat log pin editor reader left = record { seat = seat; log = log; pin = pin; editor = editor; reader = reader; left = left }
 
@@ -93,6 +94,7 @@ status_of_end shut Input = 0
 status_of_end shut Exit = if shut then 0 else 1
 status_of_end shut Full = 7
 
+-- the status of that end, or of why it couldn't be told
 abbrev pub status_at_end : Bool → Result End Halt → ℕ
 status_at_end shut (Ok end) = status_of_end shut end
 status_at_end shut (Err reason) = status_of reason

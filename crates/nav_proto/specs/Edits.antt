@@ -9,6 +9,7 @@ use Rattle.nav_proto.specs.declared.request.FileEdit.{FileEdit}
 use Rattle.nav_proto.specs.declared.request.FileEdit.TheVariants.{Put, Remove}
 use Rattle.nav_proto.specs.Texts.{text_of, is_path}
 
+-- first the one, and then what follows from its value, where there is one
 infixl 10 ◌>>=◌
 abbrev pub ◌>>=◌ : {A B : Type 0} → Option A → (A → Option B) → Option B
 o >>= f = option_and_then f o

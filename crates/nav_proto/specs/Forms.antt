@@ -3,6 +3,7 @@ use Rattle.std.specs.Prelude.{ℕ, List, [], ◌∷◌, codes}
 use Rattle.nav_proto.specs.declared.members.Form.{Form}
 use Rattle.nav_proto.specs.declared.members.Form.TheVariants.{Bare, User, Commit, Rule, NodeQuery, PlaceQuery, Put, Remove, NodeLine}
 
+-- the names of the members that the form may have
 abbrev pub names_of : Form → List (List ℕ)
 names_of Bare = codes "do" ∷ []
 names_of User = codes "do" ∷ codes "user" ∷ []

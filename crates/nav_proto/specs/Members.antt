@@ -6,6 +6,7 @@ use Rattle.json_values.specs.Members.{is_among, other_in}
 use Rattle.nav_proto.specs.declared.proto_fault.ProtoFault.{ProtoFault}
 use Rattle.nav_proto.specs.declared.proto_fault.ProtoFault.TheVariants.{BadRequest}
 
+-- first the one, and then what follows from its value; the first fault ends it
 infixl 10 ◌>>=◌
 abbrev pub ◌>>=◌ : {A B : Type 0} → Result A ProtoFault → (A → Result B ProtoFault) → Result B ProtoFault
 (Ok x) >>= f = f x
@@ -20,6 +21,7 @@ abbrev pub read_or : {A : Type 0} → (Data → Option A) → A → Option Data 
 read_or read default None = Some default
 read_or read default (Some d) = read d
 
+-- what the member that may be absent is, or the fault that names it where it isn't read
 abbrev pub optional_field : {A : Type 0} → List ℕ → (Data → Option A) → A → Data → Result A ProtoFault
 optional_field name read default d = ok_or (read_or read default (get name d)) (BadRequest name)
 

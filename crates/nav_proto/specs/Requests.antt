@@ -41,6 +41,7 @@ rule_in d = do
   prefix ← field (codes "prefix") (text_of is_prefix) d
   with_only (codes "do" ∷ codes "user" ∷ codes "prefix" ∷ []) d (user, prefix)
 
+-- the request that is made of such a user and prefix
 abbrev pub rule_of : (List ℕ → List ℕ → Request) → Data → Result Request ProtoFault
 rule_of make d = rule_in d >>= (λ r. Ok (make r.0 r.1))
 
@@ -50,12 +51,14 @@ node_point d = do
   node ← field (codes "node") u32_of d
   Ok (Node node)
 
+-- a line and a column
 unfoldable pub place_point : Data → Result Point ProtoFault
 place_point d = do
   line ← field (codes "line") u32_of d
   column ← field (codes "column") u32_of d
   Ok (LineColumn line column)
 
+-- the node, where the object has that member, else the line and column
 abbrev pub point_of : Data → Result Point ProtoFault
 point_of d = if is_some (get (codes "node") d) then node_point d else place_point d
 
@@ -81,6 +84,7 @@ query_in d = do
   bounds ← bounds_of d
   with_only (query_names d) d (path, (point, bounds))
 
+-- the request that is made of such a path, place and bounds
 abbrev pub query_of : (List ℕ → Point → Bounds → Request) → Data → Result Request ProtoFault
 query_of make d = query_in d >>= (λ q. Ok (make q.0 q.1.0 q.1.1))
 

@@ -1,3 +1,7 @@
+-- Which clause rests on which file. `run`: does, statuses and complete on CallerLemmas, where memory for the words
+-- is refused; what `serve` asks of a house, on Spelled. `perform`: does on Writing, from the text: of `once` on
+-- Replies (with Found for the rows), of `upgrade` on Upgraded. FirstLine serves both, BothLines Replies.
+-- `command_of` on CommandLine, with Hyphens and, for the parser, Builders. CallerLemmas is also for `navd`.
 pub mod FirstLine
 pub mod BothLines
 pub mod Replies

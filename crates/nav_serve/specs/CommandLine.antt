@@ -61,6 +61,7 @@ chosen name rows =
     else if bytes_eq name (codes "serve") then serve_of (number_at (codes "port") rows) (number_at (codes "doors") rows) (number_at (codes "connections") rows)
     else command_named name
 
+-- the same, where there is a subcommand
 abbrev pub chosen_of : Option (Text × List Row) → Option Command
 chosen_of None = None
 chosen_of (Some found) = chosen found.0 found.1

@@ -32,6 +32,7 @@ abbrev pub zero_alone : List ℕ → Option ℕ
 zero_alone [] = Some 0
 zero_alone (byte ∷ bytes) = None
 
+-- the number of the word, if it has that form
 abbrev pub number_of : List ℕ → Option ℕ
 number_of [] = None
 number_of (byte ∷ bytes) = if byte == 48 then zero_alone bytes else spelled 0 (byte ∷ bytes)

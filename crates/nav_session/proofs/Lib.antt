@@ -1,9 +1,13 @@
+-- Which clause rests on which file. `answer_line` and `reply_to`: reply on Asked (who may ask), Seen (`hello` and
+-- `pin`), Judged (changes) and Committed (commits). That a swept desk still has its documents in order, on Kept.
+-- `serve_session`: served and seat on UnderWay, with Turned where no line was answered; Seen, Longer, Passed and
+-- Reached serve UnderWay. `lines_have_one_script` on OneScript, which Plain and Alike serve.
+-- CallerLemmas is for `nav_demo`, `nav_lsp` and `nav_serve`.
 mod Kept
 mod Seen
 mod Judged
 mod Asked
 mod Committed
-mod Lines
 mod Plain
 mod Alike
 mod OneScript

@@ -54,6 +54,7 @@ is_accepted (TooManyFiles files) = false
 is_accepted (TooHeavy weight) = false
 is_accepted (BadFile path fault) = false
 
+-- whether the error is that the numbers of versions are used up
 abbrev pub is_spent : PlainError → Bool
 is_spent BadJson = false
 is_spent NoUser = false
@@ -64,6 +65,7 @@ is_spent NoReference = false
 is_spent NoDefinition = false
 is_spent Crowded = false
 
+-- whether the documents of a commit with this reply were indexed: it was accepted, or its edits were refused
 abbrev pub is_indexed : Reply → Bool
 is_indexed (Version n) = true
 is_indexed Done = false
@@ -98,6 +100,7 @@ KeepsDocs (request.Define path point bounds) reply old new = new ≡ old
 KeepsDocs (request.References path point bounds) reply old new = new ≡ old
 KeepsDocs request.Quit reply old new = new ≡ old
 
+-- the same of a line that was read: one that is no request makes nothing of the store
 abbrev pub KeepsDocsOf : Result Request ProtoFault → Reply → List Kept → List Kept → Type 0
 KeepsDocsOf (Ok request) reply old new = KeepsDocs request reply old new
 KeepsDocsOf (Err fault) reply old new = new ≡ old
@@ -109,6 +112,7 @@ pub record Moment : Type 0 where
   pub pin : ℕ
   pub desk : OnDesk
 
+-- the moment of these parts
 abbrev pub moment : ℕ → List Entry → ℕ → OnDesk → Moment
 moment seat log pin desk = record { seat = seat; log = log; pin = pin; desk = desk }
 

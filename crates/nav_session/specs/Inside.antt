@@ -38,6 +38,7 @@ filled (Remove path ∷ drafts) files = edit.Remove path ∷ filled drafts files
 
 -- edits came before the board, and the store was swept where they were accepted
 pub record PutsIn (base : Option ℕ) (edits : List Edit) (old new : Moment) (reply : Reply) : Type 0 where
+  -- what becomes of them is told for the user who is named
   pub judged : (user : List ℕ) → old.desk.user ≡ Some user
       → IsJudged old.seat new.log (length old.log) (asker_of old.pin user) base edits reply (session_of new)
   pub no_entry : is_accepted reply ≡ false → own old.seat new.log ≡ own old.seat old.log
@@ -48,10 +49,12 @@ pub record PutsIn (base : Option ℕ) (edits : List Edit) (old new : Moment) (re
 
 -- a commit of a user that may change anything was answered
 pub record CommitsAs (base : Option ℕ) (edits : List FileEdit) (old new : Moment) (reply : Reply) : Type 0 where
+  -- what becomes of the commit is told for the user who is named
   pub committed : (user : List ℕ) → old.desk.user ≡ Some user
       → IsCommitted old.seat new.log (session_of old) (asker_of old.pin user) base edits reply (session_of new)
   pub no_entry : is_accepted reply ≡ false → own old.seat new.log ≡ own old.seat old.log
   pub store : MatchBool (is_indexed reply) (AddsDocs (docs_in edits) reply old.desk.store new.desk.store) (new.desk.store ≡ old.desk.store)
+  -- no view is kept, or all is as it was that the view depends on
   pub view : (new.desk.view ≡ None) ⊎ ((new.log ≡ old.log) × (new.pin ≡ old.pin) × (new.desk.view ≡ old.desk.view) × (new.desk.user ≡ old.desk.user))
 
 -- a request was answered with this text

@@ -51,6 +51,7 @@ abbrev pub docs_of_read : Result Request ProtoFault → List Doc
 docs_of_read (Ok request) = docs_of_request request
 docs_of_read (Err fault) = []
 
+-- the documents that the text of a line puts
 abbrev pub docs_of_line : List ℕ → List Doc
 docs_of_line line = docs_of_read (request_from line)
 
@@ -72,6 +73,7 @@ abbrev pub is_quit_read : Result Request ProtoFault → Bool
 is_quit_read (Ok request) = ends_session request
 is_quit_read (Err fault) = false
 
+-- the same of the text of a line
 abbrev pub is_quit : List ℕ → Bool
 is_quit line = is_quit_read (request_from line)
 

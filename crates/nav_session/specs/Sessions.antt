@@ -31,6 +31,7 @@ pub record Asker : Type 0 where
   pub user : List ℕ
   pub pin : ℕ
 
+-- the user who asks, with so many entries pinned
 abbrev pub asker_of : ℕ → List ℕ → Asker
 asker_of pin user = record { user = user; pin = pin }
 
@@ -83,6 +84,7 @@ pub record Accepts (seat : ℕ) (log : List Entry) (seen : ℕ) (asker : Asker) 
   pub told : reply ≡ Version (head + 1)
   pub pinned : after ≡ asked_by (head + 1) asker.user (head + 1)
 
+-- what becomes of edits: a head refuses them, or takes them
 abbrev pub IsJudged : ℕ → List Entry → ℕ → Asker → Option ℕ → List Edit → Reply → Session → Type 0
 IsJudged seat log seen asker base edits reply after =
     Refuses seat log seen asker base edits reply after ⊎ Accepts seat log seen asker base edits reply after
@@ -101,6 +103,7 @@ pub record HasFiles (seat : ℕ) (log : List Entry) (seen : ℕ) (asker : Asker)
   pub indexed : AreFilesOf (docs_in edits) files
   pub judged : IsJudged seat log seen asker base (edits_with edits files) reply after
 
+-- what becomes of a commit: one of its documents has a fault, or its edits are judged
 abbrev pub IsCommitted : ℕ → List Entry → Session → Asker → Option ℕ → List FileEdit → Reply → Session → Type 0
 IsCommitted seat log before asker base edits reply after =
     HasBadFile edits before reply after ⊎ HasFiles seat log before.seen asker base edits reply after
@@ -109,6 +112,7 @@ IsCommitted seat log before asker base edits reply after =
 abbrev pub QueryReply : Type 1
 QueryReply = Bounds → List GraphRow → List ℕ → At → Result Answer AskFault → Type 0
 
+-- a query of a user: its reply is due over the files that the user may see of the pinned version, and nothing changes
 pub record Finds (IsReply : QueryReply) (log : List Entry) (before : Session) (asker : Asker) (path : List ℕ) (at : At)
     (bounds : Bounds) (reply : Reply) (after : Session) : Type 0 where
   pub pinned : asker.pin ≤ length log

@@ -52,6 +52,7 @@ pub data Ending : Type 0 where
   AtLongLine : Ending
   AtMost : Ending
 
+-- why no more of these lines are to be answered, where at most so many may be
 unfoldable pub ending : ℕ → List (List ℕ) → Ending
 ending n [] = AtEnd
 ending zero (line ∷ lines) = AtMost

@@ -20,6 +20,7 @@ pub record Spot : Type 0 where
   pub reader : Reading
   pub left : Option (List ℕ)
 
+-- what is seen, of these parts
 abbrev pub spot : Moment → Reading → Option (List ℕ) → Spot
 spot session reader left = record { session = session; reader = reader; left = left }
 
@@ -60,6 +61,7 @@ HasStopReason old new NoMemory =
     ⊎ ((line : List ℕ) × ReadsLine old.reader new.reader old.left new.left (Some line))
 HasStopReason old new SinkFailed = ⊥
 
+-- no line was answered, for that reason, and no entry came
 pub record StopsNext (old new : Spot) (reason : Halt) : Type 0 where
   pub why : HasStopReason old new reason
   pub stays : HasNoEntry old new
@@ -82,6 +84,7 @@ pub record FindsByte (old new : Reading) (left left' : Option (List ℕ)) (end :
   pub after : AfterBytes 1 old new left left' next
   pub tells : end ≡ end_before next
 
+-- the same where it may fail: the source has a fault, or memory is wanting
 abbrev pub LooksOn : Reading → Reading → Option (List ℕ) → Option (List ℕ) → Result End Halt → Type 0
 LooksOn old new left left' (Ok end) = FindsByte old new left left' end
 LooksOn old new left left' (Err SourceFailed) = AfterBytesError 1 old new left left' line_error.ReadFault
@@ -94,6 +97,7 @@ abbrev pub status_of_end : End → ℕ
 status_of_end Answered = 0
 status_of_end Full = 7
 
+-- the status of that end, or of why it couldn't be told
 abbrev pub status_at_end : Result End Halt → ℕ
 status_at_end (Ok end) = status_of_end end
 status_at_end (Err reason) = status_of reason

@@ -1,1 +1,2 @@
+-- `run_alone`: does rests on NoBoard, wherever no board is made.
 mod NoBoard

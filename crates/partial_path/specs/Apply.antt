@@ -28,6 +28,7 @@ pub record Rests : Type 0 where
   pub front : List NodeAt
   pub items : List (List NodeAt)
 
+-- what the variables stand for: of the scope stack these scopes, and of each symbol those at its place
 abbrev pub rests_of : List NodeAt → List (List NodeAt) → Rests
 rests_of front items = record { front = front; items = items }
 
@@ -71,6 +72,7 @@ tail_scopes rests (Item i) = option_map_or (λ (scopes : List NodeAt). scopes) (
 abbrev pub fill_scopes : Rests → ScopeOut → List NodeAt
 fill_scopes rests out = out.scopes ++ tail_scopes rests out.tail
 
+-- the symbol that an output makes, plain or with the scopes that are attached to it
 abbrev pub fill_item : Rests → SymOut → SymbolItem
 fill_item rests out = item_of out.symbol (option_map (fill_scopes rests) out.scopes)
 

@@ -21,6 +21,7 @@ use Rattle.partial_path.specs.Moved.{Fits}
 abbrev pub NodeIn : (ℕ → Type 0) → NodeAt → Type 0
 NodeIn F node = F node.file
 
+-- the same of an edge's file
 abbrev pub EdgeIn : (ℕ → Type 0) → EdgeAt → Type 0
 EdgeIn F e = F e.file
 
@@ -29,10 +30,12 @@ abbrev pub SpotIn : (ℕ → Type 0) → Spot → Type 0
 SpotIn F spot.Root = ⊤
 SpotIn F (spot.At node) = NodeIn F node
 
+-- the same of the node or the spot that a start names
 abbrev pub StartIn : (ℕ → Type 0) → Start → Type 0
 StartIn F (Before node) = NodeIn F node
 StartIn F (After spot) = SpotIn F spot
 
+-- the same of the spot that an end names; an end by the stack names none
 abbrev pub EndIn : (ℕ → Type 0) → End → Type 0
 EndIn F (end.At spot) = SpotIn F spot
 EndIn F end.ByStack = ⊤
@@ -41,6 +44,7 @@ EndIn F end.ByStack = ⊤
 abbrev pub AskedIn : (ℕ → Type 0) → SymPat → Type 0
 AskedIn F pat = IfSome pat.scopes (λ (s : ScopePat). All (NodeIn F) s.fixed)
 
+-- the same of each scope that a made symbol has attached
 abbrev pub MadeIn : (ℕ → Type 0) → SymOut → Type 0
 MadeIn F out = IfSome out.scopes (λ (s : ScopeOut). All (NodeIn F) s.scopes)
 

@@ -26,9 +26,11 @@ pub record AreStored (files : List FileRules) : Type 0 where
 abbrev pub slot_side : Start → List (List ℕ) → Rule → Ordering
 slot_side start asked rule = slot_cmp (slot_of rule) (start, asked)
 
+-- whether the rule stands before that start and key
 abbrev pub is_before_slot : Start → List (List ℕ) → Rule → Bool
 is_before_slot start asked rule = is_lt (slot_side start asked rule)
 
+-- whether it stands there
 abbrev pub is_at_slot : Start → List (List ℕ) → Rule → Bool
 is_at_slot start asked rule = is_eq (slot_side start asked rule)
 

@@ -46,6 +46,7 @@ has_scopes symbols i = option_map_or (λ (s : SymPat). is_some s.scopes) (slice_
 abbrev pub tail_of : SymOut → List Tail
 tail_of out = option_map_or (λ (scopes : ScopeOut). scopes.tail ∷ []) out.scopes []
 
+-- all of them: those of the symbols, and then that of the scope stack
 abbrev pub tails : Post → List Tail
 tails post = flat_map tail_of post.symbols ++ post.scopes.tail ∷ []
 

@@ -58,6 +58,7 @@ abbrev pub is_cut_spot : Graph → Spot → Bool
 is_cut_spot g spot.Root = true
 is_cut_spot g (spot.At node) = nat_eq node.file 0 && is_cut g (place.At node.node)
 
+-- whether walks of the one file start there
 abbrev pub starts_walks : Graph → Start → Bool
 starts_walks g (Before node) = nat_eq node.file 0 && is_reference g.nodes node.node
 starts_walks g (After spot) = is_cut_spot g spot
@@ -102,6 +103,7 @@ pub record Walk : Type 0 where
   pub start : Start
   pub edges : List EdgeAt
 
+-- the walk of that start and these edges
 abbrev pub walk_of : Start → List EdgeAt → Walk
 walk_of start edges = record { start = start; edges = edges }
 

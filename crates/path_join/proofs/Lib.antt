@@ -1,3 +1,9 @@
+-- Which clause rests on which file. `join`: joined and none on Joined: what the join is by its definition does what
+-- both paths do. AppliesLaws, HeightsLaws, RuledLaws, PassedLaws and FilesLaws serve it; under AppliesLaws stand
+-- PassesLaws and MakesLaws, and under all of them the other files whose names end with Laws.
+-- That the code makes the join of the definition: CodePast and CodeTables (what is known), CodeMet (symbols that
+-- are handed on), CodeBound (what variables stand for), CodeWritten (the joined conditions). `unit` and `opening`:
+-- rule and files on CodeExact, which FilesLaws serves, and peak on CodeUnits.
 pub mod CodePast
 pub mod CodeTables
 pub mod CodeMet

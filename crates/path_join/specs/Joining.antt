@@ -31,6 +31,7 @@ asked_symbols p q = drop (length p.post.symbols) q.pre.symbols
 abbrev pub handed_scopes : ℕ → ScopePat → ScopeOut
 handed_scopes i pat = record { scopes = pat.fixed; tail = Item i }
 
+-- the symbol, plain or with those scopes
 abbrev pub handed_symbol : ℕ → SymPat → SymOut
 handed_symbol i pat = record { symbol = pat.symbol; scopes = option_map (handed_scopes i) pat.scopes }
 
@@ -73,6 +74,7 @@ meet_attached known None (Some out) = None
 meet_attached known (Some pat) None = None
 meet_attached known (Some pat) (Some out) = meet_scopes known pat.fixed out
 
+-- a symbol meets one of the same text, where so do their attached scopes
 abbrev pub meet_symbol : Rests → SymPat → SymOut → Option Rests
 meet_symbol known pat out = if bytes_eq pat.symbol out.symbol then meet_attached known pat.scopes out.scopes else None
 
@@ -106,6 +108,7 @@ known_with p q asked =
 abbrev pub grown_scopes : Rests → ScopeOut → ScopeOut
 grown_scopes known out = record { scopes = fill_scopes known out; tail = out.tail }
 
+-- a made symbol, with what is known of the variable behind its attached scopes
 abbrev pub grown_symbol : Rests → SymOut → SymOut
 grown_symbol known out = record { symbol = out.symbol; scopes = option_map (grown_scopes known) out.scopes }
 
@@ -113,9 +116,11 @@ grown_symbol known out = record { symbol = out.symbol; scopes = option_map (grow
 abbrev pub longer_scopes : List NodeAt → ScopePat → ScopePat
 longer_scopes more pat = record { fixed = pat.fixed ++ more }
 
+-- a symbol that is asked for with more attached scopes
 abbrev pub longer_symbol : SymPat → List NodeAt → SymPat
 longer_symbol pat more = record { symbol = pat.symbol; scopes = option_map (longer_scopes more) pat.scopes }
 
+-- each symbol with the scopes at its place among the lists, as far as both go
 abbrev pub longer_symbols : List SymPat → List (List NodeAt) → List SymPat
 longer_symbols [] lists = []
 longer_symbols (pat ∷ pats) [] = []
@@ -139,11 +144,13 @@ abbrev pub bound_item : Rests → SymPat → SymOut → ScopeOut
 bound_item known pat out =
     option_map_or (λ (s : ScopePat). option_map_or (λ (o : ScopeOut). rest_past (length s.fixed) (grown_scopes known o)) out.scopes no_scopes) pat.scopes no_scopes
 
+-- the same of each symbol that is asked for and made
 abbrev pub bound_items : Rests → List SymPat → List SymOut → List ScopeOut
 bound_items known [] outs = []
 bound_items known (pat ∷ pats) [] = []
 bound_items known (pat ∷ pats) (out ∷ outs) = bound_item known pat out ∷ bound_items known pats outs
 
+-- what all of them stand for: what the first path's scope stack and symbols still have past what is asked for
 abbrev pub bound_by : Rule → Rule → List NodeAt → Rests → Bound
 bound_by p q asked known =
     record { front = rest_past (length asked) (grown_scopes known p.post.scopes); items = bound_items known q.pre.symbols (wide_post p q) }
@@ -159,6 +166,7 @@ abbrev pub put_scopes : Bound → ScopeOut → ScopeOut
 put_scopes bound out =
     record { scopes = out.scopes ++ (bound_tail bound out.tail).scopes; tail = (bound_tail bound out.tail).tail }
 
+-- a made symbol of the second path, in the variables of the first
 abbrev pub put_symbol : Bound → SymOut → SymOut
 put_symbol bound out = record { symbol = out.symbol; scopes = option_map (put_scopes bound) out.scopes }
 
@@ -171,6 +179,7 @@ abbrev pub joined_post : Rule → Rule → Rests → Bound → Post
 joined_post p q known bound =
     record { symbols = map (put_symbol bound) q.post.symbols ++ map (grown_symbol known) (drop (length q.pre.symbols) (wide_post p q)); scopes = put_scopes bound q.post.scopes }
 
+-- the joined path: from the first one's start to the second one's end, with the edges of both
 abbrev pub joined_by : Rule → Rule → Rests → Bound → Rule
 joined_by p q known bound =
     record { start = p.start; end = q.end; pre = joined_pre p q known; post = joined_post p q known bound; peak = joined_peak p q; edges = p.edges ++ q.edges }
@@ -182,6 +191,7 @@ can_have [] Nil = false
 can_have [] Front = true
 can_have [] (Item i) = true
 
+-- whether a path that leaves these scopes can have that end: at a spot any can
 abbrev pub can_end : End → ScopeOut → Bool
 can_end (At spot) out = true
 can_end ByStack out = can_have out.scopes out.tail

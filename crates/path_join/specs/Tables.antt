@@ -33,6 +33,7 @@ pub record Meeting : Type 0 where
   pub asked : List NodeAt
   pub known : Rests
 
+-- the meeting of these two paths, with what is asked for and known
 abbrev pub meeting_of : Rule → Rule → List NodeAt → Rests → Meeting
 meeting_of p q asked known = record { first = p; second = q; asked = asked; known = known }
 

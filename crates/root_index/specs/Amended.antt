@@ -59,5 +59,6 @@ pub record IsFrom (rows : List FileRow) (p : RootPath) : Type 0 where
   pub named : p.path ≡ row.path
   pub of : IsOf row p
 
+-- each of the paths is one of some row's file
 abbrev pub AreFrom : List FileRow → List RootPath → Type 0
 AreFrom rows paths = All (IsFrom rows) paths

@@ -9,8 +9,10 @@ use Rattle.root_index.specs.Roots.{RootPath, root_key}
 abbrev pub key_order : List (List ℕ) → RootPath → Ordering
 key_order asked p = key_cmp (root_key p) asked
 
+-- whether the path stands before the key
 abbrev pub is_before_key : List (List ℕ) → RootPath → Bool
 is_before_key asked p = is_lt (key_order asked p)
 
+-- whether it stands there
 abbrev pub is_at_key : List (List ℕ) → RootPath → Bool
 is_at_key asked p = is_eq (key_order asked p)

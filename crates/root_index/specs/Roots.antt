@@ -19,6 +19,7 @@ pub record RootPath : Type 0 where
   pub place : ℕ
   pub rule : Option Rule
 
+-- the path of these parts
 abbrev pub root_path : List ℕ → ℕ → Option Rule → RootPath
 root_path path place rule = record { path = path; place = place; rule = rule }
 
@@ -47,9 +48,11 @@ root_key p = option_map_or key p.rule []
 abbrev pub rank : RootPath → List (List ℕ) × (List ℕ × ℕ)
 rank p = (root_key p, (p.path, p.place))
 
+-- how the one rank stands to the other
 abbrev pub rank_cmp : List (List ℕ) × (List ℕ × ℕ) → List (List ℕ) × (List ℕ × ℕ) → Ordering
 rank_cmp a b = ordering_then (key_cmp a.0 b.0) (ordering_then (path_cmp a.1.0 b.1.0) (nat_cmp a.1.1 b.1.1))
 
+-- the paths stand in the order of their ranks
 abbrev pub AreByRank : List RootPath → Type 0
 AreByRank = IsSortedByKey rank rank_cmp
 

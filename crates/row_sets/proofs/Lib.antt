@@ -1,1 +1,2 @@
+-- `in_order` rests on InOrder.
 mod InOrder

@@ -1,1 +1,3 @@
+-- Which clause rests on which file. `same` of SymbolItem, SymbolStack and ScopeStack: exact on SameLaws, and eq of
+-- the two stacks. SameLaws is also for `partial_path`, `path_join` and `stitcher`.
 pub mod SameLaws

@@ -31,6 +31,7 @@ pub record Joined : Type 0 where
   pub paths : List (ℕ × Rule)
   pub at : Config
 
+-- these paths, the last of which lands there
 abbrev pub joined : List (ℕ × Rule) → Config → Joined
 joined paths at = record { paths = paths; at = at }
 
@@ -55,6 +56,7 @@ abbrev pub start_behind : Start → List (ℕ × Rule) → Config → Start
 start_behind start [] at = start
 start_behind start (p ∷ paths) at = After at.spot
 
+-- where a path after the joined ones begins
 abbrev pub next_start : Asked → Joined → Start
 next_start q j = start_behind (Before q.node) j.paths j.at
 
@@ -128,8 +130,10 @@ is_past_bounds q j = lands q j && not (is_bounded q j.paths)
 abbrev pub complete_met : Asked → List Joined
 complete_met q = filter (is_bounded_complete q) (met q)
 
+-- those that are met, and are counted and bounded
 abbrev pub counted_met : Asked → List Joined
 counted_met q = filter (is_bounded_counted q) (met q)
 
+-- whether one is met that is counted and not bounded
 abbrev pub meets_past : Asked → Bool
 meets_past q = list_any (is_past_bounds q) (met q)

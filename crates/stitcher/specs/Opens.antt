@@ -23,6 +23,7 @@ use Rattle.stitcher.specs.Trail.{Moves, paths_of, path_of, IsHere}
 abbrev pub opened : List Level → Open → Joined
 opened trail o = joined (with_path (paths_of (take o.depth trail)) (path_of o.level)) o.level.at
 
+-- the joined paths of each open one
 abbrev pub opens_of : List Level → List Open → List Joined
 opens_of trail opens = map (opened trail) opens
 
@@ -38,6 +39,7 @@ those passes x = if passes then x ∷ [] else []
 abbrev pub kept_run : EdgePath → List EdgeAt × Spot
 kept_run p = (p.edges.items, At p.end)
 
+-- the same of each run that is kept
 abbrev pub kept_runs : List EdgePath → List (List EdgeAt × Spot)
 kept_runs paths = map kept_run paths
 

@@ -27,6 +27,7 @@ path_of l = (l.file, l.path.now)
 abbrev pub landed_at : Level → Config
 landed_at l = l.at
 
+-- the stored paths that were joined, in their order
 abbrev pub paths_of : List Level → List (ℕ × Rule)
 paths_of levels = map path_of levels
 

@@ -16,6 +16,7 @@ pub record Machine : Type 0 where
 abbrev pub opening : Machine
 opening = record { log = []; seen = λ _. 0; pin = λ _. None }
 
+-- one step of a seat
 pub data Step : Type 0 where
   -- the seat sees so many entries and pins their version
   Pin : ℕ → ℕ → Step
@@ -56,10 +57,12 @@ IsAllowed (Want seat n) m = (n ≡ m.seen seat) ⊎ (n ≡ length m.log)
 IsAllowed (Learn seat note n) m = (m.seen seat ≤ n) × (note ≤ n) × (n ≤ length m.log)
 IsAllowed (Ask seat) m = IsSome (m.pin seat)
 
+-- the state after several steps, one after the other
 abbrev pub after_all : List Step → Machine → Machine
 after_all [] m = m
 after_all (step ∷ steps) m = after_all steps (after step m)
 
+-- each of the steps is allowed when it comes
 abbrev pub AreAllowed : List Step → Machine → Type 0
 AreAllowed [] m = ⊤
 AreAllowed (step ∷ steps) m = IsAllowed step m × AreAllowed steps (after step m)
@@ -73,6 +76,7 @@ accepted_by seat (Want other n) = []
 accepted_by seat (Learn other note n) = []
 accepted_by seat (Ask other) = []
 
+-- those of all steps together
 abbrev pub accepted : ℕ → List Step → List (List Edit)
 accepted seat [] = []
 accepted seat (step ∷ steps) = accepted_by seat step ++ accepted seat steps
@@ -101,6 +105,7 @@ pub record IsOnward (seat : ℕ) (before after : Machine) : Type 0 where
   pub seen : before.seen seat ≤ after.seen seat
   pub pin : IsNoLess (before.pin seat) (after.pin seat)
 
+-- after any allowed steps each seat is sound, and more steps take back nothing that it has seen or pinned
 abbrev pub CoreLaw : Type 0
 CoreLaw =
     (steps more : List Step) (seat : ℕ) → AreAllowed (steps ++ more) opening

@@ -16,6 +16,7 @@ version_of log = record { number = length log; content = replay log }
 abbrev pub own : ℕ → List Entry → List Entry
 own seat log = filter (λ (e : Entry). e.seat == seat) log
 
+-- the entry of these edits by the seat, with that number of its own
 abbrev pub entry : ℕ → ℕ → List Edit → Entry
 entry seat serial edits = record { seat = seat; serial = serial; edits = edits }
 

@@ -18,6 +18,7 @@ pub record FileRow : Type 0 where
   pub path : List ℕ
   pub file : FileRules
 
+-- the row of that path and file
 abbrev pub file_row : List ℕ → FileRules → FileRow
 file_row path file = record { path = path; file = file }
 
@@ -58,6 +59,7 @@ pub record Content : Type 0 where
   pub rows : List FileRow
   pub rules : Rules
 
+-- what a version of these rows and rules holds
 abbrev pub content : List FileRow → Rules → Content
 content rows rules = record { rows = rows; rules = rules }
 
@@ -74,6 +76,7 @@ ruled (Revoke user prefix) rules = without_grant (pair user prefix) rules
 ruled (Deny user prefix) rules = with_deny (pair user prefix) rules
 ruled (Undeny user prefix) rules = without_deny (pair user prefix) rules
 
+-- what one edit makes of the rows
 abbrev pub rowed : Edit → List FileRow → List FileRow
 rowed (Put path paths) rows = with_row path paths rows
 rowed (Remove path) rows = without_row path rows
@@ -82,6 +85,7 @@ rowed (Revoke user prefix) rows = rows
 rowed (Deny user prefix) rows = rows
 rowed (Undeny user prefix) rows = rows
 
+-- what one edit makes of a version: of its rows, and of its rules
 abbrev pub edited : Edit → Content → Content
 edited edit v = content (rowed edit v.rows) (ruled edit v.rules)
 

@@ -15,6 +15,7 @@ pub record GraphRow : Type 0 where
   pub path : List ℕ
   pub graph : Graph
 
+-- the row of that path and graph
 abbrev pub graph_row : List ℕ → Graph → GraphRow
 graph_row path graph = record { path = path; graph = graph }
 
@@ -22,6 +23,7 @@ graph_row path graph = record { path = path; graph = graph }
 abbrev pub row_graph : FileRow → GraphRow
 row_graph row = graph_row row.path row.file.graph
 
+-- the graphs of all rows, in their order
 abbrev pub graph_rows : List FileRow → List GraphRow
 graph_rows rows = map row_graph rows
 
@@ -34,9 +36,11 @@ pub record Graphs : Type 0 where
   pub rows : List GraphRow
   pub rules : Rules
 
+-- graphs in these rows, with these rules
 abbrev pub graphs : List GraphRow → Rules → Graphs
 graphs rows rules = record { rows = rows; rules = rules }
 
+-- what a version holds, by its graphs alone
 abbrev pub content_graphs : Content → Graphs
 content_graphs v = graphs (graph_rows v.rows) v.rules
 
@@ -53,6 +57,7 @@ pub data GraphEdit : Type 0 where
   deny_prefix : List ℕ → List ℕ → GraphEdit
   undeny_prefix : List ℕ → List ℕ → GraphEdit
 
+-- an edit of a version, as one of graphs: a put file is its graph alone
 abbrev pub graph_edit : Edit → GraphEdit
 graph_edit (Put path paths) = put_graph path paths.graph
 graph_edit (Remove path) = remove_path path
