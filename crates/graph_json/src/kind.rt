@@ -24,7 +24,11 @@ pub(crate) fn is_exported(kind: &NodeKind) -> bool
 {
     match kind {
         NodeKind::Scope { exported } => *exported,
-        _ => false,
+        NodeKind::Push { .. }
+        | NodeKind::PushScoped { .. }
+        | NodeKind::Pop { .. }
+        | NodeKind::PopScoped { .. }
+        | NodeKind::Drops => false,
     }
 }
 

@@ -93,7 +93,11 @@ fn put_scope(
             out.key("scope")?;
             put_position(alloc, out, named, *scope)
         }
-        _ => Ok(()),
+        NodeKind::Scope { .. }
+        | NodeKind::Push { .. }
+        | NodeKind::Pop { .. }
+        | NodeKind::PopScoped { .. }
+        | NodeKind::Drops => Ok(()),
     }
 }
 

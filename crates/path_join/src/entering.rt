@@ -49,7 +49,10 @@ fn asked_by(alloc: Global, kind: &NodeKind) -> Result<Pre, AllocError>
             symbol: symbol_of(symbol)?,
             scopes: Some(any_scopes(alloc)),
         })?,
-        _ => {}
+        NodeKind::Scope { .. }
+        | NodeKind::Push { .. }
+        | NodeKind::PushScoped { .. }
+        | NodeKind::Drops => {}
     }
     Ok(asks(alloc, symbols))
 }
@@ -73,7 +76,11 @@ fn made_by(alloc: Global, kind: &NodeKind) -> Result<Post, AllocError>
         }
         NodeKind::PopScoped { .. } => Ok(makes(alloc, Vec::new(alloc), Tail::Item(0))),
         NodeKind::Drops => Ok(makes(alloc, Vec::new(alloc), Tail::Nil)),
-        _ => Ok(makes(alloc, Vec::new(alloc), Tail::Front)),
+        NodeKind::Scope { .. } | NodeKind::Pop { .. } => Ok(makes(
+            alloc,
+            Vec::new(alloc),
+            Tail::Front,
+        )),
     }
 }
 
@@ -95,12 +102,15 @@ fn peak_by(kind: &NodeKind) -> u32
 {
     match kind {
         NodeKind::Scope { .. } | NodeKind::Drops => 0,
-        _ => 1,
+        NodeKind::Push { .. }
+        | NodeKind::PushScoped { .. }
+        | NodeKind::Pop { .. }
+        | NodeKind::PopScoped { .. } => 1,
     }
 }
 
 /// Any scopes.
-fn any_scopes(alloc: Global) -> ScopePat
+pub(crate) fn any_scopes(alloc: Global) -> ScopePat
     ensures { result ≡ any_scopes }
 {
     ScopePat {
@@ -119,7 +129,7 @@ fn asks(alloc: Global, symbols: Vec<SymPat>) -> Pre
 }
 
 /// A postcondition of these symbols and this scope stack.
-fn makes(alloc: Global, symbols: Vec<SymOut>, tail: Tail) -> Post
+pub(crate) fn makes(alloc: Global, symbols: Vec<SymOut>, tail: Tail) -> Post
     ensures { result ≡ makes symbols.items tail }
 {
     Post {
