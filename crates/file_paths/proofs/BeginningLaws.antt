@@ -1,5 +1,5 @@
 -- The paths of one edge from after a cut place are those of the edges that leave it.
-use Rattle.std.proofs.Common.{◌≡◌, ◌<◌, ℕ, List, [], ◌∷◌, ◌++◌, length, Some, IfSome, Result, Ok, Err, is_ok, OnOk, if◌then◌else◌, IsTrue, Contains, refl, sym, subst, true, false, ◌+◌}
+use Rattle.std.proofs.Common.{◌≡◌, ◌<◌, ℕ, List, [], ◌∷◌, ◌++◌, length, Some, IfSome, IsTrue, Contains, refl, sym, ap, ◌∙◌, subst, true, false, ◌+◌}
 use Rattle.std.proofs.lemmas.Bool.{false≢true}
 use Rattle.graph_nodes.specs.Graph.{Graph, is_reference}
 use Rattle.graph_nodes.specs.Checked.{IsChecked, is_jump}
@@ -17,19 +17,19 @@ use Rattle.partial_path.specs.Walks.{is_cut_spot, starts_walks, IsWalk, walk_of}
 use Rattle.partial_path.specs.PathSets.{IsRuleOf, walk_of_rule}
 use Rattle.path_join.specs.Units.{after_source, edge_alone, place_spot}
 use Rattle.file_paths.specs.Walking.{no_edges}
-use Rattle.file_paths.specs.Finding.{MayGoOn, GoesOnFrom, IsLongerRule, AreLongerRules, AreFirstRules, starts_below, start_if, before_node, after_node}
+use Rattle.file_paths.specs.Finding.{MayGoOn, GoesOnFrom, IsLongerRule, AddsLonger, AreFirstRules, starts_below, start_if, before_node, after_node}
 use Rattle.file_paths.proofs.UnitLaws.{IsSpotOf}
 use Rattle.file_paths.proofs.EdgesLaws.{Leaves-from}
 use Rattle.file_paths.proofs.SourceLaws.{source_unit}
 use Rattle.file_paths.proofs.PassableLaws.{unit_walk}
 use Rattle.file_paths.proofs.SinkLaws.{reference_leaves, cut_leaves}
-use Rattle.file_paths.proofs.GrowingLaws.{IsGrowing, growing_in, growing_there, growing_begins, growing_more, growing_ends, start_may_go_on}
+use Rattle.file_paths.proofs.GrowingLaws.{IsAdding, growing_in, adding_begins, adding_there, adding_more, adding_ends, start_may_go_on}
 use Rattle.file_paths.proofs.EachStartLaws.{before_new, after_new}
 use Rattle.file_paths.proofs.FirstLaws.{first_root, first_yes, first_no, first_node, start_walk}
 
--- the paths of one edge from a place's spot so far, and the edges that are left
-pub record AreUnits (g : Graph) (from : Place) (left : List ℕ) (longer : List Rule) : Type 0 where
-  pub growing : (s : Spot) → IsSpotOf from s → IsGrowing g (no_edges (After s)) from left longer
+-- to these rules were added those of one edge from a place's spot so far, and these edges are left
+pub record AreUnits (g : Graph) (from : Place) (left : List ℕ) (old : List Rule) (now : List Rule) : Type 0 where
+  pub adding : (s : Spot) → IsSpotOf from s → IsAdding g (no_edges (After s)) from left old now
 
 -- by cases of the place's spot
 at_spot : (from : Place) (P : Spot → Type 0) → ((s : Spot) → IsSpotOf from s → P s) → IfSome (place_spot from) P
@@ -58,28 +58,29 @@ unit_longer g from s i u checked cut is there starts has exact =
       exact = exact;
     }
 
-pub units_begin : (g : Graph) (from : Place) → AreUnits g from (edges_from g from) []
-units_begin g from = record { growing = λ s is. growing_begins g (no_edges (After s)) from }
+pub units_begin : (g : Graph) (from : Place) (left : List ℕ) (old : List Rule) → left ≡ edges_from g from → AreUnits g from left old old
+units_begin g from left old is = record { adding = λ s at_place. adding_begins g (no_edges (After s)) from left old is }
 
-pub units_there : (g : Graph) (from : Place) (left rest : List ℕ) (i : ℕ) (longer : List Rule) → is_jump from ≡ false → AreUnits g from left longer
+pub units_there : (g : Graph) (from : Place) (left rest : List ℕ) (i : ℕ) (old now : List Rule) → is_jump from ≡ false → AreUnits g from left old now
     → left ≡ i ∷ rest → i < length g.edges
-units_there g from left rest i longer f h is =
-    let k = has_spot from f in growing_there g (no_edges (After k.0)) from left rest i longer (h.growing k.0 k.1) is
+units_there g from left rest i old now f h is =
+    let k = has_spot from f in adding_there g (no_edges (After k.0)) from left rest i old now (h.adding k.0 k.1) is
 
-pub units_more : (g : Graph) (from : Place) (left rest : List ℕ) (i : ℕ) (longer : List Rule) (u : Rule) → IsChecked g → is_cut g from ≡ true
-    → AreUnits g from left longer → left ≡ i ∷ rest → after_source g i ≡ Some u.start → u.edges ≡ edge_alone i ∷ [] → IsRuleOf g u
-    → AreUnits g from rest (longer ++ u ∷ [])
-units_more g from left rest i longer u checked cut h is starts has exact = record {
-  growing = λ s at_place.
-      growing_more g (no_edges (After s)) from left rest i longer u (h.growing s at_place) is
-      (unit_longer g from s i u checked cut at_place (growing_in g (no_edges (After s)) from left rest i longer (h.growing s at_place) is) starts has exact);
+pub units_more : (g : Graph) (from : Place) (left rest : List ℕ) (i : ℕ) (old now new : List Rule) (u : Rule) → IsChecked g → is_cut g from ≡ true
+    → AreUnits g from left old now → left ≡ i ∷ rest → after_source g i ≡ Some u.start → u.edges ≡ edge_alone i ∷ [] → IsRuleOf g u → new ≡ now ++ u ∷ []
+    → AreUnits g from rest old new
+units_more g from left rest i old now new u checked cut h is starts has exact pushed = record {
+  adding = λ s at_place.
+      let so = h.adding s at_place in
+      adding_more g (no_edges (After s)) from left rest i old now new u so is
+      (unit_longer g from s i u checked cut at_place (growing_in g (no_edges (After s)) from left rest i so.longer so.growing is) starts has exact) pushed;
 }
 
-pub units_end : (g : Graph) (from : Place) (left : List ℕ) (longer : List Rule) → AreUnits g from left longer → left ≡ []
-    → IfSome (place_spot from) (λ s. AreLongerRules g (no_edges (After s)) longer)
-units_end g from left longer h is =
-    at_spot from (λ s. AreLongerRules g (no_edges (After s)) longer)
-    (λ s at_place. growing_ends g (no_edges (After s)) from left longer (h.growing s at_place) is (λ e walk. cut_leaves g from s e at_place walk))
+pub units_end : (g : Graph) (from : Place) (left : List ℕ) (old now : List Rule) → AreUnits g from left old now → left ≡ []
+    → IfSome (place_spot from) (λ s. AddsLonger g (no_edges (After s)) old now)
+units_end g from left old now h is =
+    at_spot from (λ s. AddsLonger g (no_edges (After s)) old now)
+    (λ s at_place. adding_ends g (no_edges (After s)) from left old now (h.adding s at_place) is (λ e walk. cut_leaves g from s e at_place walk))
 
 -- a path without edges goes on from the reference
 pub opened_may_go_on : (g : Graph) (n : ℕ) (p : Rule) → p.start ≡ before_node n → p.edges ≡ [] → IsRuleOf g p → is_reference g.nodes n ≡ true → MayGoOn g p
@@ -90,35 +91,33 @@ opened_goes_on g n p starts none =
     subst (λ w. GoesOnFrom g w (place.At n)) (sym (start_walk p (before_node n) starts none)) (λ e walk. reference_leaves g n e walk)
 
 -- the starts so far, with those of the root, of a reference and of a cut node
-pub begun_root : (g : Graph) (longer : List Rule) → IfSome (place_spot place.Root) (λ s. AreLongerRules g (no_edges (After s)) longer) → AreFirstRules g (starts_below g 0) longer
-begun_root g longer h = first_root g longer h.walks h.exact
+pub begun_root : (g : Graph) (none first : List Rule) → none ≡ [] → IfSome (place_spot place.Root) (λ s. AddsLonger g (no_edges (After s)) none first)
+    → AreFirstRules g (starts_below g 0) first
+begun_root g none first empty h =
+    subst (λ (ps : List Rule). AreFirstRules g (starts_below g 0) ps) (sym (h.2 ∙ ap (λ (ps : List Rule). ps ++ h.0) empty)) (first_root g h.0 h.1.walks h.1.exact)
 
-pub begun_reference : (g : Graph) (n : ℕ) (first longer : List Rule) (p : Rule) → AreFirstRules g (starts_below g n) first → is_reference g.nodes n ≡ true
-    → p.start ≡ before_node n → p.edges ≡ [] → AreLongerRules g (walk_of_rule p) longer
-    → AreFirstRules g (starts_below g n ++ start_if (is_reference g.nodes n) (before_node n)) (first ++ longer)
-begun_reference g n first longer p are is starts none more =
-    let h = subst (λ w. AreLongerRules g w longer) (start_walk p (before_node n) starts none) more in
-    first_yes g (starts_below g n) first (before_node n) longer (is_reference g.nodes n) are is (before_new g n) h.walks h.exact
+pub begun_reference : (g : Graph) (n : ℕ) (first now : List Rule) (p : Rule) → AreFirstRules g (starts_below g n) first → is_reference g.nodes n ≡ true
+    → p.start ≡ before_node n → p.edges ≡ [] → AddsLonger g (walk_of_rule p) first now
+    → AreFirstRules g (starts_below g n ++ start_if (is_reference g.nodes n) (before_node n)) now
+begun_reference g n first now p are is starts none more =
+    let h = subst (λ w. AddsLonger g w first now) (start_walk p (before_node n) starts none) more in
+    subst (λ (ps : List Rule). AreFirstRules g (starts_below g n ++ start_if (is_reference g.nodes n) (before_node n)) ps) (sym h.2)
+    (first_yes g (starts_below g n) first (before_node n) h.0 (is_reference g.nodes n) are is (before_new g n) h.1.walks h.1.exact)
 
 pub begun_none : (g : Graph) (n : ℕ) (first : List Rule) → AreFirstRules g (starts_below g n) first → is_reference g.nodes n ≡ false
     → AreFirstRules g (starts_below g n ++ start_if (is_reference g.nodes n) (before_node n)) first
 begun_none g n first are is = first_no g (starts_below g n) first (before_node n) (is_reference g.nodes n) are is
 
-pub begun_cut : (g : Graph) (n : ℕ) (first longer : List Rule) → AreFirstRules g (starts_below g n ++ start_if (is_reference g.nodes n) (before_node n)) first
-    → is_cut g (place.At n) ≡ true → IfSome (place_spot (place.At n)) (λ s. AreLongerRules g (no_edges (After s)) longer)
-    → AreFirstRules g (starts_below g (n + 1)) (first ++ longer)
-begun_cut g n first longer are is more =
-    first_node g n (first ++ longer)
-    (first_yes g (starts_below g n ++ start_if (is_reference g.nodes n) (before_node n)) first (after_node n) longer (is_cut g (place.At n)) are is
-    (after_new g n (is_reference g.nodes n)) more.walks more.exact)
+pub begun_cut : (g : Graph) (n : ℕ) (first now : List Rule) → AreFirstRules g (starts_below g n ++ start_if (is_reference g.nodes n) (before_node n)) first
+    → is_cut g (place.At n) ≡ true → IfSome (place_spot (place.At n)) (λ s. AddsLonger g (no_edges (After s)) first now)
+    → AreFirstRules g (starts_below g (n + 1)) now
+begun_cut g n first now are is more =
+    subst (λ (ps : List Rule). AreFirstRules g (starts_below g (n + 1)) ps) (sym more.2)
+    (first_node g n (first ++ more.0)
+    (first_yes g (starts_below g n ++ start_if (is_reference g.nodes n) (before_node n)) first (after_node n) more.0 (is_cut g (place.At n)) are is
+    (after_new g n (is_reference g.nodes n)) more.1.walks more.1.exact))
 
 pub begun_uncut : (g : Graph) (n : ℕ) (first : List Rule) → AreFirstRules g (starts_below g n ++ start_if (is_reference g.nodes n) (before_node n)) first
     → is_cut g (place.At n) ≡ false → AreFirstRules g (starts_below g (n + 1)) first
 begun_uncut g n first are is =
     first_node g n first (first_no g (starts_below g n ++ start_if (is_reference g.nodes n) (before_node n)) first (after_node n) (is_cut g (place.At n)) are is)
-
--- what holds of both lists together holds where the one was appended to the other
-pub appended : {T E X : Type 0} (r : Result T E) (P : List X → Type 0) (old more now : List X) → now ≡ (if is_ok r then old ++ more else old)
-    → P (old ++ more) → OnOk r (P now)
-appended (Ok x) P old more now e h = subst P (sym e) h
-appended (Err y) P old more now e h = tt

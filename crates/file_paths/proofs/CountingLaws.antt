@@ -115,7 +115,7 @@ module _ (g : Graph) (rules begun : List Rule) (p : Rule) (weight : ℕ) (es : L
       subst (λ (ps : List Rule). IsFinding g ps (begun ++ longer) (weight + length p.edges) (h.count + 1)) (sym (append-nil rules))
       (finding_passes g rules begun p weight h.count h.finding longer are.walks are.exact passes)
 
-  pub taken_kept : (after kept : List Rule) → AddsLonger g p begun after → kept ≡ rules ++ if_landing g p → IsCounting g kept after (weight + length es) old now
+  pub taken_kept : (after kept : List Rule) → AddsLonger g (walk_of_rule p) begun after → kept ≡ rules ++ if_landing g p → IsCounting g kept after (weight + length es) old now
   taken_kept after kept adds k = record {
     count = h.count + 1;
     rose = h.rose;

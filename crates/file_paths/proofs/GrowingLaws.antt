@@ -1,5 +1,5 @@
 -- The rules of one edge more than a rule's, gathered edge by edge by joining.
-use Rattle.std.proofs.Common.{◌≡◌, ◌<◌, ℕ, List, [], ◌∷◌, ◌++◌, map, length, false, IsTrue, Contains, inl, refl, sym, ap, ◌∙◌, subst, append_assoc, append-nil}
+use Rattle.std.proofs.Common.{◌≡◌, ◌<◌, ℕ, List, [], ◌∷◌, ◌++◌, map, length, Option, Some, None, IfSome, option_to_list, false, IsTrue, Contains, inl, refl, sym, ap, ◌∙◌, subst, append_assoc, append-nil}
 use Rattle.std.specs.List.{AllByRecursion}
 use Rattle.std.proofs.lemmas.List.{map-append}
 use Rattle.graph_nodes.specs.Graph.{Graph}
@@ -15,7 +15,7 @@ use Rattle.partial_path.specs.Walks.{alone, starts_walks, is_cut_spot, IsUncut, 
 use Rattle.partial_path.specs.PathSets.{IsRuleOf, walk_of_rule}
 use Rattle.path_join.specs.Joins.{IsJoin, NonePasses}
 use Rattle.file_paths.specs.Walking.{ends_cut, one_more, no_edges, AreLonger}
-use Rattle.file_paths.specs.Finding.{MayGoOn, GoesOnFrom, IsLongerRule, AreLongerRules}
+use Rattle.file_paths.specs.Finding.{MayGoOn, GoesOnFrom, IsLongerRule, AreLongerRules, AddsLonger, IsShort}
 use Rattle.list_facts.specs.Members.{IsIn}
 use Rattle.list_facts.proofs.Members.{IsIn-append_right, Contains-from_IsIn, IsIn-from_Contains}
 use Rattle.list_facts.proofs.Each.{all_push}
@@ -153,3 +153,53 @@ growing_ends g w from left longer h is onward = record {
   where
     all : h.tried ≡ edges_from g from
     all = sym (append-nil h.tried) ∙ (ap (λ (xs : List ℕ). h.tried ++ xs) (sym is) ∙ h.whole)
+
+-- to these rules were added those for the longer walks so far
+pub record IsAdding (g : Graph) (w : Walk) (from : Place) (left : List ℕ) (old : List Rule) (now : List Rule) : Type 0 where
+  pub longer : List Rule
+  pub growing : IsGrowing g w from left longer
+  pub added : now ≡ old ++ longer
+
+pub adding_begins : (g : Graph) (w : Walk) (from : Place) (left : List ℕ) (old : List Rule) → left ≡ edges_from g from → IsAdding g w from left old old
+adding_begins g w from left old is = record {
+  longer = [];
+  growing = subst (λ (xs : List ℕ). IsGrowing g w from xs []) (sym is) (growing_begins g w from);
+  added = sym (append-nil old);
+}
+
+pub adding_there : (g : Graph) (w : Walk) (from : Place) (left rest : List ℕ) (i : ℕ) (old now : List Rule) → IsAdding g w from left old now
+    → left ≡ i ∷ rest → i < length g.edges
+adding_there g w from left rest i old now h is = growing_there g w from left rest i h.longer h.growing is
+
+-- a rule is added
+pub adding_more : (g : Graph) (w : Walk) (from : Place) (left rest : List ℕ) (i : ℕ) (old now new : List Rule) (j : Rule) → IsAdding g w from left old now
+    → left ≡ i ∷ rest → IsLongerRule g w i j → new ≡ now ++ j ∷ [] → IsAdding g w from rest old new
+adding_more g w from left rest i old now new j h is one pushed = record {
+  longer = h.longer ++ j ∷ [];
+  growing = growing_more g w from left rest i h.longer j h.growing is one;
+  added = pushed ∙ (ap (λ (ps : List Rule). ps ++ j ∷ []) h.added ∙ append_assoc old h.longer (j ∷ []));
+}
+
+-- or none, where the edge doesn't make the walk longer
+pub adding_found : (g : Graph) (w : Walk) (from : Place) (left rest : List ℕ) (i : ℕ) (old now new : List Rule) (found : Option Rule)
+    → IsAdding g w from left old now → left ≡ i ∷ rest → IfSome found (IsLongerRule g w i)
+    → (found ≡ None → ¬ IsWalk g w.start (w.edges ++ edge_in i ∷ [])) → new ≡ now ++ option_to_list found → IsAdding g w from rest old new
+adding_found g w from left rest i old now new (Some j) h is one none pushed = adding_more g w from left rest i old now new j h is one pushed
+adding_found g w from left rest i old now new None h is one none pushed = record {
+  longer = h.longer;
+  growing = growing_same g w from left rest i h.longer h.growing is (none refl);
+  added = pushed ∙ (append-nil now ∙ h.added);
+}
+
+-- in the end there are rules for all longer walks
+pub adding_ends : (g : Graph) (w : Walk) (from : Place) (left : List ℕ) (old now : List Rule) → IsAdding g w from left old now → left ≡ []
+    → GoesOnFrom g w from → AddsLonger g w old now
+adding_ends g w from left old now h is onward = (h.longer, growing_ends g w from left h.longer h.growing is onward, h.added)
+
+-- with a short rule that was found, all are short
+pub short_found : (limit : ℕ) (now new : List Rule) (found : Option Rule) → AllByRecursion (IsShort limit) now → IfSome found (IsShort limit)
+    → new ≡ now ++ option_to_list found → AllByRecursion (IsShort limit) new
+short_found limit now new (Some j) all short pushed =
+    subst (λ (ps : List Rule). AllByRecursion (IsShort limit) ps) (sym pushed) (all_push (IsShort limit) now j all short)
+short_found limit now new None all short pushed =
+    subst (λ (ps : List Rule). AllByRecursion (IsShort limit) ps) (sym (pushed ∙ append-nil now)) all

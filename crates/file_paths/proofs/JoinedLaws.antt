@@ -44,7 +44,7 @@ joined_runs : (g : Graph) (i : ℕ) (s : Spot) (p u j : Rule) → IsUnitOf g i s
 joined_runs g i s p u j unit join c = sym (λ n. run_from (alone g) (join.start n) (joined_edges g i s p u j unit join n) c)
 
 -- where both have a result, what the first makes
-both_made : (p u : Rule) (o : Option Config) → IsSome (option_and_then (apply u) o) → (d : Config) × (o ≡ Some d) × IsSome (apply u d)
+pub both_made : (p u : Rule) (o : Option Config) → IsSome (option_and_then (apply u) o) → (d : Config) × (o ≡ Some d) × IsSome (apply u d)
 both_made p u None h = cc
 both_made p u (Some d) h = (d, refl, h)
 

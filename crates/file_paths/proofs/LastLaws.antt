@@ -12,7 +12,7 @@ use Rattle.partial_path.specs.Walks.{alone, is_definition_place, IsWalk}
 use Rattle.partial_path.specs.PathSets.{IsRuleOf, walk_of_rule}
 use Rattle.path_join.specs.Units.{edge_alone}
 use Rattle.file_paths.specs.Walking.{ends_cut}
-use Rattle.file_paths.specs.Finding.{LeadsTo, MayGoOn, GoesOnFrom, AreLongerRules, if_landing}
+use Rattle.file_paths.specs.Finding.{LeadsTo, MayGoOn, GoesOnFrom, AddsLonger, if_landing}
 use Rattle.file_paths.proofs.StepLaws.{none_longer}
 use Rattle.file_paths.proofs.SinkLaws.{walk_last, sink_leaves, uncut_no_jump}
 use Rattle.file_paths.proofs.OnwardLaws.{ends_cut-sink, ends_landing-sink}
@@ -61,11 +61,10 @@ cut_at : (g : Graph) (es : List EdgeAt) (sink : Place) (leads : LeadsTo g es sin
 cut_at g es sink leads = ends_cut-sink g es leads.0 ∙ ap (is_cut g) leads.1
 
 -- behind a cut edge there is no longer path
-pub none_onward : (g : Graph) (p : Rule) (sink : Place) (longer : List Rule) → LeadsTo g p.edges sink → is_cut g sink ≡ true → longer ≡ []
-    → AreLongerRules g (walk_of_rule p) longer
-none_onward g p sink longer leads cut none =
-    subst (λ (ps : List Rule). AreLongerRules g (walk_of_rule p) ps) (sym none)
-    (record { walks = none_longer g (walk_of_rule p) (cut_at g p.edges sink leads ∙ cut); exact = tt })
+pub none_onward : (g : Graph) (p : Rule) (sink : Place) (begun : List Rule) → LeadsTo g p.edges sink → is_cut g sink ≡ true
+    → AddsLonger g (walk_of_rule p) begun begun
+none_onward g p sink begun leads cut =
+    ([], record { walks = none_longer g (walk_of_rule p) (cut_at g p.edges sink leads ∙ cut); exact = tt }, sym (append-nil begun))
 
 -- else the walk may go on, by the edges from where the last one leads
 pub may_onward : (g : Graph) (p : Rule) (sink : Place) → IsRuleOf g p → IsWalk g p.start p.edges → LeadsTo g p.edges sink → is_cut g sink ≡ false → MayGoOn g p
@@ -78,6 +77,11 @@ goes_onward g p sink leads uncut =
     (λ e walk.
     sink_leaves g p.start p.edges last.before last.last last.edge e last.is last.there
     (uncut_no_jump g last.edge.sink (ap (is_cut g) leads.1 ∙ uncut)) walk)
+
+-- where a path may not land there is no cut
+pub no_landing_uncut : (cut landing : Bool) → (cut || landing) ≡ false → cut ≡ false
+no_landing_uncut true landing is = is
+no_landing_uncut false landing is = refl
 
 lands_at : (g : Graph) (p : Rule) (sink : Place) (b : Bool) → LeadsTo g p.edges sink → (is_cut g sink || is_definition_place (alone g) 0 sink) ≡ b
     → if_landing g p ≡ (if b then p ∷ [] else [])

@@ -47,8 +47,8 @@ pub record AreLongerRules (g : Graph) (w : Walk) (longer : List Rule) : Type 0 w
   pub exact : AllByRecursion (IsRuleOf g) longer
 
 -- such rules were added to these
-abbrev pub AddsLonger : Graph → Rule → List Rule → List Rule → Type 0
-AddsLonger g p old new = (longer : List Rule) × AreLongerRules g (walk_of_rule p) longer × (new ≡ old ++ longer)
+abbrev pub AddsLonger : Graph → Walk → List Rule → List Rule → Type 0
+AddsLonger g w old new = (longer : List Rule) × AreLongerRules g w longer × (new ≡ old ++ longer)
 
 -- the rule, where its walk is a landing one
 abbrev pub if_landing : Graph → Rule → List Rule

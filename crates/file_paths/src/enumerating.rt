@@ -5,11 +5,11 @@ ghost use Rattle.graph_nodes.specs.Cut.{is_cut};
 ghost use Rattle.partial_path.specs.Walks.{alone, is_definition_place, ends_landing, IsWalk, IsWeight, IsHeavier};
 ghost use Rattle.partial_path.specs.PathSets.{IsRuleOf, IsPathSet, AreFileRules, walk_of_rule};
 ghost use Rattle.file_paths.specs.declared.fault.TheConstants.{MAX_WEIGHT};
-ghost use Rattle.file_paths.specs.Finding.{IsShort, AreLongerRules, AddsLonger, LeadsTo, if_landing};
+ghost use Rattle.file_paths.specs.Finding.{IsShort, AddsLonger, LeadsTo, if_landing};
 ghost use Rattle.file_paths.specs.Finds.{max_weight, AddsWalks, HasCause};
 
 use crate::fault::{MAX_WEIGHT, PathsFault};
-use crate::growing::longer_of;
+use crate::growing::{begin_longer, grow};
 use crate::starting::first_paths;
 use graph_nodes::{FileGraph, Place, Steps};
 use partial_path::{FilePaths, PartialPath};
@@ -98,7 +98,8 @@ fn find(alloc: Global, graph: &FileGraph, steps: &mut u64) -> Result<Found, Path
     Ok(Found { paths, weight })
 }
 
-/// Keeps the path, where it lands, and begins those of one edge more.
+/// Keeps the path, where it lands, and begins those of one edge more. One that doesn't land is itself made
+/// longer.
 fn keep(
     alloc: Global,
     graph: &FileGraph,
@@ -110,17 +111,18 @@ fn keep(
     requires exact { IsRuleOf graph.now path }
     requires short { IsShort MAX_WEIGHT path }
     requires begun { AllByRecursion (IsShort (MAX_WEIGHT + 1)) begun.old.items }
-    ensures longer { OnOk result (AddsLonger graph.now path begun.old.items begun.new.items) }
+    ensures longer { OnOk result (AddsLonger graph.now (walk_of_rule path) begun.old.items begun.new.items) }
     ensures begun { OnOk result (AllByRecursion (IsShort (MAX_WEIGHT + 1)) begun.new.items) }
     ensures kept { OnOk result (paths.new.items ≡ paths.old.items ++ if_landing graph.now path) }
     ensures fault { OnErr result (result ≡ Err PathsFault.NoMemory) }
 {
     let sink = last_sink(graph, &path);
-    let mut longer = onward(alloc, graph, &path, sink)?;
-    begun.append(&mut longer)?;
-    if lands(graph, sink) {
-        paths.push(path)?;
+    if !lands(graph, sink) {
+        grow(alloc, graph, path, sink, begun)?;
+        return Ok(());
     }
+    onward(alloc, graph, &path, sink, begun)?;
+    paths.push(path)?;
     Ok(())
 }
 
@@ -136,25 +138,27 @@ fn last_sink(graph: &FileGraph, path: &PartialPath) -> Place
     graph.edge(edges[edges.len() - 1].edge).sink
 }
 
-/// The paths of one edge more than this one, whose last edge leads to the sink: none behind a cut edge.
+/// Begins the paths of one edge more than this one, whose last edge leads to the sink: none behind a cut edge.
 fn onward(
     alloc: Global,
     graph: &FileGraph,
     path: &PartialPath,
     sink: Place,
-) -> Result<Vec<PartialPath>, AllocError>
+    begun: &mut Vec<PartialPath>,
+) -> Result<(), AllocError>
     requires walk { IsWalk graph.now path.now.start path.now.edges }
     requires exact { IsRuleOf graph.now path.now }
     requires short { IsShort MAX_WEIGHT path.now }
     requires leads { LeadsTo graph.now path.now.edges sink }
     requires place { IsTrue (has_place (length graph.now.nodes) sink) }
-    ensures longer { IfOk result (λ longer. AreLongerRules graph.now (walk_of_rule path.now) longer.items) }
-    ensures short { IfOk result (λ longer. AllByRecursion (IsShort (MAX_WEIGHT + 1)) longer.items) }
+    requires begun { AllByRecursion (IsShort (MAX_WEIGHT + 1)) begun.old.items }
+    ensures longer { OnOk result (AddsLonger graph.now (walk_of_rule path.now) begun.old.items begun.new.items) }
+    ensures begun { OnOk result (AllByRecursion (IsShort (MAX_WEIGHT + 1)) begun.new.items) }
 {
     if graph.is_cut(sink) {
-        return Ok(Vec::new(alloc));
+        return Ok(());
     }
-    longer_of(alloc, graph, path, sink)
+    begin_longer(alloc, graph, path, sink, begun)
 }
 
 /// Whether a path whose last edge leads to the place may land there: at a cut, or at a definition.

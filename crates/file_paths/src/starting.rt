@@ -7,9 +7,9 @@ ghost use Rattle.partial_path.specs.declared.rule.Start.TheVariants.{After};
 ghost use Rattle.path_join.specs.Units.{place_spot};
 ghost use Rattle.file_paths.specs.declared.fault.TheConstants.{MAX_WEIGHT};
 ghost use Rattle.file_paths.specs.Walking.{no_edges};
-ghost use Rattle.file_paths.specs.Finding.{IsShort, AreLongerRules, AreFirstRules, starts_below, start_if, before_node};
+ghost use Rattle.file_paths.specs.Finding.{IsShort, AddsLonger, AreFirstRules, starts_below, start_if, before_node};
 
-use crate::growing::longer_of;
+use crate::growing::grow;
 use graph_nodes::{FileGraph, Place};
 use partial_path::PartialPath;
 use path_join::{opening, unit};
@@ -21,7 +21,8 @@ pub fn first_paths(alloc: Global, graph: &FileGraph) -> Result<Vec<PartialPath>,
     ensures first { IfOk result (λ first. AreFirstRules graph.now (starts_below graph.now (length graph.now.nodes)) first.items) }
     ensures short { IfOk result (λ first. AllByRecursion (IsShort (MAX_WEIGHT + 1)) first.items) }
 {
-    let mut first = units_from(alloc, graph, Place::Root)?;
+    let mut first = Vec::new(alloc);
+    push_units(alloc, graph, Place::Root, &mut first)?;
     for node in 0..graph.node_count() {
         push_before(alloc, graph, node, &mut first)?;
         push_after(alloc, graph, node, &mut first)?;
@@ -46,8 +47,7 @@ fn push_before(
         return Ok(());
     }
     let opened = opening(alloc, graph, node)?;
-    let mut longer = longer_of(alloc, graph, &opened, Place::At(node))?;
-    first.append(&mut longer)
+    grow(alloc, graph, opened, Place::At(node), first)
 }
 
 /// Adds the paths of one edge from after the node, where it is a cut node.
@@ -66,25 +66,29 @@ fn push_after(
     if !graph.is_cut(Place::At(node)) {
         return Ok(());
     }
-    let mut longer = units_from(alloc, graph, Place::At(node))?;
-    first.append(&mut longer)
+    push_units(alloc, graph, Place::At(node), first)
 }
 
-/// The paths of one edge from after the cut place, by the edges that leave it.
-fn units_from(alloc: Global, graph: &FileGraph, from: Place) -> Result<Vec<PartialPath>, AllocError>
+/// Adds the paths of one edge from after the cut place, by the edges that leave it.
+fn push_units(
+    alloc: Global,
+    graph: &FileGraph,
+    from: Place,
+    first: &mut Vec<PartialPath>,
+) -> Result<(), AllocError>
     requires place { IsTrue (has_place (length graph.now.nodes) from) }
     requires cut { is_cut graph.now from ≡ true }
     requires jump { is_jump from ≡ false }
-    ensures longer { IfOk result (λ longer. IfSome (place_spot from) (λ spot. AreLongerRules graph.now (no_edges (After spot)) longer.items)) }
-    ensures short { IfOk result (λ longer. AllByRecursion (IsShort (MAX_WEIGHT + 1)) longer.items) }
+    requires short { AllByRecursion (IsShort (MAX_WEIGHT + 1)) first.old.items }
+    ensures longer { OnOk result (IfSome (place_spot from) (λ spot. AddsLonger graph.now (no_edges (After spot)) first.old.items first.new.items)) }
+    ensures short { OnOk result (AllByRecursion (IsShort (MAX_WEIGHT + 1)) first.new.items) }
 {
     // Tells that the graph is checked.
     graph.node_count();
-    let mut longer = Vec::new(alloc);
     for edge in graph.edges_from(from) {
-        longer.push(unit(alloc, graph, edge)?)?;
+        first.push(unit(alloc, graph, edge)?)?;
     }
-    Ok(longer)
+    Ok(())
 }
 
 /// Whether the node at the position is a reference.

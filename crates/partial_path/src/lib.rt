@@ -35,7 +35,7 @@ pub use laws::{
 };
 pub use moving::file_zero_moves;
 pub use offers::FileOffers;
-pub use path::PartialPath;
+pub use path::{PartialPath, PathParts};
 pub use places::{edge_at, is_at_definition, is_definition_spot, node_at};
 pub use rule::{End, Start};
 pub use shared::SharedPaths;

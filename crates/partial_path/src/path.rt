@@ -4,6 +4,19 @@ use crate::rule::{End, Start};
 use stacks_vars::{Listed, Post, Pre, SymOut, SymPat, Tail};
 use std::marker::Model;
 
+/// What a partial path is made of: its ends, its conditions, its peak and its edges.
+#[derive(Debug, Drop)]
+pub struct PathParts {
+    pub start: Start,
+    pub end: End,
+    pub pre: Pre,
+    pub post: Post,
+    /// The greatest number of symbols on the way, less those that the path leaves as they are.
+    pub peak: u32,
+    /// The edges that the path stands for, the first first.
+    pub edges: Vec<EdgeAt>,
+}
+
 /// A partial path: a rule that rewrites stacks. It stands for a list of edges; applying it does at once
 /// what following them one after the other does. A stored path of one file has file number 0 everywhere.
 #[derive(Debug, Drop)]
@@ -110,6 +123,21 @@ impl PartialPath {
         ensures rule { IsRule self.now }
     {
         self.peak
+    }
+
+    /// The path taken apart, for one that is made of it. It takes no memory.
+    pub fn into_parts(self) -> PathParts
+        ensures value { rule_of result.start result.end result.pre result.post result.peak result.edges.items ≡ self }
+        ensures rule { IsRule self }
+    {
+        PathParts {
+            start: self.start,
+            end: self.end,
+            pre: self.pre,
+            post: self.post,
+            peak: self.peak,
+            edges: self.edges.into_items(),
+        }
     }
 
     /// The edges that the path stands for, the first first.

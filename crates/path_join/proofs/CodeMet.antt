@@ -27,7 +27,7 @@ at_or_nil [] i = refl
 at_or_nil (x ∷ lists) zero = ap (λ y. y ∷ lists) (append-nil x)
 at_or_nil (x ∷ lists) (suc i) = ap (λ ys. x ∷ ys) (at_or_nil lists i)
 
-grow-nothing : (known : Rests) (i : ℕ) → grow (Item i) [] known ≡ Some known
+pub grow-nothing : (known : Rests) (i : ℕ) → grow (Item i) [] known ≡ Some known
 grow-nothing known i = ap (λ items. Some (rests_of known.front items)) (at_or_nil known.items i)
 
 met-handed_scopes : (known : Rests) (i : ℕ) (pat : ScopePat) → meet_scopes known pat.fixed (handed_scopes i pat) ≡ Some known
@@ -43,7 +43,7 @@ met-handed_symbol known i pat =
     ap (λ (b : Bool). cond b (meet_attached known pat.scopes (option_map (handed_scopes i) pat.scopes)) None) ((bytes_eq-Decides pat.symbol pat.symbol).1 refl)
     ∙ met-handed_attached known i pat.scopes
 
-met-handed : (known : Rests) (i : ℕ) (pats : List SymPat) → meet_symbols known pats (handed i pats) ≡ Some known
+pub met-handed : (known : Rests) (i : ℕ) (pats : List SymPat) → meet_symbols known pats (handed i pats) ≡ Some known
 met-handed known i [] = refl
 met-handed known i (pat ∷ pats) =
     ap (option_and_then (λ (grown : Rests). meet_symbols grown pats (handed (suc i) pats))) (met-handed_symbol known i pat) ∙ met-handed known (suc i) pats

@@ -1,6 +1,6 @@
 -- The partial paths of one edge and of a reference's start. What they are said to be is said by what they
 -- do; here is how they are made.
-use Rattle.std.specs.Prelude.{ℕ, List, [], ◌∷◌, Option, Some, None, slice_get}
+use Rattle.std.specs.Prelude.{◌≡◌, ◌≤◌, ℕ, List, [], ◌∷◌, Option, Some, None, slice_get}
 use Rattle.std.specs.Option.{option_map, option_and_then, option_map_or}
 use Rattle.graph_nodes.specs.declared.node.Edge.{Edge}
 use Rattle.graph_nodes.specs.declared.node.Node.{Node}
@@ -28,6 +28,8 @@ use Rattle.partial_path.specs.declared.rule.End.TheVariants.{At, ByStack}
 use Rattle.partial_path.specs.Step.{action_of}
 use Rattle.partial_path.specs.Spots.{node_at}
 use Rattle.partial_path.specs.Rules.{Rule, rule_of}
+use Rattle.partial_path.specs.FileNumbers.{IsOfFileZero}
+use Rattle.partial_path.specs.PathSets.{IsRuleOf}
 
 -- the spot at a place of a file that stands alone; no path stands at the jump
 abbrev pub place_spot : Place → Option Spot
@@ -42,6 +44,14 @@ edge_alone e = record { file = 0; edge = e }
 -- the start after the source of the file's edge
 abbrev pub after_source : Graph → ℕ → Option Start
 after_source g e = option_and_then (λ (edge : Edge). option_map After (place_spot edge.source)) (slice_get g.edges e)
+
+-- a path of the file's one edge, from after its source: it does what following the edge does
+pub record IsUnit (g : Graph) (e : ℕ) (step : Rule) : Type 0 where
+  pub start : after_source g e ≡ Some step.start
+  pub edges : step.edges ≡ edge_alone e ∷ []
+  pub low : step.peak ≤ 1
+  pub rule : IsRuleOf g step
+  pub files : IsOfFileZero step
 
 -- a symbol asked for, and one made, plain or with attached scopes
 abbrev pub pat_of : List ℕ → Option ScopePat → SymPat

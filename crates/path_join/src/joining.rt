@@ -103,7 +103,7 @@ fn joined_edges(alloc: Global, p: &[EdgeAt], q: &[EdgeAt]) -> Result<Vec<EdgeAt>
 }
 
 /// Whether a path with this scope stack can end so: by the stack only where there can be a scope.
-fn can_end(end: End, out: &ScopeOut) -> bool
+pub(crate) fn can_end(end: End, out: &ScopeOut) -> bool
     ensures { result ≡ can_end end out.now }
 {
     match end {

@@ -2,6 +2,7 @@
 #![tactic(auto)]
 
 mod entering;
+mod extending;
 mod filling;
 mod joining;
 mod joint;
@@ -10,5 +11,6 @@ mod meeting;
 mod units;
 mod writing;
 
+pub use extending::extend;
 pub use joining::join;
 pub use units::{opening, unit};

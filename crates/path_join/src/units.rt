@@ -44,7 +44,7 @@ pub fn opening(alloc: Global, graph: &FileGraph, node: u32) -> Result<PartialPat
 }
 
 /// The file's edge: it doesn't leave the jump, and its sink is there.
-fn edge_of(graph: &FileGraph, edge: u32) -> Edge
+pub(crate) fn edge_of(graph: &FileGraph, edge: u32) -> Edge
     requires { edge < length graph.now.edges }
     ensures is { slice_get graph.now.edges edge ≡ Some result }
     ensures source { is_jump result.source ≡ false }
@@ -77,7 +77,7 @@ fn place_entered(
 }
 
 /// The spot at a place of a file that stands alone.
-fn spot_of(place: Place) -> Spot
+pub(crate) fn spot_of(place: Place) -> Spot
     requires { is_jump place ≡ false }
     ensures { place_spot place ≡ Some result }
 {

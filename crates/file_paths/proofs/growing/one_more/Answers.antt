@@ -2,7 +2,7 @@
 use Rattle.std.proofs.lemmas.Option.{IfSome_then}
 use Rattle.std.proofs.lemmas.Result.{IfOk-weaker}
 use Rattle.file_paths.specs.declared.fault.TheConstants.{MAX_WEIGHT}
-use Rattle.file_paths.proofs.NextLaws.{next_rule, next_none, next_short}
+use Rattle.file_paths.proofs.NextLaws.{next_rule, next_none, next_short, pre_low}
 use Rattle.file_paths.proofs.growing.one_more.Goals as goal
 
 pub returns-clause-joined : goal.returns-clause-joined
@@ -27,5 +27,5 @@ returns-clause-short c =
     (λ found h.
     IfSome_then found h
     (λ j join.
-    next_short MAX_WEIGHT c.args.edge c.args.path.now c.in_ok-step.step j c.requires.short c.start.ensures.rule c.start-2.ensures.rule c.in_ok-step.ensures.peak c.in_ok-step.ensures.edges join))
+    next_short MAX_WEIGHT c.args.edge c.args.path.now c.in_ok-step.step j c.requires.short c.start.ensures.rule (pre_low c.in_ok-step.step c.start-2.ensures.rule) c.in_ok-step.ensures.peak c.in_ok-step.ensures.edges join))
     c.join.ensures.joined
