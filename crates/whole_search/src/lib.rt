@@ -19,3 +19,4 @@ mod watch;
 
 pub use answer::{is_reference, search};
 pub use found::{Found, Hit, Hits, SearchFault};
+pub use partial_path::Bounds;
