@@ -51,6 +51,7 @@ SAID = {
     8: b"navd: the port can't be listened at, or a connection couldn't be accepted\n",
     9: b"navd: the input isn't cut into messages as the protocol has it, or ends within one\n",
 }
+LONG_LINE = b"navd: line %d has more than 8388608 bytes\n"
 HELLO = b'{"do":"hello","user":"operator"}\n'
 PIN = b'{"do":"pin"}\n'
 QUIT = b'{"do":"quit"}\n'
@@ -358,14 +359,15 @@ ROWS_OF_TABLE = [
 ]
 
 
-def faults(wanted, data, written, ended):
+def faults(wanted, words, data, written, ended):
     """What of the run differs from what is wanted."""
     found = []
     if ended.status != wanted:
         found.append(f"ended with {ended.status}")
     if written is not None and ended.wrote != written:
         found.append(f"wrote {len(ended.wrote):,} bytes, not the {len(written):,} that are wanted")
-    if ended.said != SAID[wanted]:
+    said = LONG_LINE % (written.count(b"\n") + 1) if (wanted, words) == (6, ["run"]) else SAID[wanted]
+    if ended.said != said:
         found.append(f"said {ended.said[:80]!r} on standard error")
     if wanted == 2 and ended.left != len(data):
         found.append(f"read {len(data) - ended.left:,} bytes")
@@ -378,7 +380,7 @@ def shown(program):
     for wanted, words, what, call, data, written in ROWS_OF_TABLE:
         told = " ".join(word if isinstance(word, str) else repr(word)[2:-1] for word in words)
         try:
-            found = faults(wanted, data, written, call([program, *words], data))
+            found = faults(wanted, words, data, written, call([program, *words], data))
             verdict = "; ".join(found) or "so it is"
             wrong += bool(found)
         except NotShown as error:

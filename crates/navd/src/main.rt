@@ -9,6 +9,7 @@ ghost use Rattle.nav_serve.specs.Commands.{may_end};
 use graph_nodes::Steps;
 use nav_io::{Door, House, StdSink, StdSource, TcpHouse};
 use std::alloc::Global;
+use std::cell::Cell;
 use std::io::{ErrorKind, Read, Write};
 use std::marker::Brand;
 use std::process::ExitCode;
@@ -18,8 +19,10 @@ use std::thread::Threads;
 use std::{env, io};
 
 mod alone;
+mod counted;
 
 use crate::alone::run_alone;
+use crate::counted::Counted;
 
 #[cfg(test)]
 mod tests;
@@ -34,22 +37,45 @@ const BAD_WORDS: u8 = 2;
 /// The status where memory was refused before a command began.
 const NO_MEMORY: u8 = 5;
 
+/// The status where a line or a message is too long.
+const LONG_LINE: u8 = 6;
+
 fn main(rt: HostRuntime) -> ExitCode {
     let mut house = TcpHouse::new(&rt);
+    let words = words_of(&rt);
+    let answers_lines = is_session(&words);
+    let replies = Cell::new(0);
     let status = ended::<_, _, _, _, Brand>(
         &rt,
         rt.alloc(),
-        words_of(&rt),
+        words,
         rt.stdin(),
-        rt.stdout(),
+        Counted {
+            writer: rt.stdout(),
+            lines: &replies,
+        },
         &mut house,
         Blank::new(1),
     );
+    if answers_lines && status == LONG_LINE {
+        // Each line before it has one reply.
+        let line = replies.get().saturating_add(1);
+        let _ = eprintln!(rt; "navd: line {line} has more than 8388608 bytes");
+        return ExitCode::from(status);
+    }
     let why = why(status);
     if !why.is_empty() {
         let _ = eprintln!(rt; "{why}");
     }
     ExitCode::from(status)
+}
+
+/// Whether the words begin a session, which answers each line with one.
+fn is_session(words: &io::Result<Vec<String>>) -> bool {
+    match words {
+        Ok(words) => words.first().is_some_and(|word| word.as_str() == "run"),
+        Err(_) => false,
+    }
 }
 
 /// What standard error tells of a status, in one line: why the program did no more. Of 0 it tells nothing.
@@ -60,7 +86,7 @@ fn why(status: u8) -> &'static str {
         3 => "navd: reading standard input failed",
         4 => "navd: writing standard output failed",
         NO_MEMORY => "navd: memory was refused",
-        6 => "navd: a line or a message has more than 8388608 bytes",
+        LONG_LINE => "navd: a line or a message has more than 8388608 bytes",
         7 => "navd: 1000000 lines or messages were answered, and more input stands behind them",
         8 => "navd: the port can't be listened at, or a connection couldn't be accepted",
         9 => "navd: the input isn't cut into messages as the protocol has it, or ends within one",

@@ -4,6 +4,7 @@ mod at_once;
 mod graphs;
 mod sessions;
 
+use crate::counted::Counted;
 use crate::ended;
 use nav_io::MemHouse;
 use std::alloc::Global;
@@ -126,6 +127,23 @@ fn status_of<T: Threads + Wait + Sync>(rt: &T, alloc: Global, given: &str) -> Re
     let (status, written) = run_on(rt, alloc, line, input, held_back.parse()?, room.parse()?)?;
     let bytes = written.len();
     Ok(format!(in alloc; "{status} {bytes}")?)
+}
+
+#[test]
+fn lines_are_counted_as_far_as_they_are_taken(rt: HostRuntime) -> Result<(), Fail> {
+    let lines = Cell::new(0);
+    let mut writer = Counted {
+        writer: Filled {
+            took: Vec::new(rt.alloc()),
+            room: 5,
+        },
+        lines: &lines,
+    };
+    assert_eq!(rt; writer.write(b"a\n\nb\nc\n")?, 5);
+    assert_eq!(rt; lines.get(), 3);
+    assert!(rt; writer.write(b"\n").is_err());
+    assert_eq!(rt; lines.get(), 3);
+    Ok(())
 }
 
 #[test]
