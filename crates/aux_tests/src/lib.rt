@@ -6,6 +6,8 @@ mod boards;
 #[cfg(test)]
 mod enumerated;
 #[cfg(test)]
+mod faults;
+#[cfg(test)]
 mod indexed;
 #[cfg(test)]
 mod paths;
