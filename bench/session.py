@@ -8,7 +8,8 @@ file's `a`, both drawn from the number of files; so each definition is found thr
 columns are: the commits of all files, 64 in each; the commit of one file that changes, and beside it how often it costs
 the one of the smallest tree; definitions asked at one version with all lines sent at once, a second, of one file after
 the other and then of one file alone, and beside these how often one costs what it costs in the smallest tree; who refers
-to a definition, asked first and again at one version; and the program's memory at the end.
+to a definition, asked first and again at one version; and the program's memory at the end. Below stand the documents a
+second of a project's first commits, the middle ones of several rounds.
 """
 
 import json
@@ -24,6 +25,8 @@ PROGRAM = sys.argv[1] if len(sys.argv) > 1 else "crates/navd/out/navd"
 FILES = (64, 512, 2_048)
 BATCH = 64
 MODULES = 256
+# How often they are committed on one processor and on all, by turns.
+ROUNDS = 7
 # How many commits of one file, definitions and who-refers questions are timed.
 COMMITS, DEFINES, REFERENCES = 40, 100_000, 8
 
@@ -130,12 +133,10 @@ def modules_a_second(alone):
     """Documents a second of a project's first commits, each module with a name of its own in it."""
     puts = [{"put": f"m{n:03}.py", "text": MODULE + f"own_{n} = 1\n"} for n in range(MODULES)]
     commits = [line_of(do="commit", edits=puts[n:n + BATCH]) for n in range(0, MODULES, BATCH)]
-    took = []
-    for _ in range(3):
-        session = Session(alone)
-        took.append(session.replies(commits)[1])
-        session.end()
-    return MODULES / min(took)
+    session = Session(alone)
+    _, took = session.replies(commits)
+    session.end()
+    return MODULES / took
 
 
 def main():
@@ -146,9 +147,10 @@ def main():
         least = least or (one_file, spread, alone)
         print(f"{files:5}   {all_files:8.3f} s   {one_file * 1e3:7.2f} ms   {one_file / least[0]:5.2f}   {1 / spread:8,.0f}   {spread / least[1]:5.2f}   "
               f"{1 / alone:9,.0f}     {alone / least[2]:5.2f}   {first * 1e3:7.2f} ms   {again * 1e3:7.2f} ms   {memory:6.1f} MB")
-    one, many = modules_a_second(True), modules_a_second(False)
+    rounds = [(modules_a_second(True), modules_a_second(False)) for _ in range(ROUNDS)]
+    one, many, times = (sorted(column)[ROUNDS // 2] for column in zip(*((one, many, many / one) for one, many in rounds)))
     processors = len(os.sched_getaffinity(0))
-    print(f"{MODULES} modules of {len(MODULE):,} bytes: {one:,.0f} documents/s on one processor, {many:,.0f} on {processors}, {many / one:.1f} times as many")
+    print(f"{MODULES} modules of {len(MODULE):,} bytes: {one:,.0f} documents/s on one processor, {many:,.0f} on {processors}, {times:.1f} times as many")
 
 
 if __name__ == "__main__":
