@@ -1,7 +1,7 @@
 use crate::check::{first_fault, is_exported_at};
 use crate::edges::EdgeIter;
 use crate::fault::GraphFault;
-use crate::index::{marks_of, rows_of, slot_of};
+use crate::index::{Rows, marks_of, row_of, rows_of};
 use crate::node::{Edge, Node, Place};
 use std::alloc::{AllocError, Global};
 use std::marker::Model;
@@ -18,20 +18,20 @@ pub struct FileGraph {
     nodes: Vec<Node>,
     edges: Vec<Edge>,
     /// For each place the positions of the edges that leave it, rising.
-    rows: Vec<Vec<u32>>,
+    rows: Rows,
     /// For each node whether it is a turning node.
     marks: Vec<bool>,
 }
 
 impl Model for FileGraph {
     ghost use Rattle.graph_nodes.specs.Graph.{Graph};
-    ghost use Rattle.graph_nodes.specs.Inside.{IsIndexed, contents};
+    ghost use Rattle.graph_nodes.specs.Inside.{IsIndexed};
 
     ghost Value = { Graph };
 
     ghost view = { λ g. record { nodes = g.nodes.items; edges = g.edges.items } };
 
-    ghost invariant = { λ g. IsIndexed g.nodes.items g.edges.items (contents g.rows.items) g.marks.items };
+    ghost invariant = { λ g. IsIndexed g.nodes.items g.edges.items g.rows.starts.items g.rows.order.items g.marks.items };
 }
 
 impl FileGraph {
@@ -141,6 +141,6 @@ impl FileGraph {
         requires { IsTrue (has_place (length self.now.nodes) place) }
         ensures { result ≡ edges_from self.now place }
     {
-        EdgeIter::over(self.rows[slot_of(self.nodes.len(), place)].as_slice())
+        EdgeIter::over(row_of(&self.rows, self.nodes.len(), place))
     }
 }

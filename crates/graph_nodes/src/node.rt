@@ -79,6 +79,16 @@ impl Name {
         self.bytes.as_slice()
     }
 
+    /// The same name once more, whose bytes are shared and not copied. It takes no memory; the one error
+    /// is want of room to count one holder more.
+    pub fn share(&self) -> Result<Name, AllocError>
+        ensures { IfOk result (λ name. name ≡ self.now) }
+    {
+        Ok(Name {
+            bytes: Arc::try_clone(&self.bytes)?,
+        })
+    }
+
     /// The bytes themselves, held once more and not copied. The one error is want of room to count one
     /// holder more.
     pub fn shared(&self) -> Result<Arc<Vec<u8>, Global>, AllocError>
