@@ -1,6 +1,6 @@
 -- Which clause rests on which file. `PartialPath::check` on Firsts; `moved` on MovedRules and FileNumberLaws;
--- `meets`, `apply` and `apply_to` on Lefts, Asked and Put. `FilePaths::new`: order and keys on KeyOrders, its sets
--- on Reordered; `paths_from` and `paths_asking` on Halved; `next_offer` on Offered, which Orders, Halved,
+-- `meets`, `apply` and `apply_to` on Lefts, Asked and Put. `FilePaths::new`: order and keys on Pieces and KeyOrders,
+-- its sets on Reordered; `paths_from` and `paths_asking` on Halved; `next_offer` on Offered, which Orders, Halved,
 -- KeyOrders, Asking and Standing serve. `FileList` on Asking and Listing; `is_cut_edge` on Edges.
 -- The laws: of one file, Prefixes, Cycles, Edgeless; of moved paths, SwappedRuns, FileNumberLaws; of offers,
 -- Applied, OfferedStored, Listing; of cut runs, CutRuns, Joints, OnlyCuts, HighJoints, CutJoints, Returned. RunsOn,
@@ -20,6 +20,7 @@ pub mod Orders
 pub mod Reordered
 pub mod Halved
 pub mod KeyOrders
+pub mod Pieces
 pub mod Asking
 pub mod Standing
 pub mod Offered

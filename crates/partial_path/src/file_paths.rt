@@ -1,7 +1,8 @@
 use crate::offers::{FileOffers, next_offer};
 use crate::path::PartialPath;
 use crate::rule::Start;
-use crate::slots::{run_asking, slots_cmp};
+use crate::slots::run_asking;
+use crate::sorting::sort_paths;
 use graph_nodes::{FileGraph, Node, Place};
 use stacks_vars::SymbolStack;
 use std::marker::Model;
@@ -39,8 +40,8 @@ impl FilePaths {
     ghost use Rattle.partial_path.specs.Keys.{IsByKey, key_size, rules_asking, texts};
     ghost use Rattle.partial_path.specs.Offers.{offers_left};
 
-    /// The paths of this file, sorted where they lie: by their starts, and those of one start by their keys.
-    /// It takes no memory.
+    /// The paths of this file, sorted by their starts, and those of one start by their keys. It takes memory
+    /// for the sort by starts, which moves each path once, and does without where that is refused.
     pub fn new(graph: FileGraph, mut paths: Vec<PartialPath>, weight: u32) -> FilePaths
         requires paths { IsPathSet graph paths.items }
         requires weight { IsWeight graph weight }
@@ -50,7 +51,7 @@ impl FilePaths {
         ensures order { IsByStart result.rules }
         ensures keys { IsByKey result.rules }
     {
-        paths.sort_unstable_by(|a, b| slots_cmp(a, b));
+        sort_paths(&mut paths);
         FilePaths {
             graph,
             paths,

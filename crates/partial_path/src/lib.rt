@@ -18,6 +18,7 @@ mod places;
 mod rule;
 mod shared;
 mod slots;
+mod sorting;
 mod source;
 mod stepping;
 
