@@ -28,7 +28,7 @@ unit_of g i u starts has exact =
     let k = source_leaves place_spot refl refl (λ n. refl) g i u.start starts in
     (k.0, record { leaves = k.2; start = k.1; edges = has; exact = exact })
 
-pub next_rule : (g : Graph) (i : ℕ) (p u j : Rule) → MayGoOn g p → after_source g i ≡ Some u.start → u.edges ≡ edge_alone i ∷ [] → IsRuleOf g u → IsJoin p u j
+next_rule : (g : Graph) (i : ℕ) (p u j : Rule) → MayGoOn g p → after_source g i ≡ Some u.start → u.edges ≡ edge_alone i ∷ [] → IsRuleOf g u → IsJoin p u j
     → IsLongerRule g (walk_of_rule p) i j
 next_rule g i p u j may starts has exact join =
     let unit = unit_of g i u starts has exact in
@@ -38,7 +38,7 @@ next_rule g i p u j may starts has exact join =
       exact = joined_is_rule g i unit.0 p u j may.exact unit.1 join;
     }
 
-pub next_none : (g : Graph) (i : ℕ) (p u : Rule) → MayGoOn g p → after_source g i ≡ Some u.start → u.edges ≡ edge_alone i ∷ [] → IsRuleOf g u → NonePasses p u
+next_none : (g : Graph) (i : ℕ) (p u : Rule) → MayGoOn g p → after_source g i ≡ Some u.start → u.edges ≡ edge_alone i ∷ [] → IsRuleOf g u → NonePasses p u
     → ¬ IsWalk g p.start (p.edges ++ edge_alone i ∷ [])
 next_none g i p u may starts has exact none walk =
     let unit = unit_of g i u starts has exact in no_walk g i unit.0 p u may.exact unit.1 none walk
@@ -52,17 +52,11 @@ post_low p rule = let h = rule.peak in below (length p.pre.symbols) (length p.po
     below : (m n k : ℕ) → max m n ≤ k → n ≤ k
     below m n k h = omega arith
 
-pub pre_low : (p : Rule) → IsRule p → length p.pre.symbols ≤ p.peak
-pre_low p rule = let h = rule.peak in below (length p.pre.symbols) (length p.post.symbols) p.peak h
-  where
-    below : (m n k : ℕ) → max m n ≤ k → m ≤ k
-    below m n k h = omega arith
-
 longer_by_one : (limit k n : ℕ) → k ≤ limit → n ≡ k + 1 → n ≤ limit + 1
 longer_by_one limit k n h e = omega arith
 
 -- the join of a short path with that of an edge has one edge more, and is short
-pub next_short : (limit i : ℕ) (p u j : Rule) → IsShort limit p → IsRule p → length u.pre.symbols ≤ u.peak → u.peak ≤ 1 → u.edges ≡ edge_alone i ∷ [] → IsJoin p u j
+next_short : (limit i : ℕ) (p u j : Rule) → IsShort limit p → IsRule p → length u.pre.symbols ≤ u.peak → u.peak ≤ 1 → u.edges ≡ edge_alone i ∷ [] → IsJoin p u j
     → IsShort (limit + 1) j
 next_short limit i p u j short rule asks low has join = record {
   edges = longer_by_one limit (length p.edges) (length j.edges) short.edges edges;

@@ -9,7 +9,7 @@ ghost use Rattle.file_paths.specs.Finding.{IsShort, MayGoOn, GoesOnFrom, IsLonge
 
 use graph_nodes::{FileGraph, Place};
 use partial_path::PartialPath;
-use path_join::{extend, join, unit};
+use path_join::{extend, extended};
 use std::alloc::{AllocError, Global};
 
 /// Begins the paths of one edge more than this one, by the edges that leave the place. The path is taken:
@@ -39,7 +39,7 @@ pub fn grow(
         begin(longer, begun)?;
         last = next;
     }
-    let longer = extended(alloc, graph, path, last)?;
+    let longer = made_longer(alloc, graph, path, last)?;
     begin(longer, begun)
 }
 
@@ -91,14 +91,13 @@ fn one_more(
     ensures none { IfOk result (λ found. found ≡ None → ¬ IsWalk graph.now path.now.start (path.now.edges ++ edge_alone edge ∷ [])) }
     ensures short { IfOk result (λ found. IfSome found (IsShort (MAX_WEIGHT + 1))) }
 {
-    let step = unit(alloc, graph, edge)?;
-    // Each start tells that its path is a rule.
-    let _ = (path.start(), step.start());
-    join(alloc, path, &step)
+    // The start tells that the path is a rule.
+    let _ = path.start();
+    extended(alloc, graph, path, edge)
 }
 
 /// As `one_more`, of a path that isn't kept.
-fn extended(
+fn made_longer(
     alloc: Global,
     graph: &FileGraph,
     path: PartialPath,

@@ -34,13 +34,15 @@ pub fn extend(
     let found = edge_of(graph, edge);
     let source = spot_of(found.source);
     match path.end() {
-        End::At(spot) if spot.same(source) => extended(alloc, graph, path, found.sink, edge),
-        End::At(_) | End::ByStack => extended_by_join(alloc, graph, &path, edge),
+        End::At(spot) if spot.same(source) => extended_in_place(
+            alloc, graph, path, found.sink, edge,
+        ),
+        End::At(_) | End::ByStack => extended(alloc, graph, &path, edge),
     }
 }
 
-/// The join of the path with the edge's unit, which is made for it.
-fn extended_by_join(
+/// As `extend`, of a path that is kept: a new path, for which the edge's unit is made and joined.
+pub fn extended(
     alloc: Global,
     graph: &FileGraph,
     path: &PartialPath,
@@ -58,7 +60,7 @@ fn extended_by_join(
 }
 
 /// The path made longer in place: it goes on from its end by the edge to this sink.
-fn extended(
+fn extended_in_place(
     alloc: Global,
     graph: &FileGraph,
     path: PartialPath,

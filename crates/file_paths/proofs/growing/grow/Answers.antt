@@ -37,8 +37,8 @@ loop-next-preserved c = record {
       c.loop-next.invariant.short c.in_ok-longer.ensures.short c.in_ok-begin.ensures;
 }
 
-pub extended-requires-clause-edge : goal.extended-requires-clause-edge
-extended-requires-clause-edge c =
+pub made_longer-requires-clause-edge : goal.made_longer-requires-clause-edge
+made_longer-requires-clause-edge c =
     adding_there c.args.graph.now (walk_of_rule c.args.path) c.args.from (c.loop-next.last ∷ c.loop-next.next-iterator) c.loop-next.next-iterator c.loop-next.last
     c.args.begun.now.items c.loop-next.begun.items c.loop-next.invariant.adding refl
 

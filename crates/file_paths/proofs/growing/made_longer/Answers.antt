@@ -2,7 +2,7 @@
 use Rattle.std.proofs.lemmas.Result.{IfOk-weaker}
 use Rattle.file_paths.specs.declared.fault.TheConstants.{MAX_WEIGHT}
 use Rattle.file_paths.proofs.NextLaws.{extended_rule, extended_none, extended_short}
-use Rattle.file_paths.proofs.growing.extended.Goals as goal
+use Rattle.file_paths.proofs.growing.made_longer.Goals as goal
 
 pub returns-clause-joined : goal.returns-clause-joined
 returns-clause-joined c =
