@@ -7,8 +7,8 @@ ghost use Rattle.index_gate.specs.Indexed.{IsIndexed, IsDocWeight};
 ghost use Rattle.index_gate.specs.Reading.{IsReading, HasNone};
 ghost use Rattle.index_gate.specs.Ahead.{IsDone};
 
+use crate::documents::read_document;
 use crate::fault::{FileFault, ReadFault};
-use crate::reading::read_document;
 use file_paths::{PathsFault, find_paths};
 use graph_nodes::FileGraph;
 use nav_io::Gate;

@@ -12,8 +12,8 @@ use Rattle.lsp_frames.specs.declared.reader.FrameError.TheVariants as frame
 use Rattle.lsp_wire.specs.declared.reply.Reply.{Reply}
 use Rattle.lsp_messages.specs.declared.halt.Halt.{Halt}
 use Rattle.lsp_messages.specs.declared.halt.Halt.TheVariants.{SourceFailed, SinkFailed, NoMemory, Large, Broken}
-use Rattle.lsp_messages.specs.declared.reading.More.{More}
-use Rattle.lsp_messages.specs.declared.reading.More.TheVariants as more
+use Rattle.lsp_messages.specs.declared.receiving.More.{More}
+use Rattle.lsp_messages.specs.declared.receiving.More.TheVariants as more
 use Rattle.lsp_messages.specs.Ends.{status_of, writes_all, answers_all}
 use Rattle.lsp_messages.specs.Inputs.{max_messages, is_exit, whole_body, up_to_exit, to_answer, Ending, AtEnd, AtExit, AtBroken, AtLarge, AtMost, ending_full, ending_with, ending, status_at, AreFrames, HaveNoExit}
 use Rattle.lsp_messages.specs.Reached.{AreFirst, HasRead, AreTaken, AreAllTaken}

@@ -9,8 +9,8 @@ use Rattle.lsp_wire.specs.declared.message.Body.{Body}
 use Rattle.lsp_wire.specs.Messages.{body_from}
 use Rattle.lsp_messages.specs.declared.halt.Halt.{Halt}
 use Rattle.lsp_messages.specs.declared.halt.Halt.TheVariants.{SourceFailed, SinkFailed, NoMemory, Large, Broken}
-use Rattle.lsp_messages.specs.declared.reading.More.{More}
-use Rattle.lsp_messages.specs.declared.reading.More.TheVariants as more
+use Rattle.lsp_messages.specs.declared.receiving.More.{More}
+use Rattle.lsp_messages.specs.declared.receiving.More.TheVariants as more
 
 -- the reader went from old to new and the source from left to left', and next is the body or none
 pub record ReadsFrame (old new : Reading) (left left' next : Option (List ℕ)) : Type 0 where

@@ -3,10 +3,10 @@
 
 mod halt;
 mod laws;
-mod reading;
+mod receiving;
 mod writing;
 
 pub use halt::Halt;
 pub use laws::messages_stand_in_turn;
-pub use reading::{MAX_MESSAGES, More, ends_session, look_on, next_message};
+pub use receiving::{MAX_MESSAGES, More, ends_session, look_on, next_message};
 pub use writing::write_reply;

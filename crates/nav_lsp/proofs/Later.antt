@@ -26,7 +26,7 @@ use Rattle.lsp_answers.specs.Queries.{IsPlaced, TellsDefinitions, TellsReference
 use Rattle.nav_lsp.specs.declared.phase.Phase.{Phase}
 use Rattle.nav_lsp.specs.declared.phase.Phase.TheVariants.{Before, Open, Shut}
 use Rattle.nav_lsp.specs.Editing.{Editing, operator, files_of}
-use Rattle.nav_lsp.specs.Replies.{Gives, refused, refusal_of, IsQueried, IsCarriedOut, IsRequested, Commits, IsPut, IsClosed, IsChanged, IsNoted, IsNotified, IsMessage, IsReplied, IsReplyTo}
+use Rattle.nav_lsp.specs.Replies.{RepliesWith, refused, refusal_of, IsQueried, IsCarriedOut, IsRequested, Commits, IsPut, IsClosed, IsChanged, IsNoted, IsNotified, IsMessage, IsReplied, IsReplyTo}
 use Rattle.nav_lsp.specs.Transcripts.{AreReplies}
 
 -- a log that begins another one is its first entries
@@ -92,7 +92,7 @@ requested_later : (log log' : List Entry) (before : Editing) (id : Id) (asks : A
     → Begins log log' → IsRequested log before id asks reply after → IsRequested log' before id asks reply after
 requested_later log log' before id asks reply after b h =
     unless_refused (refusal_of before.phase asks) (IsCarriedOut log before id asks reply after) (IsCarriedOut log' before id asks reply after)
-    (λ refusal. Gives (refused (Some id) refusal) before reply after) (carried_out_later log log' before id asks reply after b) h
+    (λ refusal. RepliesWith (refused (Some id) refusal) before reply after) (carried_out_later log log' before id asks reply after b) h
 
 -- a change of one document
 commits_later : (seat : ℕ) (log log' : List Entry) (before : Editing) (path : List ℕ) (edit : FileEdit) (text : Option (List ℕ)) (reply : Option Reply) (after : Editing)
@@ -114,7 +114,7 @@ if_some X (Some x) A P Q f h = f x h
 put_later : (seat : ℕ) (log log' : List Entry) (before : Editing) (uri text : List ℕ) (reply : Option Reply) (after : Editing)
     → Begins log log' → IsPut seat log before uri text reply after → IsPut seat log' before uri text reply after
 put_later seat log log' before uri text reply after b h =
-    if_some (List ℕ) (path_under before.root uri) (Gives None before reply after)
+    if_some (List ℕ) (path_under before.root uri) (RepliesWith None before reply after)
     (λ path. Commits seat log before path (Put path text) (Some text) reply after)
     (λ path. Commits seat log' before path (Put path text) (Some text) reply after)
     (λ path c. commits_later seat log log' before path (Put path text) (Some text) reply after b c) h
@@ -122,7 +122,7 @@ put_later seat log log' before uri text reply after b h =
 closed_later : (seat : ℕ) (log log' : List Entry) (before : Editing) (uri : List ℕ) (reply : Option Reply) (after : Editing)
     → Begins log log' → IsClosed seat log before uri reply after → IsClosed seat log' before uri reply after
 closed_later seat log log' before uri reply after b h =
-    if_some (List ℕ) (path_under before.root uri) (Gives None before reply after)
+    if_some (List ℕ) (path_under before.root uri) (RepliesWith None before reply after)
     (λ path. Commits seat log before path (Remove path) None reply after)
     (λ path. Commits seat log' before path (Remove path) None reply after)
     (λ path c. commits_later seat log log' before path (Remove path) None reply after b c) h
@@ -130,7 +130,7 @@ closed_later seat log log' before uri reply after b h =
 changed_later : (seat : ℕ) (log log' : List Entry) (before : Editing) (uri : List ℕ) (text : Option (List ℕ)) (reply : Option Reply) (after : Editing)
     → Begins log log' → IsChanged seat log before uri text reply after → IsChanged seat log' before uri text reply after
 changed_later seat log log' before uri text reply after b h =
-    if_some (List ℕ) text (Gives None before reply after)
+    if_some (List ℕ) text (RepliesWith None before reply after)
     (λ text. IsPut seat log before uri text reply after)
     (λ text. IsPut seat log' before uri text reply after)
     (λ text p. put_later seat log log' before uri text reply after b p) h

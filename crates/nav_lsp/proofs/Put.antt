@@ -10,7 +10,7 @@ use Rattle.lsp_texts.specs.declared.open_texts.OpenTexts.{OpenTexts}
 use Rattle.lsp_texts.specs.Texts.{Texts, AreSame, texts_in, with_text}
 use Rattle.nav_lsp.specs.declared.editor.Editor.{Editor}
 use Rattle.nav_lsp.specs.Held.{CommitsOne, editing_at}
-use Rattle.nav_lsp.specs.Replies.{Gives, Commits, IsPut, IsClosed}
+use Rattle.nav_lsp.specs.Replies.{RepliesWith, Commits, IsPut, IsClosed}
 
 -- texts that are the same at each path are the same
 same_texts : (old new : Texts) → AreSame old new → new ≡ old
@@ -48,7 +48,7 @@ pub has_put : (seat : ℕ) (log : List Entry) (seen pin seen' pin' : ℕ) (old m
     → IsPut seat log (editing_at seen pin old) uri text None (editing_at seen' pin' (record mid { desk = desk; texts = texts }))
 has_put seat log seen pin seen' pin' old mid roomy texts desk uri path text accepted inside room made c same =
     let new : Editor = record mid { desk = desk; texts = texts } in
-    subst (λ (o : Option (List ℕ)). MatchOption o (Gives None (editing_at seen pin old) None (editing_at seen' pin' new))
+    subst (λ (o : Option (List ℕ)). MatchOption o (RepliesWith None (editing_at seen pin old) None (editing_at seen' pin' new))
     (λ p. Commits seat log (editing_at seen pin old) p (Put p text) (Some text) None (editing_at seen' pin' new))) inside
     (committed seat log seen pin seen' pin' old mid desk texts path (Put path text) (Some text) accepted c
     (ap (λ (e : Editor). e.phase) made) (ap (λ (e : Editor). e.root.items) made)
@@ -63,7 +63,7 @@ pub has_closed : (seat : ℕ) (log : List Entry) (seen pin seen' pin' : ℕ) (ol
     → IsClosed seat log (editing_at seen pin old) uri None (editing_at seen' pin' (record mid { desk = desk; texts = texts }))
 has_closed seat log seen pin seen' pin' old mid texts desk uri path accepted inside made c same =
     let new : Editor = record mid { desk = desk; texts = texts } in
-    subst (λ (o : Option (List ℕ)). MatchOption o (Gives None (editing_at seen pin old) None (editing_at seen' pin' new))
+    subst (λ (o : Option (List ℕ)). MatchOption o (RepliesWith None (editing_at seen pin old) None (editing_at seen' pin' new))
     (λ p. Commits seat log (editing_at seen pin old) p (Remove p) None None (editing_at seen' pin' new))) inside
     (committed seat log seen pin seen' pin' old mid desk texts path (Remove path) None accepted c
     (ap (λ (e : Editor). e.phase) made) (ap (λ (e : Editor). e.root.items) made) (ap (λ (e : Editor). texts_in e.texts) made) same)

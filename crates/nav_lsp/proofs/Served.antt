@@ -8,8 +8,8 @@ use Rattle.nav_io.specs.Write.{HoldsPrefix}
 use Rattle.lsp_wire.specs.declared.reply.Reply.{Reply}
 use Rattle.lsp_messages.specs.declared.halt.Halt.{Halt}
 use Rattle.lsp_messages.specs.declared.halt.Halt.TheVariants.{SourceFailed, NoMemory, Large, Broken}
-use Rattle.lsp_messages.specs.declared.reading.More.{More}
-use Rattle.lsp_messages.specs.declared.reading.More.TheVariants as more
+use Rattle.lsp_messages.specs.declared.receiving.More.{More}
+use Rattle.lsp_messages.specs.declared.receiving.More.TheVariants as more
 use Rattle.lsp_messages.specs.Inputs.{max_messages}
 use Rattle.lsp_messages.specs.Serving.{reply_frame, Serves}
 use Rattle.lsp_messages.specs.Turns.{LooksOn}

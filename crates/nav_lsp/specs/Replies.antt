@@ -36,7 +36,7 @@ abbrev pub refused : Option Id → Refusal → Option Reply
 refused id refusal = Some (record { id = id; outcome = Refused refusal })
 
 -- that is the reply, or there is none, and that the session afterwards
-pub record Gives (due : Option Reply) (next : Editing) (reply : Option Reply) (after : Editing) : Type 0 where
+pub record RepliesWith (due : Option Reply) (next : Editing) (reply : Option Reply) (after : Editing) : Type 0 where
   pub told : reply ≡ due
   pub becomes : after ≡ next
 
@@ -91,13 +91,13 @@ refusal_of Shut asks = Some InvalidRequest
 -- a query of the version that is pinned, which is one of the log, is replied with an outcome, and nothing changes
 abbrev pub IsQueried : List Entry → Editing → Id → Option Reply → Editing → (Outcome → Type 0) → Type 0
 IsQueried log before id reply after IsOutcome =
-    (before.pin ≤ length log) × (outcome : Outcome) × IsOutcome outcome × Gives (replied id outcome) before reply after
+    (before.pin ≤ length log) × (outcome : Outcome) × IsOutcome outcome × RepliesWith (replied id outcome) before reply after
 
 -- a request that is carried out; the other methods are refused
 abbrev pub IsCarriedOut : List Entry → Editing → Id → Asks → Option Reply → Editing → Type 0
-IsCarriedOut log before id (Initialize root) reply after = Gives (replied id Capabilities) (begun root before) reply after
+IsCarriedOut log before id (Initialize root) reply after = RepliesWith (replied id Capabilities) (begun root before) reply after
 IsCarriedOut log before id Initialized reply after = ⊥
-IsCarriedOut log before id Shutdown reply after = Gives (replied id Null) (shut before) reply after
+IsCarriedOut log before id Shutdown reply after = RepliesWith (replied id Null) (shut before) reply after
 IsCarriedOut log before id Exit reply after = ⊥
 IsCarriedOut log before id (DidOpen uri text) reply after = ⊥
 IsCarriedOut log before id (DidChange uri text) reply after = ⊥
@@ -116,7 +116,7 @@ abbrev pub IsRequested : List Entry → Editing → Id → Asks → Option Reply
 IsRequested log before id asks reply after =
     MatchOption (refusal_of before.phase asks)
     (IsCarriedOut log before id asks reply after)
-    (λ refusal. Gives (refused (Some id) refusal) before reply after)
+    (λ refusal. RepliesWith (refused (Some id) refusal) before reply after)
 
 -- One edit at a path is committed by the operator. Where it is accepted, this is the text there from then on, or none;
 -- else nothing changes but what is seen.
@@ -132,7 +132,7 @@ pub record Commits (seat : ℕ) (log : List Entry) (before : Editing) (path : Li
 
 -- a document outside is passed over
 abbrev pub IfInside : Editing → List ℕ → Option Reply → Editing → (List ℕ → Type 0) → Type 0
-IfInside before uri reply after IsDone = MatchOption (path_under before.root uri) (Gives None before reply after) IsDone
+IfInside before uri reply after IsDone = MatchOption (path_under before.root uri) (RepliesWith None before reply after) IsDone
 
 -- the document has this text from now on
 abbrev pub IsPut : ℕ → List Entry → Editing → List ℕ → List ℕ → Option Reply → Editing → Type 0
@@ -147,27 +147,27 @@ IsClosed seat log before uri reply after =
 -- it was changed: without a text nothing changes
 abbrev pub IsChanged : ℕ → List Entry → Editing → List ℕ → Option (List ℕ) → Option Reply → Editing → Type 0
 IsChanged seat log before uri text reply after =
-    MatchOption text (Gives None before reply after) (λ text. IsPut seat log before uri text reply after)
+    MatchOption text (RepliesWith None before reply after) (λ text. IsPut seat log before uri text reply after)
 
 -- a notification in a session that is open: each other one than these three is passed over
 abbrev pub IsNoted : ℕ → List Entry → Editing → Asks → Option Reply → Editing → Type 0
-IsNoted seat log before (Initialize root) reply after = Gives None before reply after
-IsNoted seat log before Initialized reply after = Gives None before reply after
-IsNoted seat log before Shutdown reply after = Gives None before reply after
-IsNoted seat log before Exit reply after = Gives None before reply after
+IsNoted seat log before (Initialize root) reply after = RepliesWith None before reply after
+IsNoted seat log before Initialized reply after = RepliesWith None before reply after
+IsNoted seat log before Shutdown reply after = RepliesWith None before reply after
+IsNoted seat log before Exit reply after = RepliesWith None before reply after
 IsNoted seat log before (DidOpen uri text) reply after = IsPut seat log before uri text reply after
 IsNoted seat log before (DidChange uri text) reply after = IsChanged seat log before uri text reply after
 IsNoted seat log before (DidClose uri) reply after = IsClosed seat log before uri reply after
-IsNoted seat log before (Definition uri at) reply after = Gives None before reply after
-IsNoted seat log before (References uri at declaration) reply after = Gives None before reply after
-IsNoted seat log before Unknown reply after = Gives None before reply after
-IsNoted seat log before (WrongParams method) reply after = Gives None before reply after
+IsNoted seat log before (Definition uri at) reply after = RepliesWith None before reply after
+IsNoted seat log before (References uri at declaration) reply after = RepliesWith None before reply after
+IsNoted seat log before Unknown reply after = RepliesWith None before reply after
+IsNoted seat log before (WrongParams method) reply after = RepliesWith None before reply after
 
 -- a notification in any session: before `initialize` and after `shutdown` it is passed over
 abbrev pub IsNotified : Phase → ℕ → List Entry → Editing → Asks → Option Reply → Editing → Type 0
-IsNotified Before seat log before asks reply after = Gives None before reply after
+IsNotified Before seat log before asks reply after = RepliesWith None before reply after
 IsNotified Open seat log before asks reply after = IsNoted seat log before asks reply after
-IsNotified Shut seat log before asks reply after = Gives None before reply after
+IsNotified Shut seat log before asks reply after = RepliesWith None before reply after
 
 -- a message with a method: with an id it is a request, and a notification without one
 abbrev pub IsMessage : Option Id → ℕ → List Entry → Editing → Asks → Option Reply → Editing → Type 0
@@ -176,9 +176,9 @@ IsMessage (Some id) seat log before asks reply after = IsRequested log before id
 
 -- the body of a frame: what is no message is refused, and an object without a method passed over
 abbrev pub IsReplied : ℕ → List Entry → Editing → Body → Option Reply → Editing → Type 0
-IsReplied seat log before body.NotJson reply after = Gives (refused None ParseError) before reply after
-IsReplied seat log before body.Invalid reply after = Gives (refused None InvalidRequest) before reply after
-IsReplied seat log before body.Passed reply after = Gives None before reply after
+IsReplied seat log before body.NotJson reply after = RepliesWith (refused None ParseError) before reply after
+IsReplied seat log before body.Invalid reply after = RepliesWith (refused None InvalidRequest) before reply after
+IsReplied seat log before body.Passed reply after = RepliesWith None before reply after
 IsReplied seat log before (body.Message m) reply after = IsMessage m.id seat log before m.asks reply after
 
 -- the bytes of a body

@@ -6,8 +6,8 @@ use Rattle.version_board.specs.Logs.{own}
 use Rattle.nav_io.specs.Reading.{Reading}
 use Rattle.lsp_texts.specs.Texts.{AreSame, no_texts, texts_in}
 use Rattle.lsp_messages.specs.declared.halt.Halt.{Halt}
-use Rattle.lsp_messages.specs.declared.reading.More.{More}
-use Rattle.lsp_messages.specs.declared.reading.More.TheVariants as more
+use Rattle.lsp_messages.specs.declared.receiving.More.{More}
+use Rattle.lsp_messages.specs.declared.receiving.More.TheVariants as more
 use Rattle.lsp_messages.specs.Ends.{status_of}
 use Rattle.lsp_messages.specs.Inputs.{is_exit}
 use Rattle.lsp_messages.specs.Turns.{ReadsFrame, ReadsNext}

@@ -58,7 +58,7 @@ pub record CommitsAs (base : Option ℕ) (edits : List FileEdit) (old new : Mome
   pub view : (new.desk.view ≡ None) ⊎ ((new.log ≡ old.log) × (new.pin ≡ old.pin) × (new.desk.view ≡ old.desk.view) × (new.desk.user ≡ old.desk.user))
 
 -- a request was answered with this text
-pub record Gives (request : Request) (old new : Moment) (text : List ℕ) : Type 0 where
+pub record AnswersWith (request : Request) (old new : Moment) (text : List ℕ) : Type 0 where
   pub reply : Reply
   pub printed : text ≡ reply_text reply
   pub replied : Replies (λ log before told after. IsAnswered old.seat log before request told after) old new reply

@@ -56,21 +56,21 @@ abbrev pub docs_of_line : List ℕ → List Doc
 docs_of_line line = docs_of_read (request_from line)
 
 -- whether the request ends the session
-abbrev pub ends_session : Request → Bool
-ends_session (request.Hello user) = false
-ends_session request.Pin = false
-ends_session (request.Commit base edits) = false
-ends_session (request.Grant user prefix) = false
-ends_session (request.Revoke user prefix) = false
-ends_session (request.Deny user prefix) = false
-ends_session (request.Undeny user prefix) = false
-ends_session (request.Define path point bounds) = false
-ends_session (request.References path point bounds) = false
-ends_session request.Quit = true
+abbrev pub quits : Request → Bool
+quits (request.Hello user) = false
+quits request.Pin = false
+quits (request.Commit base edits) = false
+quits (request.Grant user prefix) = false
+quits (request.Revoke user prefix) = false
+quits (request.Deny user prefix) = false
+quits (request.Undeny user prefix) = false
+quits (request.Define path point bounds) = false
+quits (request.References path point bounds) = false
+quits request.Quit = true
 
 -- whether the line is an accepted `quit`
 abbrev pub is_quit_read : Result Request ProtoFault → Bool
-is_quit_read (Ok request) = ends_session request
+is_quit_read (Ok request) = quits request
 is_quit_read (Err fault) = false
 
 -- the same of the text of a line

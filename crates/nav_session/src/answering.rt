@@ -2,10 +2,10 @@ ghost use Rattle.std.specs.Prelude.{◌≡◌, ◌≤◌, ◌+◌, ℕ, [], fals
 ghost use Rattle.index_gate.specs.Indexed.{AreDocWeights, docs_of, missing};
 ghost use Rattle.nav_proto.specs.Replies.{reply_text};
 ghost use Rattle.nav_session.specs.Refusals.{fault_reply};
-ghost use Rattle.nav_session.specs.Requests.{docs_of_line, docs_of_request, ends_session, is_quit};
+ghost use Rattle.nav_session.specs.Requests.{docs_of_line, docs_of_request, quits, is_quit};
 ghost use Rattle.nav_session.specs.Sessions.{IsAnswered};
 ghost use Rattle.nav_session.specs.Desks.{HasItsView, KeepsDocs, Answers, Replies, GoesOn, IsLeftOff, moment};
-ghost use Rattle.nav_session.specs.Inside.{Gives};
+ghost use Rattle.nav_session.specs.Inside.{AnswersWith};
 
 use crate::asking::{at_of, define, references};
 use crate::committing::commit;
@@ -96,17 +96,17 @@ fn answer_request<R: Threads + Sync, B: Commits<R>, G: Gate + Sync, L: Ledger>(
     requires view { HasItsView desk.old (B.log board.old) (B.pin_at board.old) }
     ensures goes_on { GoesOn (moment (B.seat board.old) (B.log board.old) (B.pin_at board.old) desk.old)
         (moment (B.seat board.new) (B.log board.new) (B.pin_at board.new) desk.new) }
-    ensures reply { IfOk result (λ step. Gives request
+    ensures reply { IfOk result (λ step. AnswersWith request
         (moment (B.seat board.old) (B.log board.old) (B.pin_at board.old) desk.old)
         (moment (B.seat board.new) (B.log board.new) (B.pin_at board.new) desk.new) step.reply) }
-    ensures quit { IfOk result (λ step. step.quit ≡ ends_session request) }
+    ensures quit { IfOk result (λ step. step.quit ≡ quits request) }
     ensures none { OnErr result (IsLeftOff (moment (B.seat board.old) (B.log board.old) (B.pin_at board.old) desk.old)
         (moment (B.seat board.new) (B.log board.new) (B.pin_at board.new) desk.new)) }
     ensures steps { (total : ℕ) → AreDocWeights (missing (docs_of desk.old.store) (docs_of_request request)) total
         → steps.new ≤ steps.old + total }
     ensures no_steps { OnOk result (docs_of_request request ≡ [] → steps.new ≡ steps.old) }
 {
-    let quit = ends_session(&request);
+    let quit = quits(&request);
     let reply = reply_to(rt, alloc, desk, board, gate, request, steps)?;
     Ok(Step {
         reply: print(alloc, room, &reply)?,
@@ -115,8 +115,8 @@ fn answer_request<R: Threads + Sync, B: Commits<R>, G: Gate + Sync, L: Ledger>(
 }
 
 /// Whether the request ends the session.
-fn ends_session(request: &Request) -> bool
-    ensures { result ≡ ends_session request.now }
+fn quits(request: &Request) -> bool
+    ensures { result ≡ quits request.now }
 {
     matches!(request, Request::Quit)
 }

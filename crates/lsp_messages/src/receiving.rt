@@ -2,7 +2,7 @@
 ghost use Rattle.std.specs.Prelude.{◌≡◌, ◌≤◌, Err};
 ghost use Rattle.nav_io.specs.Faults.{HasRisen};
 ghost use Rattle.lsp_messages.specs.declared.halt.Halt.TheVariants as halt;
-ghost use Rattle.lsp_messages.specs.declared.reading.TheConstants as constant;
+ghost use Rattle.lsp_messages.specs.declared.receiving.TheConstants as constant;
 ghost use Rattle.lsp_messages.specs.Inputs.{is_exit_body};
 ghost use Rattle.lsp_messages.specs.Turns.{ReadsNext, LooksOn};
 
