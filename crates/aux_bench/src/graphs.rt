@@ -3,11 +3,12 @@
 ghost use Rattle.std.specs.Prelude.{◌≡◌, ◌<◌};
 
 use crate::modules::module_graph;
-use file_paths::enumerate;
+use file_paths::find_paths;
 use graph_json::read_graph;
 use graph_nodes::{FileGraph, Steps};
 use index_gate::{IndexFault, index_all};
 use nav_io::Unguarded;
+use partial_path::FilePaths;
 use path_store::{Document, PathStore};
 use std::alloc::Global;
 use std::marker::Brand;
@@ -26,64 +27,36 @@ pub fn graph(alloc: Global, text: &[u8]) -> Option<FileGraph> {
 /// for: the last file's weight and number of paths, 0 and 0 where no paths are asked for. `None` where
 /// there is no graph, or it is too heavy.
 pub fn walk(alloc: Global, text: &[u8], times: u32, walks: bool) -> Option<(u32, usize)> {
-    walked::<Brand>(alloc, text, times, walks, Blank::new(1))
+    let mut last = (0, 0);
+    for _ in 0..times {
+        let graph = graph(alloc, text)?;
+        if walks {
+            last = figures_of(alloc, graph)?;
+        }
+    }
+    Some(last)
 }
 
 /// Reads the text so many times as a module of Python, makes its graph and finds all its paths each time: the last
 /// file's weight and number of paths. `None` where there is no graph, or it is too heavy.
 pub fn walk_module(alloc: Global, text: &[u8], times: u32) -> Option<(u32, usize)> {
-    walked_module::<Brand>(alloc, text, times, Blank::new(1))
-}
-
-fn walked_module<L: Ledger>(
-    alloc: Global,
-    text: &[u8],
-    times: u32,
-    blank: Blank,
-) -> Option<(u32, usize)>
-    requires name { blank.name ≡ L.name }
-    requires parts { blank.parts ≡ L.parts }
-    requires some { 0 < blank.parts }
-{
-    let mut steps = Steps::<L>::new(blank);
     let mut last = (0, 0);
     for _ in 0..times {
-        let graph = module_graph(alloc, text).ok()?;
-        last = figures_of(alloc, graph, &mut steps)?;
+        last = figures_of(alloc, module_graph(alloc, text).ok()?)?;
     }
     Some(last)
 }
 
-// The weight and the number of paths of the file.
-fn figures_of<L: Ledger>(
-    alloc: Global,
-    graph: FileGraph,
-    steps: &mut Steps<L>,
-) -> Option<(u32, usize)> {
-    let file = enumerate(alloc, graph, steps).ok()?;
+/// The weight and the number of paths of the graph's file.
+fn figures_of(alloc: Global, graph: FileGraph) -> Option<(u32, usize)> {
+    let file = file_of(alloc, graph)?;
     Some((file.weight(), file.paths().len()))
 }
 
-fn walked<L: Ledger>(
-    alloc: Global,
-    text: &[u8],
-    times: u32,
-    walks: bool,
-    blank: Blank,
-) -> Option<(u32, usize)>
-    requires name { blank.name ≡ L.name }
-    requires parts { blank.parts ≡ L.parts }
-    requires some { 0 < blank.parts }
-{
-    let mut steps = Steps::<L>::new(blank);
-    let mut last = (0, 0);
-    for _ in 0..times {
-        let graph = graph(alloc, text)?;
-        if walks {
-            last = figures_of(alloc, graph, &mut steps)?;
-        }
-    }
-    Some(last)
+/// The graph's file, with all its paths.
+pub fn file_of(alloc: Global, graph: FileGraph) -> Option<FilePaths> {
+    let mut walks = 0;
+    find_paths(alloc, graph, &mut walks).ok()
 }
 
 /// So many documents of this text, each at a path of its own that ends like this.

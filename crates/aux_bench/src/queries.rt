@@ -1,15 +1,10 @@
 //! The cases of references that are asked.
 
-ghost use Rattle.std.specs.Prelude.{◌≡◌, ◌<◌};
-
-use crate::graphs::graph;
-use file_paths::enumerate;
-use graph_nodes::{FileGraph, Steps};
+use crate::graphs::{file_of, graph};
+use graph_nodes::FileGraph;
 use partial_path::{Bounds, FileList, PathSource};
 use stacks_vars::NodeAt;
 use std::alloc::Global;
-use std::marker::Brand;
-use std::sync::ledger::{Blank, Ledger};
 use stitcher::{StitchFault, stitch};
 use whole_search::{SearchFault, is_reference, search};
 
@@ -40,15 +35,10 @@ fn graphs(alloc: Global, text: &[u8]) -> Option<Vec<FileGraph>> {
 }
 
 /// The graphs of the lines with all their paths.
-fn list<L: Ledger>(alloc: Global, text: &[u8], blank: Blank) -> Option<FileList>
-    requires name { blank.name ≡ L.name }
-    requires parts { blank.parts ≡ L.parts }
-    requires some { 0 < blank.parts }
-{
-    let mut steps = Steps::<L>::new(blank);
+fn list(alloc: Global, text: &[u8]) -> Option<FileList> {
     let mut list = FileList::new(alloc);
     for graph in graphs(alloc, text)? {
-        let file = enumerate(alloc, graph, &mut steps).ok()?;
+        let file = file_of(alloc, graph)?;
         if list.len() < 100_000 {
             list.push(file).ok()?;
         }
@@ -59,7 +49,7 @@ fn list<L: Ledger>(alloc: Global, text: &[u8], blank: Blank) -> Option<FileList>
 /// Asks node 0 of the first of the files so many times by joining their paths. `None` where a line is no graph or is
 /// too heavy, or memory is refused.
 pub fn stitched(alloc: Global, text: &[u8], times: u32) -> Option<Asked> {
-    let list = list::<Brand>(alloc, text, Blank::new(1))?;
+    let list = list(alloc, text)?;
     let mut last = Asked::NoReference;
     for _ in 0..times {
         last = stitched_once(alloc, &list)?;

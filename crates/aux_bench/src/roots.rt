@@ -1,18 +1,14 @@
 //! The cases of versions and their indexes of paths from the root.
 
-ghost use Rattle.std.specs.Prelude.{◌≡◌, ◌<◌};
 ghost use Rattle.root_index.specs.Roots.{IsIndexOf, IsIndexOfView};
 
-use crate::graphs::graph;
-use file_paths::enumerate;
-use graph_nodes::Steps;
+use crate::graphs::{file_of, graph};
 use partial_path::SharedPaths;
 use root_index::RootIndex;
 use stacks_vars::{Symbol, SymbolItem, SymbolStack};
 use std::alloc::Global;
-use std::marker::{Brand, Model};
+use std::marker::Model;
 use std::str;
-use std::sync::ledger::{Blank, Ledger};
 use version_tree::{Edit, PathText, Version, View};
 
 /// No look-up gives so many paths.
@@ -56,16 +52,11 @@ impl Kept {
 }
 
 /// The files of the lines, each a graph file, with all their paths.
-fn files<L: Ledger>(alloc: Global, lines: &[u8], blank: Blank) -> Option<Vec<SharedPaths>>
-    requires name { blank.name ≡ L.name }
-    requires parts { blank.parts ≡ L.parts }
-    requires some { 0 < blank.parts }
-{
-    let mut steps = Steps::<L>::new(blank);
+fn files(alloc: Global, lines: &[u8]) -> Option<Vec<SharedPaths>> {
     let mut files = Vec::new(alloc);
     for line in lines.split(|b| *b == b'\n') {
         if !line.is_empty() {
-            let paths = enumerate(alloc, graph(alloc, line)?, &mut steps).ok()?;
+            let paths = file_of(alloc, graph(alloc, line)?)?;
             files.push(SharedPaths::of(alloc, paths).ok()?).ok()?;
         }
     }
@@ -105,7 +96,7 @@ fn edit_of(alloc: Global, files: &[SharedPaths], time: u32) -> Option<Vec<Edit>>
 /// Commits one file so many times, each on the version before, with the index or without: how many files there are
 /// then. `None` where a line is no graph or is too heavy, or memory is refused.
 pub fn committed(alloc: Global, text: &[u8], times: u32, indexed: bool) -> Option<u32> {
-    let files = files::<Brand>(alloc, after_line(text), Blank::new(1))?;
+    let files = files(alloc, after_line(text))?;
     if indexed {
         committed_with(alloc, &files, times)
     } else {
@@ -163,7 +154,7 @@ fn stack_of(alloc: Global, word: &str) -> Option<SymbolStack> {
 /// Asks the index of the files so many times for each of the stacks, which stand in the first line with a space
 /// between two: how many paths it offers to all of them together.
 pub fn offered(alloc: Global, text: &[u8], times: u32) -> Option<u32> {
-    let files = files::<Brand>(alloc, after_line(text), Blank::new(1))?;
+    let files = files(alloc, after_line(text))?;
     let mut stacks = Vec::new(alloc);
     for word in str::from_utf8(first_line(text)).ok()?.split(' ') {
         stacks.push(stack_of(alloc, word)?).ok()?;

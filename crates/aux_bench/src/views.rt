@@ -1,18 +1,13 @@
 //! The cases of queries over what a user sees.
 
-ghost use Rattle.std.specs.Prelude.{◌≡◌, ◌<◌};
 ghost use Rattle.root_index.specs.Roots.{IsIndexOfView};
 
-use crate::graphs::graph;
-use file_paths::enumerate;
-use graph_nodes::Steps;
+use crate::graphs::{file_of, graph};
 use nav_answers::{Answer, AskFault, At, define, references};
 use nav_io::Unguarded;
 use partial_path::{Bounds, SharedPaths};
 use root_index::RootIndex;
 use std::alloc::Global;
-use std::marker::Brand;
-use std::sync::ledger::{Blank, Ledger};
 use std::thread::Threads;
 use version_tree::{Edit, PathText, Version, View};
 
@@ -36,15 +31,10 @@ fn paths(alloc: Global, text: &[u8]) -> Option<Vec<String>> {
 }
 
 /// The edits that put the graphs of the lines, each a graph file, at these paths.
-fn edits<L: Ledger>(alloc: Global, paths: &[String], text: &[u8], blank: Blank) -> Option<Vec<Edit>>
-    requires name { blank.name ≡ L.name }
-    requires parts { blank.parts ≡ L.parts }
-    requires some { 0 < blank.parts }
-{
-    let mut steps = Steps::<L>::new(blank);
+fn edits(alloc: Global, paths: &[String], text: &[u8]) -> Option<Vec<Edit>> {
     let mut edits = Vec::new(alloc);
     for (path, line) in paths.iter().zip(text.split(|b| *b == b'\n')) {
-        let file = enumerate(alloc, graph(alloc, line)?, &mut steps).ok()?;
+        let file = file_of(alloc, graph(alloc, line)?)?;
         let paths = SharedPaths::of(alloc, file).ok()?;
         let path = PathText::of(alloc, path.as_str()).ok()?;
         edits.push(Edit::Put { path, paths }).ok()?;
@@ -54,7 +44,7 @@ fn edits<L: Ledger>(alloc: Global, paths: &[String], text: &[u8], blank: Blank) 
 
 /// The version with these graphs.
 fn version_of(alloc: Global, paths: &[String], text: &[u8]) -> Option<Version> {
-    let edits = edits::<Brand>(alloc, paths, text, Blank::new(1))?;
+    let edits = edits(alloc, paths, text)?;
     Version::empty(alloc, 0).amend(alloc, edits.as_slice()).ok()
 }
 

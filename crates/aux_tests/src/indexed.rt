@@ -3,6 +3,7 @@
 ghost use Rattle.std.specs.Prelude.{◌≡◌, ◌<◌, [], OnOk, drop, length};
 ghost use Rattle.index_gate.specs.Indexed.{AreIndexed, CountsAllWalks};
 
+use crate::meeting::Meeting;
 use graph_nodes::Steps;
 use index_gate::{IndexFault, index_all};
 use nav_io::{Gate, Unguarded};
@@ -13,7 +14,7 @@ use std::marker::Brand;
 use std::sync::atomic::{AtomicU64, Ordering};
 use std::sync::ledger::{Blank, Ledger};
 use std::test::Fail;
-use std::thread::{Threads, available_parallelism, yield_now};
+use std::thread::{Threads, available_parallelism};
 
 const GRAPH: &str =
     r#"{"nodes":[{"kind":"push","symbol":"x","reference":true},{"kind":"scope"},{"kind":"pop","symbol":"x","definition":true}],"edges":[[0,1,0],[1,2,0]]}"#;
@@ -365,40 +366,12 @@ fn a_file_has_a_greatest_weight(rt: HostRuntime) -> Result<(), Fail> {
     Ok(())
 }
 
-/// A gate at which each job waits until a second one has begun, for so many turns at most.
-#[derive(Drop)]
-struct Meeting {
-    begun: AtomicU64,
-    missed: AtomicU64,
-}
-
-/// How often a job looks for the other one.
-const TURNS: u32 = 1_000_000;
-
-impl Gate for Meeting {
-    fn enter(&self, _job: usize) {
-        self.begun.fetch_add(1, Ordering::SeqCst);
-        for _ in 0..TURNS {
-            if self.begun.load(Ordering::SeqCst) >= 2 {
-                return;
-            }
-            yield_now();
-        }
-        self.missed.fetch_add(1, Ordering::SeqCst);
-    }
-
-    fn leave(&self, _job: usize) {}
-}
-
 /// How many jobs met no other one, of two documents.
 fn missed<R: Threads + Sync>(rt: &R, alloc: Global) -> Result<u64, Fail> {
     let docs = documents_of(alloc, "a.py|x = 1;b.py|y = 2")?;
-    let gate = Meeting {
-        begun: AtomicU64::new(0),
-        missed: AtomicU64::new(0),
-    };
+    let gate = Meeting::new();
     match indexed(rt, alloc, &docs, &gate) {
-        Ok(_) => Ok(gate.missed.load(Ordering::SeqCst)),
+        Ok(_) => Ok(gate.missed()),
         Err(_) => Err(Fail::new("the documents have no fault")),
     }
 }

@@ -10,6 +10,8 @@ mod faults;
 #[cfg(test)]
 mod indexed;
 #[cfg(test)]
+mod meeting;
+#[cfg(test)]
 mod paths;
 #[cfg(test)]
 mod python;

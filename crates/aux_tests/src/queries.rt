@@ -1,5 +1,6 @@
 //! What no clause says: that the queries answer with memory at hand, over what users see. Beside them stands the
 //! search of the whole graph, which asks the same.
+use crate::meeting::Meeting;
 use crate::paths::{paths_in, paths_of};
 use crate::python::{
     ATTRIBUTE_OF_SELF, IMPORTS_IN_A_CIRCLE, MEMBER_OF_AN_ARGUMENT, PACKAGE, definitions, references,
@@ -8,15 +9,14 @@ use crate::stitched::{FILES, bounds_of, is_stored};
 use aux_graph_text::{ANSWERED, files_of};
 use graph_nodes::FileGraph;
 use nav_answers::{Answer, AskFault, At, Row, define, definition_at};
-use nav_io::{Gate, Unguarded};
+use nav_io::Unguarded;
 use partial_path::{Bounds, SharedPaths};
 use py_graph::translate;
 use py_subset::parse;
 use root_index::RootIndex;
 use std::alloc::Global;
-use std::sync::atomic::{AtomicU64, Ordering};
 use std::test::Fail;
-use std::thread::{Threads, available_parallelism, yield_now};
+use std::thread::{Threads, available_parallelism};
 use version_tree::{Edit, PathText, UserText, Version};
 use whole_search::Hit;
 
@@ -414,40 +414,12 @@ fn queries_answer_as_the_search_does(rt: HostRuntime) -> Result<(), Fail> {
     Ok(())
 }
 
-/// A gate at which each job waits until a second one has begun, for so many turns at most.
-#[derive(Drop)]
-struct Meeting {
-    begun: AtomicU64,
-    missed: AtomicU64,
-}
-
-/// How often a job looks for the other one.
-const TURNS: u32 = 1_000_000;
-
-impl Gate for Meeting {
-    fn enter(&self, _job: usize) {
-        self.begun.fetch_add(1, Ordering::SeqCst);
-        for _ in 0..TURNS {
-            if self.begun.load(Ordering::SeqCst) >= 2 {
-                return;
-            }
-            yield_now();
-        }
-        self.missed.fetch_add(1, Ordering::SeqCst);
-    }
-
-    fn leave(&self, _job: usize) {}
-}
-
 /// How many jobs met no other one, of the two references of a file.
 fn missed<R: Threads + Sync>(rt: &R, alloc: Global) -> Result<u64, Fail> {
     let version = version_of(alloc, "+two.sg.json")?;
     let index = RootIndex::afresh(alloc, &version)?;
     let view = version.view(alloc, "operator")?;
-    let gate = Meeting {
-        begun: AtomicU64::new(0),
-        missed: AtomicU64::new(0),
-    };
+    let gate = Meeting::new();
     nav_answers::references(
         rt,
         alloc,
@@ -458,7 +430,7 @@ fn missed<R: Threads + Sync>(rt: &R, alloc: Global) -> Result<u64, Fail> {
         At::Node(3),
         Bounds::usual(),
     )?;
-    Ok(gate.missed.load(Ordering::SeqCst))
+    Ok(gate.missed())
 }
 
 /// On one processor there is one thread, so the first job meets no other one.

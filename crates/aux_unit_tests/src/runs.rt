@@ -1,6 +1,7 @@
+use aux_graph_text::stacks_of;
 use graph_nodes::{Edge, FileGraph, Name, Node, NodeKind, Place};
 use partial_path::{Config, EdgeAt, Spot, is_at_definition, is_cut_edge, start, step};
-use stacks_vars::{NodeAt, ScopeStack, Stacks, Symbol, SymbolItem};
+use stacks_vars::NodeAt;
 use std::alloc::Global;
 use std::test::Fail;
 
@@ -90,37 +91,6 @@ fn push_file(
         files.push(graph)?;
     }
     Ok(())
-}
-
-/// The stacks that a text such as `y[45]x|6` stands for, each with its front first: the symbols `y`, with
-/// the scopes 4 and 5 of file 0 attached, and plain `x`; and behind the bar the scope stack.
-fn stacks_of(alloc: Global, text: &str) -> Result<Stacks, Fail> {
-    let mut stacks = Stacks::new(alloc);
-    let mut scopes = Some(ScopeStack::new(alloc));
-    for byte in text.as_bytes().iter().rev() {
-        match *byte {
-            b'0'..=b'9' => {
-                if let Some(scopes) = &mut scopes {
-                    scopes.push(NodeAt {
-                        file: 0,
-                        node: byte.saturating_sub(b'0') as u32,
-                    })?;
-                }
-            }
-            b'|' => {
-                if let Some(read) = scopes.take() {
-                    stacks.scopes = read;
-                }
-            }
-            b']' => scopes = Some(ScopeStack::new(alloc)),
-            b'[' => {}
-            letter => stacks.symbols.push(SymbolItem {
-                symbol: Symbol::of(alloc, &[letter])?,
-                scopes: scopes.take(),
-            })?,
-        }
-    }
-    Ok(stacks)
 }
 
 fn config_of(alloc: Global, spot: Spot, text: &str) -> Result<Config, Fail> {

@@ -299,29 +299,17 @@ fn openings_enter_their_reference_alone(rt: HostRuntime) -> Result<(), Fail> {
     Ok(())
 }
 
-/// Whether the joined path of these edges' units leads from the root with the first stacks to where the text says.
-fn path_leads(
+/// Whether the joined path of these edges' units, and the run of the edges, both lead there.
+fn both_lead(
     alloc: Global,
     files: &[FileGraph],
     edges: &[u32],
     text: &str,
     wanted: &str,
 ) -> Result<bool, Fail> {
-    let from = config_of(alloc, 100, text)?;
-    let found = led(alloc, files, &from, edges)?;
-    is(alloc, &found, wanted)
-}
-
-/// Whether the run of these edges leads there.
-fn run_leads(
-    alloc: Global,
-    files: &[FileGraph],
-    edges: &[u32],
-    text: &str,
-    wanted: &str,
-) -> Result<bool, Fail> {
-    let found = run_of(alloc, files, config_of(alloc, 100, text)?, edges)?;
-    is(alloc, &found, wanted)
+    let joined = led(alloc, files, &config_of(alloc, 100, text)?, edges)?;
+    let run = run_of(alloc, files, config_of(alloc, 100, text)?, edges)?;
+    Ok(is(alloc, &joined, wanted)? && is(alloc, &run, wanted)?)
 }
 
 /// Whether a row holds, such as `0 2: p[4]x|6 = 1 x|4`: the joined path of these edges' units, and the run
@@ -330,8 +318,7 @@ fn holds(alloc: Global, files: &[FileGraph], row: &str) -> Result<bool, Fail> {
     let (edges, rest) = row.split_once(": ").unwrap_or((row, ""));
     let (text, wanted) = rest.split_once(" = ").unwrap_or((rest, ""));
     let edges = numbers(alloc, edges)?;
-    let joined = path_leads(alloc, files, edges.as_slice(), text, wanted)?;
-    Ok(joined && run_leads(alloc, files, edges.as_slice(), text, wanted)?)
+    both_lead(alloc, files, edges.as_slice(), text, wanted)
 }
 
 /// A graph with drops, attached scopes and jumps.
