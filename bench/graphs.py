@@ -1,8 +1,9 @@
 #!/usr/bin/env python3
 """Times the finding of a file's paths and the indexing of documents, and prints one table; every figure is of this one run.
 One row splits what one module costs on one processor into its reading, the making of its graph, the finding of its paths
-and what else it takes to have it indexed, beside the time in which CPython's `compile` takes the same text. The last rows
-are the least memory in which one module is indexed whose one reference has a long or a short name.
+and what else it takes to have it indexed, beside the time in which CPython's `compile` takes the same text, the middle ones
+of several rounds. The last rows are the least memory in which one module is indexed whose one reference has a long or a
+short name.
 
 usage: bench/graphs.py [PROGRAM]     (crates/aux_bench/out/aux_bench, as bench/graphs.sh leaves it)
 
@@ -22,6 +23,8 @@ from measure import least_memory
 
 PROGRAM = sys.argv[1] if len(sys.argv) > 1 else "crates/aux_bench/out/aux_bench"
 DOCUMENTS = 1_000
+# How many modules one round of the split takes, and how many rounds there are.
+SPLIT, ROUNDS = 300, 9
 PART = """\
 import os.path as path
 from package.module import first, second as other
@@ -84,16 +87,26 @@ def seconds(case, times, text, alone=False):
     return min(took)
 
 
+def took_once(case, times):
+    """The seconds that the case takes for the module on one processor."""
+    start = time.perf_counter()
+    answer(case, times, MODULE, True)
+    return time.perf_counter() - start
+
+
+def split_once():
+    """The seconds that one module's reading, graph, paths and keeping take on one processor, and CPython's `compile`."""
+    took = [(took_once(case, 1 + SPLIT) - took_once(case, 1)) / SPLIT for case in ("parse", "translate", "found", "modules")]
+    compiled = min(timeit.repeat(lambda: compile(MODULE, "module.py", "exec"), number=50, repeat=3)) / 50
+    return [took[0]] + [later - earlier for earlier, later in zip(took, took[1:])] + [took[-1], took[-1] / compiled]
+
+
 def split():
-    """The microseconds that one module's reading, graph, paths and keeping take on one processor, and CPython's `compile`."""
-    took = []
-    for case in ("parse", "translate", "found", "modules"):
-        took.append((seconds(case, 1 + DOCUMENTS, MODULE, True) - seconds(case, 1, MODULE, True)) / DOCUMENTS)
-    parts = [took[0]] + [later - earlier for earlier, later in zip(took, took[1:])]
-    compiled = min(timeit.repeat(lambda: compile(MODULE, "module.py", "exec"), number=100, repeat=5)) / 100
-    names = ("read", "graph", "paths", "kept")
-    told = ", ".join(f"{name} {part * 1e6:4.0f}" for name, part in zip(names, parts))
-    print(f"one module of {len(MODULE):,} bytes, microseconds: {told}, all {took[-1] * 1e6:4.0f}: {took[-1] / compiled:.2f} times CPython's compile")
+    """Prints the middle ones of several rounds, since a machine that others use is now faster and now slower."""
+    columns = zip(*(split_once() for _ in range(ROUNDS)))
+    *parts, whole, times = (sorted(column)[ROUNDS // 2] for column in columns)
+    told = ", ".join(f"{name} {part * 1e6:4.0f}" for name, part in zip(("read", "graph", "paths", "kept"), parts))
+    print(f"one module of {len(MODULE):,} bytes, microseconds: {told}, all {whole * 1e6:4.0f}: {times:.2f} times CPython's compile")
 
 
 def main():
