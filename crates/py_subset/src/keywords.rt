@@ -9,7 +9,8 @@ use crate::token::Mark;
 fn is(name: &[u8], word: &str) -> bool
     ensures { result ≡ bytes_eq name.now word.now }
 {
-    name == word.as_bytes()
+    let bytes = word.as_bytes();
+    name.len() == bytes.len() && name.first() == bytes.first() && name == bytes
 }
 
 /// Keywords of two and three letters.
