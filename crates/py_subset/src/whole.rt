@@ -56,12 +56,11 @@ fn read(alloc: Global, text: &[u8]) -> Result<Module, PyFault>
     ensures { Reads result (spec.parse_of text.now) }
 {
     let mut left = tokens(alloc, text)?;
-    let end = end_line(text);
     let bound = left.len();
     match module_body(alloc, &mut left, bound + 1, bound + 1) {
         Ok(body) if left.len() == 0 => Ok(Module { body }),
-        Ok(_) => Err(refusal(end, &left)),
-        Err(Stop::Refused) => Err(refusal(end, &left)),
+        Ok(_) => Err(refusal(end_line(text), &left)),
+        Err(Stop::Refused) => Err(refusal(end_line(text), &left)),
         Err(Stop::NoMemory) => Err(PyFault::NoMemory),
     }
 }
