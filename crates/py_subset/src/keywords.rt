@@ -6,11 +6,18 @@ ghost use Rattle.py_subset.specs.Pieces as spec;
 
 use crate::token::Mark;
 
+/// Whether two words are the same, by all their bytes.
+fn is_same(name: &[u8], word: &str) -> bool
+    ensures { result ≡ bytes_eq name.now word.now }
+{
+    name == word.as_bytes()
+}
+
+/// Whether two words are the same. A word of another length or first byte is told apart by these alone.
 fn is(name: &[u8], word: &str) -> bool
     ensures { result ≡ bytes_eq name.now word.now }
 {
-    let bytes = word.as_bytes();
-    name.len() == bytes.len() && name.first() == bytes.first() && name == bytes
+    name.len() == word.len() && name.first() == word.as_bytes().first() && is_same(name, word)
 }
 
 /// Keywords of two and three letters.
