@@ -1,5 +1,5 @@
 -- Which nodes a graph has, and that it has those of a context. No public clause cites this.
-use Rattle.std.specs.Prelude.{◌≡◌, ℕ, ◌<◌, ◌≤◌, List, length, true, false, Option, Some, None}
+use Rattle.std.specs.Prelude.{◌≡◌, ℕ, ◌<◌, ◌≤◌, List, length, true, false, Option, Some, None, codes}
 use Rattle.std.specs.List.{AllByRecursion}
 use Rattle.graph_nodes.specs.declared.node.Node.{Node}
 use Rattle.graph_nodes.specs.declared.node.Edge.{Edge}
@@ -50,3 +50,9 @@ pub record IsSound (nodes : List Node) (edges : List Edge) : Type 0 where
   pub ends : AllByRecursion (λ (e : Edge). has_ends (length nodes) e ≡ true) edges
   pub sources : AllByRecursion (λ (e : Edge). is_jump e.source ≡ false) edges
   pub scopes : AllByRecursion (λ (n : Node). has_scope nodes n.kind ≡ true) nodes
+
+-- a sound graph in the making, with the names that all its dots and all its calls share
+pub record IsDraft (nodes : List Node) (edges : List Edge) (dot call : List ℕ) : Type 0 where
+  pub sound : IsSound nodes edges
+  pub dots : dot ≡ codes "."
+  pub calls : call ≡ codes "()"

@@ -31,26 +31,30 @@ impl From<AllocError> for Stop {
     }
 }
 
-/// The nodes and edges made so far.
+/// The nodes and edges made so far, and the names that many of the nodes share.
 #[derive(Drop)]
 pub struct Draft {
     nodes: Vec<Node>,
     edges: Vec<Edge>,
+    /// The name of every dot.
+    dot: Name,
+    /// The name of every call.
+    call: Name,
 }
 
 impl Model for Draft {
     ghost use Rattle.graph_nodes.specs.Graph.{Graph};
-    ghost use Rattle.py_graph.specs.Inside.{IsSound};
+    ghost use Rattle.py_graph.specs.Inside.{IsDraft};
 
     ghost Value = { Graph };
 
     ghost view = { λ d. record { nodes = d.nodes.items; edges = d.edges.items } };
 
-    ghost invariant = { λ d. IsSound d.nodes.items d.edges.items };
+    ghost invariant = { λ d. IsDraft d.nodes.items d.edges.items d.dot d.call };
 }
 
 impl Draft {
-    ghost use Rattle.std.specs.Prelude.{◌≡◌, ◌<◌, [], length, true, false, IfOk};
+    ghost use Rattle.std.specs.Prelude.{◌≡◌, ◌<◌, [], length, true, false, IfOk, codes};
     ghost use Rattle.graph_nodes.specs.Checked.{has_scope, has_ends, is_jump};
     ghost use Rattle.py_graph.specs.Inside.{Grows, IsNode, IsNodeIf, ArePair};
     ghost use Rattle.py_graph.specs.Nodes.{call_nodes};
@@ -58,15 +62,32 @@ impl Draft {
     ghost use Rattle.py_graph.specs.Gives.{Gives};
     ghost use Rattle.py_graph.specs.Modules.{Translates, limited};
 
-    /// Nothing made yet.
-    pub fn new(alloc: Global) -> Draft
-        ensures nodes { result.nodes ≡ [] }
-        ensures edges { result.edges ≡ [] }
+    /// Nothing made yet but the two names; the one error is want of memory.
+    pub fn new(alloc: Global) -> Result<Draft, AllocError>
+        ensures nodes { IfOk result (λ draft. draft.nodes ≡ []) }
+        ensures edges { IfOk result (λ draft. draft.edges ≡ []) }
     {
-        Draft {
+        Ok(Draft {
             nodes: Vec::new(alloc),
             edges: Vec::new(alloc),
-        }
+            dot: Name::of(alloc, ".")?,
+            call: Name::of(alloc, "()")?,
+        })
+    }
+
+    /// The name of a dot, held once more. It takes no memory; the one error is want of room to count one
+    /// holder more.
+    pub fn dot_name(&self) -> Result<Name, AllocError>
+        ensures { IfOk result (λ name. name ≡ codes ".") }
+    {
+        self.dot.share()
+    }
+
+    /// The name of a call, held once more; its cost and error are those of `dot_name`.
+    pub fn call_name(&self) -> Result<Name, AllocError>
+        ensures { IfOk result (λ name. name ≡ codes "()") }
+    {
+        self.call.share()
     }
 
     /// The graph of what was made, where it has no more edges than a file may have.
@@ -101,12 +122,12 @@ impl Draft {
 
     /// Makes the push of a call, and behind it the exported scope of its arguments.
     #[tactic(auto, using(crate::proofs::Sound::drafting))]
-    pub fn call_nodes(&mut self, alloc: Global) -> Result<(u32, u32), Stop>
+    pub fn call_nodes(&mut self) -> Result<(u32, u32), Stop>
         ensures gives { Gives result self.new (call_nodes self.old) }
         ensures grows { Grows self.old self.new }
         ensures inside { IfOk result (ArePair self.new) }
     {
-        let symbol = Name::of(alloc, "()")?;
+        let symbol = self.call.share()?;
         let at = self.nodes.len();
         if at + 1 >= MAX_NODES {
             return Err(Stop::Full);

@@ -30,7 +30,7 @@ pub fn member(alloc: Global, draft: &mut Draft, x: &Word) -> Result<(u32, u32), 
     ensures inside { IfOk result (ArePair draft.new) }
 {
     let n = reference(alloc, draft, x)?;
-    let t = push_dot(alloc, draft)?;
+    let t = push_dot(draft)?;
     draft.link(n, t)?;
     Ok((n, t))
 }
@@ -174,7 +174,7 @@ fn call(alloc: Global, draft: &mut Draft, l: u32, es: &[Expr]) -> Result<(u32, u
     ensures grows { Grows draft.old draft.new }
     ensures inside { IfOk result (ArePair draft.new) }
 {
-    let (n, s) = draft.call_nodes(alloc)?;
+    let (n, s) = draft.call_nodes()?;
     arguments(alloc, draft, l, s, es)?;
     Ok((n, n))
 }

@@ -67,7 +67,7 @@ pub fn name_nodes(alloc: Global, draft: &mut Draft, parts: &[&str], s: u32) -> R
     let mut before = None;
     for (i, x) in parts.iter().enumerate() {
         let n = part(alloc, draft, x, is_last(parts, i))?;
-        let t = pop_dot(alloc, draft)?;
+        let t = pop_dot(draft)?;
         arrive(draft, before, n)?;
         draft.link(n, t)?;
         before = Some(t);

@@ -27,7 +27,7 @@ fn behind(alloc: Global, draft: &mut Draft, n: u32, xs: &[Word]) -> Result<u32, 
     let mut last = n;
     for i in 0..xs.len() {
         let x = &xs[xs.len() - 1 - i];
-        let t = push_dot(alloc, draft)?;
+        let t = push_dot(draft)?;
         let m = reference(alloc, draft, x)?;
         draft.link(last, t)?;
         draft.link(t, m)?;
@@ -160,7 +160,7 @@ fn from_item(alloc: Global, draft: &mut Draft, c: &Frame, i: &FromItem) -> Resul
 {
     let n = binding(alloc, draft, bound(i))?;
     let q = reference(alloc, draft, &i.name)?;
-    let t = push_dot(alloc, draft)?;
+    let t = push_dot(draft)?;
     draft.edge(c.binds(), n, c.rank())?;
     draft.link(n, q)?;
     draft.link(q, t)?;
@@ -234,7 +234,7 @@ pub fn from_all(alloc: Global, draft: &mut Draft, c: &Frame, xs: &[Word]) -> Res
     ensures gives { Gives result draft.new (row.from_all xs.now c.now draft.old) }
     ensures grows { Grows draft.old draft.new }
 {
-    let t = push_dot(alloc, draft)?;
+    let t = push_dot(draft)?;
     draft.edge(c.binds(), t, c.rank())?;
     let d = dotted(alloc, draft, xs)?;
     link_first(draft, t, d)

@@ -59,12 +59,12 @@ pub fn reference(alloc: Global, draft: &mut Draft, x: &Word) -> Result<u32, Stop
 }
 
 /// The pop of a dot.
-pub fn pop_dot(alloc: Global, draft: &mut Draft) -> Result<u32, Stop>
+pub fn pop_dot(draft: &mut Draft) -> Result<u32, Stop>
     ensures gives { Gives result draft.new (made.pop_dot draft.old) }
     ensures grows { Grows draft.old draft.new }
     ensures inside { IfOk result (IsNode draft.new) }
 {
-    let symbol = Name::of(alloc, ".")?;
+    let symbol = draft.dot_name()?;
     draft.node(
         NodeKind::Pop {
             symbol,
@@ -75,12 +75,12 @@ pub fn pop_dot(alloc: Global, draft: &mut Draft) -> Result<u32, Stop>
 }
 
 /// The push of a dot.
-pub fn push_dot(alloc: Global, draft: &mut Draft) -> Result<u32, Stop>
+pub fn push_dot(draft: &mut Draft) -> Result<u32, Stop>
     ensures gives { Gives result draft.new (made.push_dot draft.old) }
     ensures grows { Grows draft.old draft.new }
     ensures inside { IfOk result (IsNode draft.new) }
 {
-    let symbol = Name::of(alloc, ".")?;
+    let symbol = draft.dot_name()?;
     draft.node(
         NodeKind::Push {
             symbol,
@@ -91,12 +91,12 @@ pub fn push_dot(alloc: Global, draft: &mut Draft) -> Result<u32, Stop>
 }
 
 /// The pop of a call.
-pub fn pop_call(alloc: Global, draft: &mut Draft) -> Result<u32, Stop>
+pub fn pop_call(draft: &mut Draft) -> Result<u32, Stop>
     ensures gives { Gives result draft.new (made.pop_call draft.old) }
     ensures grows { Grows draft.old draft.new }
     ensures inside { IfOk result (IsNode draft.new) }
 {
-    let symbol = Name::of(alloc, "()")?;
+    let symbol = draft.call_name()?;
     draft.node(
         NodeKind::PopScoped {
             symbol,

@@ -26,7 +26,7 @@ fn self_parameter(
 {
     let n = definition(alloc, draft, x)?;
     let e = drops(draft)?;
-    let k = pop_dot(alloc, draft)?;
+    let k = pop_dot(draft)?;
     draft.edge(s, n, 1)?;
     draft.link(n, e)?;
     draft.link(e, k)?;

@@ -29,7 +29,7 @@ fn bases(alloc: Global, draft: &mut Draft, l: u32, members: u32, es: &[Expr]) ->
     ensures grows { Grows draft.old draft.new }
 {
     for e in es {
-        let t = push_dot(alloc, draft)?;
+        let t = push_dot(draft)?;
         draft.link(members, t)?;
         let v = expr(alloc, draft, l, e)?;
         draft.link_if(t, v)?;
@@ -50,7 +50,7 @@ fn function_nodes(
     ensures inside { IfOk result (ArePair draft.new) }
 {
     let f = definition(alloc, draft, name)?;
-    let k = pop_call(alloc, draft)?;
+    let k = pop_call(draft)?;
     let r = scope(draft)?;
     let s = scope(draft)?;
     let d = drops(draft)?;
@@ -76,9 +76,9 @@ fn class_nodes(
     ensures inside { IfOk result (λ m. ArePair draft.new m.0 × ArePair draft.new m.1) }
 {
     let n = definition(alloc, draft, name)?;
-    let k = pop_call(alloc, draft)?;
+    let k = pop_call(draft)?;
     let d = drops(draft)?;
-    let t = pop_dot(alloc, draft)?;
+    let t = pop_dot(draft)?;
     let m = scope(draft)?;
     let a = scope(draft)?;
     let l = scope(draft)?;

@@ -32,7 +32,7 @@ fn whole(alloc: Global, draft: &mut Draft, parts: &[&str], body: &[Stmt]) -> Res
 fn named(alloc: Global, parts: &[&str], body: &[Stmt]) -> Result<FileGraph, TransFault>
     ensures { Translates result (told (table (map (λ x. x.now) parts.now) body.now (record { nodes = []; edges = [] }))) }
 {
-    let mut draft = Draft::new(alloc);
+    let mut draft = Draft::new(alloc)?;
     match whole(alloc, &mut draft, parts, body) {
         Ok(()) => draft.finish(alloc),
         Err(Stop::Full) => Err(TransFault::TooManyNodes(16_385)),
