@@ -4,6 +4,7 @@ ghost use Rattle.std.specs.Prelude.{◌≡◌, [], ◌∷◌, ◌++◌, OnOk, On
 ghost use Rattle.py_graph.specs.Steps as steps;
 
 use crate::fault::TransFault;
+use crate::seen::Seen;
 use graph_nodes::{
     Edge, FileGraph, GraphFault, MAX_EDGES, MAX_NODES, Name, Node, NodeKind, Place, Span,
 };
@@ -40,6 +41,8 @@ pub struct Draft {
     dot: Name,
     /// The name of every call.
     call: Name,
+    /// Where the other names stand.
+    seen: Seen,
 }
 
 impl Model for Draft {
@@ -72,6 +75,7 @@ impl Draft {
             edges: Vec::new(alloc),
             dot: Name::of(alloc, ".")?,
             call: Name::of(alloc, "()")?,
+            seen: Seen::new(alloc)?,
         })
     }
 
@@ -88,6 +92,15 @@ impl Draft {
         ensures { IfOk result (λ name. name ≡ codes "()") }
     {
         self.call.share()
+    }
+
+    /// A name of this text for the next node, which shares that of a node before it where one is found. It takes
+    /// time that follows the length of the text; the one error is want of memory.
+    pub fn name(&mut self, alloc: Global, text: &str) -> Result<Name, AllocError>
+        ensures value { IfOk result (λ name. name ≡ text.now) }
+        ensures same { self.new ≡ self.old }
+    {
+        self.seen.name(alloc, self.nodes.as_slice(), text)
     }
 
     /// The graph of what was made, where it has no more edges than a file may have.

@@ -8,7 +8,7 @@ ghost use Rattle.py_graph.specs.Gives.{Gives};
 
 use crate::draft::{Draft, Stop};
 use crate::nodes::pop_dot;
-use graph_nodes::{Name, NodeKind, Place, Span};
+use graph_nodes::{NodeKind, Place, Span};
 use std::alloc::Global;
 
 const START: Span = Span {
@@ -24,7 +24,7 @@ fn part(alloc: Global, draft: &mut Draft, x: &str, last: bool) -> Result<u32, St
     ensures grows { Grows draft.old draft.new }
     ensures inside { IfOk result (IsNode draft.new) }
 {
-    let symbol = Name::of(alloc, x)?;
+    let symbol = draft.name(alloc, x)?;
     let span = if last { Some(START) } else { None };
     draft.node(
         NodeKind::Pop {

@@ -10,6 +10,7 @@ mod imports;
 mod names;
 mod nodes;
 mod parameters;
+mod seen;
 mod simple;
 mod statements;
 mod translating;

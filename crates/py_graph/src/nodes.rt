@@ -16,7 +16,7 @@ pub fn definition(alloc: Global, draft: &mut Draft, x: &Word) -> Result<u32, Sto
     ensures grows { Grows draft.old draft.new }
     ensures inside { IfOk result (IsNode draft.new) }
 {
-    let symbol = Name::of(alloc, x.text.as_str())?;
+    let symbol = draft.name(alloc, x.text.as_str())?;
     draft.node(
         NodeKind::Pop {
             symbol,
@@ -32,7 +32,7 @@ pub fn binding(alloc: Global, draft: &mut Draft, x: &Word) -> Result<u32, Stop>
     ensures grows { Grows draft.old draft.new }
     ensures inside { IfOk result (IsNode draft.new) }
 {
-    let symbol = Name::of(alloc, x.text.as_str())?;
+    let symbol = draft.name(alloc, x.text.as_str())?;
     draft.node(
         NodeKind::Pop {
             symbol,
@@ -48,7 +48,7 @@ pub fn reference(alloc: Global, draft: &mut Draft, x: &Word) -> Result<u32, Stop
     ensures grows { Grows draft.old draft.new }
     ensures inside { IfOk result (IsNode draft.new) }
 {
-    let symbol = Name::of(alloc, x.text.as_str())?;
+    let symbol = draft.name(alloc, x.text.as_str())?;
     draft.node(
         NodeKind::Push {
             symbol,
