@@ -1,6 +1,6 @@
 //! The nodes that the table makes.
 
-ghost use Rattle.std.specs.Prelude.{◌≡◌, IfOk, decimal};
+ghost use Rattle.std.specs.Prelude.{◌≡◌, IfOk, IfSome, decimal};
 ghost use Rattle.py_graph.specs.Nodes as made;
 ghost use Rattle.py_graph.specs.Gives.{Gives};
 ghost use Rattle.py_graph.specs.Inside.{Grows, IsNode};
@@ -106,12 +106,36 @@ pub fn pop_call(draft: &mut Draft) -> Result<u32, Stop>
     )
 }
 
-/// The decimal numeral of a place among arguments.
-fn numeral(alloc: Global, j: usize) -> Result<Name, AllocError>
-    ensures { IfOk result (λ name. name ≡ decimal j) }
+/// The numeral of a place, where it has one digit.
+#[tactic(auto, using(std::proofs::lemmas::Fmt::decimal_digit))]
+fn digit(j: usize) -> Option<&'static str>
+    ensures { IfSome result (λ text. text.now ≡ decimal j) }
 {
+    match j {
+        0 => Some("0"),
+        1 => Some("1"),
+        2 => Some("2"),
+        3 => Some("3"),
+        4 => Some("4"),
+        5 => Some("5"),
+        6 => Some("6"),
+        7 => Some("7"),
+        8 => Some("8"),
+        9 => Some("9"),
+        _ => None,
+    }
+}
+
+/// The decimal numeral of a place among arguments, as a name for the next node.
+fn numeral(alloc: Global, draft: &mut Draft, j: usize) -> Result<Name, AllocError>
+    ensures value { IfOk result (λ name. name ≡ decimal j) }
+    ensures same { draft.new ≡ draft.old }
+{
+    if let Some(text) = digit(j) {
+        return draft.name(alloc, text);
+    }
     let text = format!(in alloc; "{j}")?;
-    Name::of(alloc, text.as_str())
+    draft.name(alloc, text.as_str())
 }
 
 /// The pop of an argument's place.
@@ -120,7 +144,7 @@ pub fn pop_number(alloc: Global, draft: &mut Draft, j: usize) -> Result<u32, Sto
     ensures grows { Grows draft.old draft.new }
     ensures inside { IfOk result (IsNode draft.new) }
 {
-    let symbol = numeral(alloc, j)?;
+    let symbol = numeral(alloc, draft, j)?;
     draft.node(
         NodeKind::Pop {
             symbol,
@@ -136,7 +160,7 @@ pub fn push_number(alloc: Global, draft: &mut Draft, j: usize) -> Result<u32, St
     ensures grows { Grows draft.old draft.new }
     ensures inside { IfOk result (IsNode draft.new) }
 {
-    let symbol = numeral(alloc, j)?;
+    let symbol = numeral(alloc, draft, j)?;
     draft.node(
         NodeKind::Push {
             symbol,
