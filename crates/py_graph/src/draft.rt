@@ -75,7 +75,7 @@ impl Draft {
             edges: Vec::new(alloc),
             dot: Name::of(alloc, ".")?,
             call: Name::of(alloc, "()")?,
-            seen: Seen::new(alloc)?,
+            seen: Seen::new(),
         })
     }
 

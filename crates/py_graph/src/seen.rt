@@ -12,15 +12,13 @@ const SLOTS: usize = 1_024;
 /// slot was last made. A name that is found there is taken only where it has the text.
 #[derive(Drop)]
 pub struct Seen {
-    places: Vec<usize>,
+    places: [usize; SLOTS],
 }
 
 impl Seen {
-    /// No place noted; the one error is want of memory.
-    pub fn new(alloc: Global) -> Result<Seen, AllocError> {
-        Ok(Seen {
-            places: vec![in alloc; 0; SLOTS]?,
-        })
+    /// No place noted.
+    pub fn new() -> Seen {
+        Seen { places: [0; SLOTS] }
     }
 
     /// A name of this text for the node that comes behind these. It is the name of one of them, held once more,
@@ -30,7 +28,7 @@ impl Seen {
         ensures { IfOk result (λ name. name ≡ text.now) }
     {
         let slot = slot_of(text);
-        if let Some(name) = found(self.places.as_slice(), nodes, slot, text) {
+        if let Some(name) = found(&self.places, nodes, slot, text) {
             return name.share();
         }
         if let Some(place) = self.places.get_mut(slot) {
