@@ -2,7 +2,7 @@ ghost use Rattle.std.specs.Prelude.{◌≡◌, [], ◌∷◌, None, IfOk};
 ghost use Rattle.stacks_vars.specs.declared.action.Action.TheVariants.{Pass};
 ghost use Rattle.partial_path.specs.Step.{action_of};
 ghost use Rattle.partial_path.specs.Spots.{node_at};
-ghost use Rattle.path_join.specs.Units.{asked_by, made_by, peak_by, asks, makes, any_scopes, out_of, entry_rule};
+ghost use Rattle.path_join.specs.Units.{asked_by, made_by, peak_by, asks, makes, any_scopes, pat_of, out_of, entry_rule};
 
 use graph_nodes::{Name, NodeKind};
 use partial_path::{EdgeAt, End, PartialPath, Start, symbol_of};
@@ -39,21 +39,25 @@ pub(crate) fn entering(
 fn asked_by(alloc: Global, kind: &NodeKind) -> Result<Pre, AllocError>
     ensures { IfOk result (λ pre. pre ≡ asked_by (action_of 0 kind.now)) }
 {
-    let mut symbols = Vec::new(alloc);
     match kind {
-        NodeKind::Pop { symbol, .. } => symbols.push(SymPat {
-            symbol: symbol_of(symbol)?,
-            scopes: None,
-        })?,
-        NodeKind::PopScoped { symbol, .. } => symbols.push(SymPat {
-            symbol: symbol_of(symbol)?,
-            scopes: Some(any_scopes(alloc)),
-        })?,
+        NodeKind::Pop { symbol, .. } => popped(alloc, symbol, None),
+        NodeKind::PopScoped { symbol, .. } => popped(alloc, symbol, Some(any_scopes(alloc))),
         NodeKind::Scope { .. }
         | NodeKind::Push { .. }
         | NodeKind::PushScoped { .. }
-        | NodeKind::Drops => {}
+        | NodeKind::Drops => Ok(asks(alloc, Vec::new(alloc))),
     }
+}
+
+/// The symbol with such scopes, and any scope stack.
+fn popped(alloc: Global, symbol: &Name, scopes: Option<ScopePat>) -> Result<Pre, AllocError>
+    ensures { IfOk result (λ pre. pre ≡ asks (pat_of symbol.now scopes ∷ [])) }
+{
+    let mut symbols = Vec::with_capacity(alloc, 1)?;
+    symbols.push(SymPat {
+        symbol: symbol_of(symbol)?,
+        scopes,
+    })?;
     Ok(asks(alloc, symbols))
 }
 
@@ -88,7 +92,7 @@ fn made_by(alloc: Global, kind: &NodeKind) -> Result<Post, AllocError>
 fn pushed(alloc: Global, symbol: &Name, scopes: Option<ScopeOut>) -> Result<Post, AllocError>
     ensures { IfOk result (λ post. post ≡ makes (out_of symbol.now scopes ∷ []) Tail.Front) }
 {
-    let mut symbols = Vec::new(alloc);
+    let mut symbols = Vec::with_capacity(alloc, 1)?;
     symbols.push(SymOut {
         symbol: symbol_of(symbol)?,
         scopes,

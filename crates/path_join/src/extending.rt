@@ -159,11 +159,22 @@ fn node_entered(
     }
 }
 
+/// Room for one item more where there are none, and for no others: most paths ask for one symbol and make one.
+fn room_for_first<T>(items: &mut Vec<T>) -> Result<(), AllocError>
+    ensures { items.new.items ≡ items.old.items }
+{
+    if !items.is_empty() {
+        return Ok(());
+    }
+    items.reserve_exact(1)
+}
+
 /// The postcondition with this symbol in front.
 fn with_front(symbol: &Name, scopes: Option<ScopeOut>, post: Post) -> Result<Post, AllocError>
     ensures { IfOk result (λ made. made ≡ with_front (out_of symbol.now scopes) post) }
 {
     let mut symbols = post.symbols.into_items();
+    room_for_first(&mut symbols)?;
     symbols.insert(
         0,
         SymOut {
@@ -208,13 +219,14 @@ fn without_scopes(alloc: Global, post: Post) -> Post
 fn asks_more(pre: Pre, symbol: &Name, scopes: Option<ScopePat>) -> Result<Pre, AllocError>
     ensures { IfOk result (λ asks. asks ≡ asks_more pre (pat_of symbol.now scopes)) }
 {
-    let mut symbols = pre.symbols;
+    let mut symbols = pre.symbols.into_items();
+    room_for_first(&mut symbols)?;
     symbols.push(SymPat {
         symbol: symbol_of(symbol)?,
         scopes,
     })?;
     Ok(Pre {
-        symbols,
+        symbols: Listed::of(symbols),
         scopes: pre.scopes,
     })
 }

@@ -62,7 +62,7 @@ pub(crate) fn joined_symbols(alloc: Global, joint: &Joint) -> Result<Listed<SymO
         joint.first.post().symbols.items(),
         joint.second.pre().symbols.len(),
     );
-    let mut symbols = Vec::with_capacity(alloc, made.len())?;
+    let mut symbols = Vec::with_capacity(alloc, made.len() + left.len())?;
     add_put(alloc, &mut symbols, joint, made)?;
     add_grown(alloc, &mut symbols, joint.known, left)?;
     Ok(Listed::of(symbols))
