@@ -1,5 +1,5 @@
 -- The paths of one edge from after a cut place are those of the edges that leave it.
-use Rattle.std.proofs.Common.{◌≡◌, ◌<◌, ℕ, List, [], ◌∷◌, ◌++◌, length, Some, IfSome, IsTrue, Contains, refl, sym, ap, ◌∙◌, subst, true, false, ◌+◌}
+use Rattle.std.proofs.Common.{◌≡◌, ◌<◌, ℕ, List, [], ◌∷◌, ◌++◌, length, Some, IfSome, IsTrue, Contains, refl, sym, ◌∙◌, subst, Bool, true, false}
 use Rattle.std.proofs.lemmas.Bool.{false≢true}
 use Rattle.graph_nodes.specs.Graph.{Graph, is_reference}
 use Rattle.graph_nodes.specs.Checked.{IsChecked, is_jump}
@@ -17,15 +17,14 @@ use Rattle.partial_path.specs.Walks.{is_cut_spot, starts_walks, IsWalk, walk_of}
 use Rattle.partial_path.specs.PathSets.{IsRuleOf, walk_of_rule}
 use Rattle.path_join.specs.Units.{after_source, edge_alone, place_spot}
 use Rattle.file_paths.specs.Walking.{no_edges}
-use Rattle.file_paths.specs.Finding.{MayGoOn, GoesOnFrom, IsLongerRule, AddsLonger, AreFirstRules, starts_below, start_if, before_node, after_node}
+use Rattle.file_paths.specs.Finding.{MayGoOn, GoesOnFrom, IsLongerRule, AddsLonger, AddsFirst, before_node, after_node}
 use Rattle.file_paths.proofs.UnitLaws.{IsSpotOf}
 use Rattle.file_paths.proofs.EdgesLaws.{Leaves-from}
 use Rattle.file_paths.proofs.SourceLaws.{source_unit}
 use Rattle.file_paths.proofs.PassableLaws.{unit_walk}
 use Rattle.file_paths.proofs.SinkLaws.{reference_leaves, cut_leaves}
 use Rattle.file_paths.proofs.GrowingLaws.{IsAdding, growing_in, adding_begins, adding_there, adding_more, adding_ends, start_may_go_on}
-use Rattle.file_paths.proofs.EachStartLaws.{before_new, after_new}
-use Rattle.file_paths.proofs.FirstLaws.{first_root, first_yes, first_no, first_node, start_walk}
+use Rattle.file_paths.proofs.FirstLaws.{start_walk}
 
 -- to these rules were added those of one edge from a place's spot so far, and these edges are left
 pub record AreUnits (g : Graph) (from : Place) (left : List ℕ) (old : List Rule) (now : List Rule) : Type 0 where
@@ -90,34 +89,22 @@ pub opened_goes_on : (g : Graph) (n : ℕ) (p : Rule) → p.start ≡ before_nod
 opened_goes_on g n p starts none =
     subst (λ w. GoesOnFrom g w (place.At n)) (sym (start_walk p (before_node n) starts none)) (λ e walk. reference_leaves g n e walk)
 
--- the starts so far, with those of the root, of a reference and of a cut node
-pub begun_root : (g : Graph) (none first : List Rule) → none ≡ [] → IfSome (place_spot place.Root) (λ s. AddsLonger g (no_edges (After s)) none first)
-    → AreFirstRules g (starts_below g 0) first
-begun_root g none first empty h =
-    subst (λ (ps : List Rule). AreFirstRules g (starts_below g 0) ps) (sym (h.2 ∙ ap (λ (ps : List Rule). ps ++ h.0) empty)) (first_root g h.0 h.1.walks h.1.exact)
+-- rules of one edge from a start that there isn't, from a reference and from a cut node
+pub begun_none : (g : Graph) (b : Bool) (start : Start) (first : List Rule) → b ≡ false → AddsFirst g b start first first
+begun_none g b start first is = record { some = λ t. absurd (false≢true (sym is ∙ t)); none = λ f. refl }
 
-pub begun_reference : (g : Graph) (n : ℕ) (first now : List Rule) (p : Rule) → AreFirstRules g (starts_below g n) first → is_reference g.nodes n ≡ true
+pub begun_some : (g : Graph) (b : Bool) (start : Start) (first now : List Rule) → b ≡ true → AddsLonger g (no_edges start) first now
+    → AddsFirst g b start first now
+begun_some g b start first now is more = record { some = λ t. more; none = λ f. absurd (false≢true (sym f ∙ is)) }
+
+pub begun_reference : (g : Graph) (n : ℕ) (first now : List Rule) (p : Rule) → is_reference g.nodes n ≡ true
     → p.start ≡ before_node n → p.edges ≡ [] → AddsLonger g (walk_of_rule p) first now
-    → AreFirstRules g (starts_below g n ++ start_if (is_reference g.nodes n) (before_node n)) now
-begun_reference g n first now p are is starts none more =
-    let h = subst (λ w. AddsLonger g w first now) (start_walk p (before_node n) starts none) more in
-    subst (λ (ps : List Rule). AreFirstRules g (starts_below g n ++ start_if (is_reference g.nodes n) (before_node n)) ps) (sym h.2)
-    (first_yes g (starts_below g n) first (before_node n) h.0 (is_reference g.nodes n) are is (before_new g n) h.1.walks h.1.exact)
+    → AddsFirst g (is_reference g.nodes n) (before_node n) first now
+begun_reference g n first now p is starts none more =
+    begun_some g (is_reference g.nodes n) (before_node n) first now is
+    (subst (λ w. AddsLonger g w first now) (start_walk p (before_node n) starts none) more)
 
-pub begun_none : (g : Graph) (n : ℕ) (first : List Rule) → AreFirstRules g (starts_below g n) first → is_reference g.nodes n ≡ false
-    → AreFirstRules g (starts_below g n ++ start_if (is_reference g.nodes n) (before_node n)) first
-begun_none g n first are is = first_no g (starts_below g n) first (before_node n) (is_reference g.nodes n) are is
-
-pub begun_cut : (g : Graph) (n : ℕ) (first now : List Rule) → AreFirstRules g (starts_below g n ++ start_if (is_reference g.nodes n) (before_node n)) first
-    → is_cut g (place.At n) ≡ true → IfSome (place_spot (place.At n)) (λ s. AddsLonger g (no_edges (After s)) first now)
-    → AreFirstRules g (starts_below g (n + 1)) now
-begun_cut g n first now are is more =
-    subst (λ (ps : List Rule). AreFirstRules g (starts_below g (n + 1)) ps) (sym more.2)
-    (first_node g n (first ++ more.0)
-    (first_yes g (starts_below g n ++ start_if (is_reference g.nodes n) (before_node n)) first (after_node n) more.0 (is_cut g (place.At n)) are is
-    (after_new g n (is_reference g.nodes n)) more.1.walks more.1.exact))
-
-pub begun_uncut : (g : Graph) (n : ℕ) (first : List Rule) → AreFirstRules g (starts_below g n ++ start_if (is_reference g.nodes n) (before_node n)) first
-    → is_cut g (place.At n) ≡ false → AreFirstRules g (starts_below g (n + 1)) first
-begun_uncut g n first are is =
-    first_node g n first (first_no g (starts_below g n ++ start_if (is_reference g.nodes n) (before_node n)) first (after_node n) (is_cut g (place.At n)) are is)
+pub begun_cut : (g : Graph) (n : ℕ) (first now : List Rule) → is_cut g (place.At n) ≡ true
+    → IfSome (place_spot (place.At n)) (λ s. AddsLonger g (no_edges (After s)) first now)
+    → AddsFirst g (is_cut g (place.At n)) (after_node n) first now
+begun_cut g n first now is more = begun_some g (is_cut g (place.At n)) (after_node n) first now is more

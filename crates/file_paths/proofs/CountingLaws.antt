@@ -7,7 +7,7 @@ use Rattle.partial_path.specs.declared.config.EdgeAt.{EdgeAt}
 use Rattle.partial_path.specs.Rules.{Rule}
 use Rattle.partial_path.specs.Walks.{alone, ends_landing, IsWalk, IsWeight, IsHeavier}
 use Rattle.partial_path.specs.PathSets.{IsRuleOf, walk_of_rule, IsPathSet}
-use Rattle.file_paths.specs.Finding.{IsFinding, AreFirstRules, AreLongerRules, AddsLonger, if_landing, starts_below, IsShort}
+use Rattle.file_paths.specs.Finding.{IsFinding, AreFirstRules, AreLongerRules, AddsLonger, if_landing, all_starts, IsShort}
 use Rattle.file_paths.specs.Finds.{AddsWalks}
 use Rattle.file_paths.proofs.FirstLaws.{first_all}
 use Rattle.file_paths.proofs.FindingLaws.{next_is_rule, next_is_walk, next_few, next_within, next_heavy, finding_lands, finding_passes, found_set, found_weight, found_count, finding_few, finding_within}
@@ -18,7 +18,7 @@ pub record IsCounting (g : Graph) (rules : List Rule) (begun : List Rule) (weigh
   pub rose : now ≡ old + count
   pub finding : IsFinding g rules begun weight count
 
-pub counting_begins : (g : Graph) (rules first : List Rule) (old : ℕ) → IsChecked g → AreFirstRules g (starts_below g (length g.nodes)) first → rules ≡ []
+pub counting_begins : (g : Graph) (rules first : List Rule) (old : ℕ) → IsChecked g → AreFirstRules g (all_starts g) first → rules ≡ []
     → IsCounting g rules first 0 old old
 counting_begins g rules first old checked are none = record {
   count = 0;

@@ -1,5 +1,5 @@
 -- Every start of walks of a file is after the root, before a reference or after a cut node.
-use Rattle.std.proofs.Common.{◌≡◌, ℕ, zero, suc, ◌+◌, ◌<◌, List, [], ◌∷◌, ◌++◌, length, Option, Some, None, IsTrue, Contains, ◌⊎◌, inl, inr, refl, sym, ap, subst, arith, Bool, true, false, eqb, eqb-true, slice_get, nat_le, add-one}
+use Rattle.std.proofs.Common.{◌≡◌, ℕ, zero, suc, ◌+◌, ◌-◌, ◌<◌, ◌≤◌, List, [], ◌∷◌, ◌++◌, length, Option, Some, None, IsTrue, Contains, ◌⊎◌, inl, inr, refl, sym, ap, ◌∙◌, subst, append_assoc, arith, Bool, true, false, eqb, eqb-true, slice_get, nat_le}
 use Rattle.std.specs.Option.{option_map_or}
 use Rattle.std.specs.List.{list_any}
 use Rattle.std.proofs.lemmas.Option.{slice_get_within}
@@ -19,13 +19,10 @@ use Rattle.partial_path.specs.declared.rule.Start.TheVariants.{Before, After}
 use Rattle.partial_path.specs.Spots.{node_at}
 use Rattle.partial_path.specs.Walks.{starts_walks}
 use Rattle.partial_path.proofs.Edges.{has_sink}
-use Rattle.file_paths.specs.Finding.{after_node, before_node, start_if, starts_at, starts_below}
+use Rattle.file_paths.specs.Finding.{after_node, before_node, start_if, after_at, before_at, starts_down, starts_after, starts_rooted, starts_before, all_starts}
 use Rattle.list_facts.specs.Members.{IsIn}
 use Rattle.list_facts.proofs.Members.{IsIn-append_left, IsIn-append_right, IsIn-append_cases, Contains-from_IsIn, IsIn-from_Contains}
 use Rattle.list_facts.proofs.Pairs.{either}
-
-pub starts_below-more : (g : Graph) (n : ℕ) → starts_below g (n + 1) ≡ starts_below g n ++ starts_at g n
-starts_below-more g n = ap (starts_below g) (add-one n)
 
 in_start_if : (b : Bool) (start : Start) → b ≡ true → IsIn start (start_if b start)
 in_start_if true start t = inl refl
@@ -36,21 +33,35 @@ from_start_if true start s (inl e) = e
 from_start_if true start s (inr h) = absurd h
 from_start_if false start s h = absurd h
 
-same_or_less : (n m : ℕ) → n < suc m → (n ≡ m) ⊎ (n < m)
-same_or_less n m l = grind arith
+-- the starts given at a node that was looked at are there, and no others
+last_or_later : (n k m : ℕ) → n ≤ m + suc k → m < n → (n ≤ m + k) ⊎ (m ≡ n - suc k)
+last_or_later n k m far less = grind arith
 
--- the starts at an earlier node are there
-below_less : (g : Graph) (start : Start) (n m : ℕ) → n < m → IsIn start (starts_at g n) → IsIn start (starts_below g m)
-below_less g start n zero less h = absurd (let l : n < 0 = less in omega arith)
-below_less g start n (suc m) less h =
-    either (n ≡ m) (n < m) (IsIn start (starts_below g (suc m)))
-    (λ e. IsIn-append_right start (starts_below g m) (starts_at g m) (subst (λ (k : ℕ). IsIn start (starts_at g k)) e h))
-    (λ l. IsIn-append_left start (starts_below g m) (starts_at g m) (below_less g start n m l h))
-    (same_or_less n m less)
+down_in : (at : ℕ → List Start) (n k m : ℕ) (s : Start) → m < n → n ≤ m + k → IsIn s (at m) → IsIn s (starts_down at n k)
+down_in at n zero m s less far h = absurd (let l : m < n = less in let f : n ≤ m + 0 = far in omega arith)
+down_in at n (suc k) m s less far h =
+    either (n ≤ m + k) (m ≡ n - suc k) (IsIn s (starts_down at n (suc k)))
+    (λ f. IsIn-append_left s (starts_down at n k) (at (n - suc k)) (down_in at n k m s less f h))
+    (λ e. IsIn-append_right s (starts_down at n k) (at (n - suc k)) (subst (λ (i : ℕ). IsIn s (at i)) e h))
+    (last_or_later n k m far less)
 
-below_root : (g : Graph) (m : ℕ) → IsIn (After spot.Root) (starts_below g m)
-below_root g zero = inl refl
-below_root g (suc m) = IsIn-append_left (After spot.Root) (starts_below g m) (starts_at g m) (below_root g m)
+-- the start is given at one of the last so many of the first n nodes
+abbrev IsGiven : (ℕ → List Start) → ℕ → ℕ → Start → Type 0
+IsGiven at n k s = (m : ℕ) × (n ≤ m + k) × IsIn s (at m)
+
+one_later : (n m k : ℕ) → n ≤ m + k → n ≤ m + suc k
+one_later n m k far = omega arith
+
+now_far : (n k : ℕ) → n ≤ (n - suc k) + suc k
+now_far n k = omega arith
+
+down_from : (at : ℕ → List Start) (n k : ℕ) (s : Start) → IsIn s (starts_down at n k) → IsGiven at n k s
+down_from at n zero s h = absurd h
+down_from at n (suc k) s h =
+    either (IsIn s (starts_down at n k)) (IsIn s (at (n - suc k))) (IsGiven at n (suc k) s)
+    (λ i. let r = down_from at n k s i in (r.0, one_later n r.0 k r.1, r.2))
+    (λ i. (n - suc k, now_far n k, i))
+    (IsIn-append_cases s (starts_down at n k) (at (n - suc k)) h)
 
 -- a node of a kind is there
 kind_there : (test : NodeKind → Bool) (nodes : List Node) (n : ℕ) → kind_at test nodes n ≡ true → n < length nodes
@@ -88,67 +99,91 @@ cut_there g n checked t =
 node_zero : (a : NodeAt) → a.file ≡ 0 → a ≡ node_at 0 a.node
 node_zero a h = λ i. record { file = h i; node = a.node }
 
-in_below : (g : Graph) → IsChecked g → (start : Start) → IsTrue (starts_walks g start) → IsIn start (starts_below g (length g.nodes))
-in_below g checked (After spot.Root) t = below_root g (length g.nodes)
-in_below g checked (After (spot.At a)) t =
+within : (n m : ℕ) → n ≤ m + n
+within n m = omega arith
+
+in_all : (g : Graph) → IsChecked g → (start : Start) → IsTrue (starts_walks g start) → IsIn start (all_starts g)
+in_all g checked (After spot.Root) t =
+    IsIn-append_left (After spot.Root) (starts_rooted g) (starts_down (before_at g) (length g.nodes) (length g.nodes))
+    (IsIn-append_right (After spot.Root) (starts_after g (length g.nodes)) (After spot.Root ∷ []) (inl refl))
+in_all g checked (After (spot.At a)) t =
     let parts = and_parts (eqb a.file 0) (is_cut g (place.At a.node)) t in
-    subst (λ (x : NodeAt). IsIn (After (spot.At x)) (starts_below g (length g.nodes))) (sym (node_zero a (eqb-true a.file 0 parts.0)))
-    (below_less g (after_node a.node) a.node (length g.nodes) (cut_there g a.node checked parts.1)
-    (IsIn-append_right (after_node a.node) (start_if (is_reference g.nodes a.node) (before_node a.node)) (start_if (is_cut g (place.At a.node)) (after_node a.node))
-    (in_start_if (is_cut g (place.At a.node)) (after_node a.node) parts.1)))
-in_below g checked (Before a) t =
+    subst (λ (x : NodeAt). IsIn (After (spot.At x)) (all_starts g)) (sym (node_zero a (eqb-true a.file 0 parts.0)))
+    (IsIn-append_left (after_node a.node) (starts_rooted g) (starts_down (before_at g) (length g.nodes) (length g.nodes))
+    (IsIn-append_left (after_node a.node) (starts_after g (length g.nodes)) (After spot.Root ∷ [])
+    (down_in (after_at g) (length g.nodes) (length g.nodes) a.node (after_node a.node) (cut_there g a.node checked parts.1) (within (length g.nodes) a.node)
+    (in_start_if (is_cut g (place.At a.node)) (after_node a.node) parts.1))))
+in_all g checked (Before a) t =
     let parts = and_parts (eqb a.file 0) (is_reference g.nodes a.node) t in
-    subst (λ (x : NodeAt). IsIn (Before x) (starts_below g (length g.nodes))) (sym (node_zero a (eqb-true a.file 0 parts.0)))
-    (below_less g (before_node a.node) a.node (length g.nodes) (kind_there is_reference_kind g.nodes a.node parts.1)
-    (IsIn-append_left (before_node a.node) (start_if (is_reference g.nodes a.node) (before_node a.node)) (start_if (is_cut g (place.At a.node)) (after_node a.node))
+    subst (λ (x : NodeAt). IsIn (Before x) (all_starts g)) (sym (node_zero a (eqb-true a.file 0 parts.0)))
+    (IsIn-append_right (before_node a.node) (starts_rooted g) (starts_down (before_at g) (length g.nodes) (length g.nodes))
+    (down_in (before_at g) (length g.nodes) (length g.nodes) a.node (before_node a.node) (kind_there is_reference_kind g.nodes a.node parts.1) (within (length g.nodes) a.node)
     (in_start_if (is_reference g.nodes a.node) (before_node a.node) parts.1)))
 
 -- all starts are those at the root and at the file's nodes
-pub starts_below-all : (g : Graph) → IsChecked g → (start : Start) → IsTrue (starts_walks g start) → Contains (starts_below g (length g.nodes)) start
-starts_below-all g checked start t = Contains-from_IsIn (starts_below g (length g.nodes)) start (in_below g checked start t)
+pub starts-all : (g : Graph) → IsChecked g → (start : Start) → IsTrue (starts_walks g start) → Contains (all_starts g) start
+starts-all g checked start t = Contains-from_IsIn (all_starts g) start (in_all g checked start t)
 
--- the start is at the root or at one of the first so many nodes
-abbrev IsLow : ℕ → Start → Type 0
-IsLow m (Before a) = a.node < m
-IsLow m (After spot.Root) = Unit {0}
-IsLow m (After (spot.At a)) = a.node < m
+-- the node at which the start is
+abbrev node_in : Start → ℕ
+node_in (Before a) = a.node
+node_in (After spot.Root) = 0
+node_in (After (spot.At a)) = a.node
 
-raised : (m : ℕ) (s : Start) → IsLow m s → IsLow (suc m) s
-raised m (Before a) h = let l : a.node < m = h in omega arith
-raised m (After spot.Root) h = tt
-raised m (After (spot.At a)) h = let l : a.node < m = h in omega arith
+-- a node with so many before it isn't among those that were looked at
+not_yet : (n m i : ℕ) → 0 < m → m ≤ n → m - 1 ≡ i → n ≤ i + (n - m) → ⊥
+not_yet n m i some low is far = omega arith
 
-less_next : (n : ℕ) → n < suc n
-less_next n = omega arith
+not_root : (n : ℕ) → After spot.Root ≡ after_node n → ⊥
+not_root n e = cc
 
-at_low : (g : Graph) (m : ℕ) (s : Start) → IsIn s (starts_at g m) → IsLow (suc m) s
-at_low g m s h =
-    either (IsIn s (start_if (is_reference g.nodes m) (before_node m))) (IsIn s (start_if (is_cut g (place.At m)) (after_node m))) (IsLow (suc m) s)
-    (λ k. subst (IsLow (suc m)) (sym (from_start_if (is_reference g.nodes m) (before_node m) s k)) (less_next m))
-    (λ k. subst (IsLow (suc m)) (sym (from_start_if (is_cut g (place.At m)) (after_node m) s k)) (less_next m))
-    (IsIn-append_cases s (start_if (is_reference g.nodes m) (before_node m)) (start_if (is_cut g (place.At m)) (after_node m)) h)
+not_before : (n m : ℕ) → before_node n ≡ after_node m → ⊥
+not_before n m e = cc
 
-below_low : (g : Graph) (m : ℕ) (s : Start) → IsIn s (starts_below g m) → IsLow m s
-below_low g zero s (inl e) = subst (IsLow 0) (sym e) tt
-below_low g zero s (inr h) = absurd h
-below_low g (suc m) s h =
-    either (IsIn s (starts_below g m)) (IsIn s (starts_at g m)) (IsLow (suc m) s)
-    (λ k. raised m s (below_low g m s k)) (at_low g m s) (IsIn-append_cases s (starts_below g m) (starts_at g m) h)
+before_root : (n : ℕ) → before_node n ≡ After spot.Root → ⊥
+before_root n e = cc
 
-not_itself : (n : ℕ) → n < n → ⊥
-not_itself n l = omega arith
+-- the starts that come next aren't there yet
+pub after_new : (g : Graph) (m : ℕ) → 0 < m → m ≤ length g.nodes → ¬ Contains (starts_after g (length g.nodes - m)) (after_node (m - 1))
+after_new g m some low h =
+    let r = down_from (after_at g) (length g.nodes) (length g.nodes - m) (after_node (m - 1)) (IsIn-from_Contains (starts_after g (length g.nodes - m)) (after_node (m - 1)) h) in
+    not_yet (length g.nodes) m r.0 some low (ap node_in (from_start_if (is_cut g (place.At r.0)) (after_node r.0) (after_node (m - 1)) r.2)) r.1
 
--- the starts at a node aren't among those before
-pub before_new : (g : Graph) (n : ℕ) → ¬ Contains (starts_below g n) (before_node n)
-before_new g n h = not_itself n (below_low g n (before_node n) (IsIn-from_Contains (starts_below g n) (before_node n) h))
+pub root_new : (g : Graph) → ¬ Contains (starts_after g (length g.nodes)) (After spot.Root)
+root_new g h =
+    let r = down_from (after_at g) (length g.nodes) (length g.nodes) (After spot.Root) (IsIn-from_Contains (starts_after g (length g.nodes)) (After spot.Root) h) in
+    not_root r.0 (from_start_if (is_cut g (place.At r.0)) (after_node r.0) (After spot.Root) r.2)
 
-not_before : (n : ℕ) → after_node n ≡ before_node n → ⊥
-not_before n e = cc
+not_rooted : (g : Graph) (n : ℕ) → IsIn (before_node n) (starts_rooted g) → ⊥
+not_rooted g n h =
+    either (IsIn (before_node n) (starts_after g (length g.nodes))) (IsIn (before_node n) (After spot.Root ∷ [])) ⊥
+    (λ k.
+    let r = down_from (after_at g) (length g.nodes) (length g.nodes) (before_node n) k in
+    not_before n r.0 (from_start_if (is_cut g (place.At r.0)) (after_node r.0) (before_node n) r.2))
+    (λ k. either (before_node n ≡ After spot.Root) ⊥ ⊥ (before_root n) (λ none. none) k)
+    (IsIn-append_cases (before_node n) (starts_after g (length g.nodes)) (After spot.Root ∷ []) h)
 
-pub after_new : (g : Graph) (n : ℕ) (b : Bool) → ¬ Contains (starts_below g n ++ start_if b (before_node n)) (after_node n)
-after_new g n b h =
-    either (IsIn (after_node n) (starts_below g n)) (IsIn (after_node n) (start_if b (before_node n))) ⊥
-    (λ k. not_itself n (below_low g n (after_node n) k))
-    (λ k. not_before n (from_start_if b (before_node n) (after_node n) k))
-    (IsIn-append_cases (after_node n) (starts_below g n) (start_if b (before_node n))
-    (IsIn-from_Contains (starts_below g n ++ start_if b (before_node n)) (after_node n) h))
+pub before_new : (g : Graph) (m : ℕ) → 0 < m → m ≤ length g.nodes → ¬ Contains (starts_before g (length g.nodes - m)) (before_node (m - 1))
+before_new g m some low h =
+    either (IsIn (before_node (m - 1)) (starts_rooted g)) (IsIn (before_node (m - 1)) (starts_down (before_at g) (length g.nodes) (length g.nodes - m))) ⊥
+    (not_rooted g (m - 1))
+    (λ k.
+    let r = down_from (before_at g) (length g.nodes) (length g.nodes - m) (before_node (m - 1)) k in
+    not_yet (length g.nodes) m r.0 some low (ap node_in (from_start_if (is_reference g.nodes r.0) (before_node r.0) (before_node (m - 1)) r.2)) r.1)
+    (IsIn-append_cases (before_node (m - 1)) (starts_rooted g) (starts_down (before_at g) (length g.nodes) (length g.nodes - m))
+    (IsIn-from_Contains (starts_before g (length g.nodes - m)) (before_node (m - 1)) h))
+
+-- one node more was looked at
+starts_down-more : (at : ℕ → List Start) (n m : ℕ) → 0 < m → m ≤ n → starts_down at n (n - (m - 1)) ≡ starts_down at n (n - m) ++ at (m - 1)
+starts_down-more at n m some low =
+    let e : n - (m - 1) ≡ suc (n - m) = omega arith in
+    let f : n - suc (n - m) ≡ m - 1 = omega arith in
+    ap (starts_down at n) e ∙ ap (λ (i : ℕ). starts_down at n (n - m) ++ at i) f
+
+pub starts_after-more : (g : Graph) (m : ℕ) → 0 < m → m ≤ length g.nodes → starts_after g (length g.nodes - (m - 1)) ≡ starts_after g (length g.nodes - m) ++ after_at g (m - 1)
+starts_after-more g m some low = starts_down-more (after_at g) (length g.nodes) m some low
+
+pub starts_before-more : (g : Graph) (m : ℕ) → 0 < m → m ≤ length g.nodes → starts_before g (length g.nodes - (m - 1)) ≡ starts_before g (length g.nodes - m) ++ before_at g (m - 1)
+starts_before-more g m some low =
+    ap (λ (ss : List Start). starts_rooted g ++ ss) (starts_down-more (before_at g) (length g.nodes) m some low)
+    ∙ sym (append_assoc (starts_rooted g) (starts_down (before_at g) (length g.nodes) (length g.nodes - m)) (before_at g (m - 1)))

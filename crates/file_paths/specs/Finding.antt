@@ -1,5 +1,5 @@
 -- What finding a file's paths meets on its way. No public clause cites this.
-use Rattle.std.specs.Prelude.{◌≡◌, ◌≤◌, ◌+◌, ℕ, zero, suc, List, [], ◌∷◌, ◌++◌, length, map, filter, Bool, false, if◌then◌else◌, IsTrue, Contains, Some, slice_get}
+use Rattle.std.specs.Prelude.{◌≡◌, ◌≤◌, ◌+◌, ◌-◌, ℕ, zero, suc, List, [], ◌∷◌, ◌++◌, length, map, filter, Bool, true, false, if◌then◌else◌, IsTrue, Contains, Some, slice_get}
 use Rattle.std.specs.List.{AllByRecursion}
 use Rattle.graph_nodes.specs.Graph.{Graph, is_reference}
 use Rattle.graph_nodes.specs.Cut.{is_cut}
@@ -16,7 +16,7 @@ use Rattle.partial_path.specs.Rules.{Rule}
 use Rattle.partial_path.specs.Walks.{alone, ends_landing, starts_walks, IsUncut, IsWalk, Walk, edges_of}
 use Rattle.partial_path.specs.PathSets.{IsRuleOf, walk_of_rule}
 use Rattle.path_join.specs.Units.{edge_alone}
-use Rattle.file_paths.specs.Walking.{ends_cut, one_more, AreFirst, AreLonger, IsUnderWay}
+use Rattle.file_paths.specs.Walking.{ends_cut, no_edges, one_more, AreFirst, AreLonger, IsUnderWay}
 
 -- the path has at most so many edges, and its peak is at most one above their number
 pub record IsShort (limit : ℕ) (p : Rule) : Type 0 where
@@ -82,14 +82,36 @@ after_node n = After (spot.At (node_at 0 n))
 abbrev pub start_if : Bool → Start → List Start
 start_if passes start = if passes then start ∷ [] else []
 
--- the starts at a node: before a reference, and after a cut node
-abbrev pub starts_at : Graph → ℕ → List Start
-starts_at g n = start_if (is_reference g.nodes n) (before_node n) ++ start_if (is_cut g (place.At n)) (after_node n)
+-- the start before the node, where it is a reference, and the one after it, where it is a cut node
+abbrev pub before_at : Graph → ℕ → List Start
+before_at g n = start_if (is_reference g.nodes n) (before_node n)
 
--- the starts at the root and at the first so many nodes
-abbrev pub starts_below : Graph → ℕ → List Start
-starts_below g zero = After spot.Root ∷ []
-starts_below g (suc n) = starts_below g n ++ starts_at g n
+abbrev pub after_at : Graph → ℕ → List Start
+after_at g n = start_if (is_cut g (place.At n)) (after_node n)
+
+-- the starts given at the last so many of the first n nodes, from the last node down
+abbrev pub starts_down : (ℕ → List Start) → ℕ → ℕ → List Start
+starts_down at n zero = []
+starts_down at n (suc k) = starts_down at n k ++ at (n - suc k)
+
+-- the file's starts, the greatest first: those after its nodes, of which the last so many were looked at; the
+-- one after the root too; and then those before its nodes
+abbrev pub starts_after : Graph → ℕ → List Start
+starts_after g k = starts_down (after_at g) (length g.nodes) k
+
+abbrev pub starts_rooted : Graph → List Start
+starts_rooted g = starts_after g (length g.nodes) ++ After spot.Root ∷ []
+
+abbrev pub starts_before : Graph → ℕ → List Start
+starts_before g k = starts_rooted g ++ starts_down (before_at g) (length g.nodes) k
+
+abbrev pub all_starts : Graph → List Start
+all_starts g = starts_before g (length g.nodes)
+
+-- rules for the walks of one edge from the start were added to these, where the test passes, and else none
+pub record AddsFirst (g : Graph) (passes : Bool) (start : Start) (old : List Rule) (new : List Rule) : Type 0 where
+  pub some : passes ≡ true → AddsLonger g (no_edges start) old new
+  pub none : passes ≡ false → new ≡ old
 
 -- some walks are noted: these are rules of the landing ones, and so many edges and walks they are; and these
 -- are rules of the begun ones

@@ -1,13 +1,14 @@
-ghost use Rattle.std.specs.Prelude.{◌≡◌, ◌<◌, ◌+◌, ◌++◌, length, IfOk, IfSome, OnOk, IsTrue, true, false};
+ghost use Rattle.std.specs.Prelude.{◌≡◌, ◌<◌, ◌+◌, [], length, IfOk, IfSome, OnOk, IsTrue, true, false};
 ghost use Rattle.std.specs.List.{AllByRecursion};
 ghost use Rattle.graph_nodes.specs.Graph.{has_place, is_reference};
 ghost use Rattle.graph_nodes.specs.Checked.{is_jump};
 ghost use Rattle.graph_nodes.specs.Cut.{is_cut};
+ghost use Rattle.graph_nodes.specs.declared.node.Place.TheVariants as place;
 ghost use Rattle.partial_path.specs.declared.rule.Start.TheVariants.{After};
 ghost use Rattle.path_join.specs.Units.{place_spot};
 ghost use Rattle.file_paths.specs.declared.fault.TheConstants.{MAX_WEIGHT};
 ghost use Rattle.file_paths.specs.Walking.{no_edges};
-ghost use Rattle.file_paths.specs.Finding.{IsShort, AddsLonger, AreFirstRules, starts_below, start_if, before_node};
+ghost use Rattle.file_paths.specs.Finding.{IsShort, AddsLonger, AddsFirst, AreFirstRules, before_node, after_node, starts_after, starts_rooted, all_starts};
 
 use crate::growing::grow;
 use graph_nodes::{FileGraph, Place};
@@ -15,19 +16,51 @@ use partial_path::PartialPath;
 use path_join::{opening, unit};
 use std::alloc::{AllocError, Global};
 
-/// The paths of one edge, from each start of the file's walks: after the root, before each reference and
-/// after each cut node. The one error is want of memory.
+/// The paths of one edge, from each start of the file's walks: after each cut node, after the root and before
+/// each reference. They stand in the order of their starts, the greatest first. The one error is want of memory.
 pub fn first_paths(alloc: Global, graph: &FileGraph) -> Result<Vec<PartialPath>, AllocError>
-    ensures first { IfOk result (λ first. AreFirstRules graph.now (starts_below graph.now (length graph.now.nodes)) first.items) }
+    ensures first { IfOk result (λ first. AreFirstRules graph.now (all_starts graph.now) first.items) }
     ensures short { IfOk result (λ first. AllByRecursion (IsShort (MAX_WEIGHT + 1)) first.items) }
 {
     let mut first = Vec::new(alloc);
+    push_afters(alloc, graph, &mut first)?;
     push_units(alloc, graph, Place::Root, &mut first)?;
-    for node in 0..graph.node_count() {
-        push_before(alloc, graph, node, &mut first)?;
-        push_after(alloc, graph, node, &mut first)?;
-    }
+    push_befores(alloc, graph, &mut first)?;
     Ok(first)
+}
+
+/// Adds the paths of one edge from after each cut node, the last node first.
+fn push_afters(
+    alloc: Global,
+    graph: &FileGraph,
+    first: &mut Vec<PartialPath>,
+) -> Result<(), AllocError>
+    requires first { AreFirstRules graph.now [] first.old.items }
+    requires short { AllByRecursion (IsShort (MAX_WEIGHT + 1)) first.old.items }
+    ensures first { OnOk result (AreFirstRules graph.now (starts_after graph.now (length graph.now.nodes)) first.new.items) }
+    ensures short { OnOk result (AllByRecursion (IsShort (MAX_WEIGHT + 1)) first.new.items) }
+{
+    for node in (0..graph.node_count()).rev() {
+        push_after(alloc, graph, node, first)?;
+    }
+    Ok(())
+}
+
+/// Adds those from before each reference, the last node first.
+fn push_befores(
+    alloc: Global,
+    graph: &FileGraph,
+    first: &mut Vec<PartialPath>,
+) -> Result<(), AllocError>
+    requires first { AreFirstRules graph.now (starts_rooted graph.now) first.old.items }
+    requires short { AllByRecursion (IsShort (MAX_WEIGHT + 1)) first.old.items }
+    ensures first { OnOk result (AreFirstRules graph.now (all_starts graph.now) first.new.items) }
+    ensures short { OnOk result (AllByRecursion (IsShort (MAX_WEIGHT + 1)) first.new.items) }
+{
+    for node in (0..graph.node_count()).rev() {
+        push_before(alloc, graph, node, first)?;
+    }
+    Ok(())
 }
 
 /// Adds the paths of one edge from before the node, where it is a reference.
@@ -38,9 +71,8 @@ fn push_before(
     first: &mut Vec<PartialPath>,
 ) -> Result<(), AllocError>
     requires node { node < length graph.now.nodes }
-    requires first { AreFirstRules graph.now (starts_below graph.now node) first.old.items }
     requires short { AllByRecursion (IsShort (MAX_WEIGHT + 1)) first.old.items }
-    ensures first { OnOk result (AreFirstRules graph.now (starts_below graph.now node ++ start_if (is_reference graph.now.nodes node) (before_node node)) first.new.items) }
+    ensures first { OnOk result (AddsFirst graph.now (is_reference graph.now.nodes node) (before_node node) first.old.items first.new.items) }
     ensures short { OnOk result (AllByRecursion (IsShort (MAX_WEIGHT + 1)) first.new.items) }
 {
     if !is_reference(graph, node) {
@@ -58,9 +90,8 @@ fn push_after(
     first: &mut Vec<PartialPath>,
 ) -> Result<(), AllocError>
     requires node { node < length graph.now.nodes }
-    requires first { AreFirstRules graph.now (starts_below graph.now node ++ start_if (is_reference graph.now.nodes node) (before_node node)) first.old.items }
     requires short { AllByRecursion (IsShort (MAX_WEIGHT + 1)) first.old.items }
-    ensures first { OnOk result (AreFirstRules graph.now (starts_below graph.now (node + 1)) first.new.items) }
+    ensures first { OnOk result (AddsFirst graph.now (is_cut graph.now (place.At node)) (after_node node) first.old.items first.new.items) }
     ensures short { OnOk result (AllByRecursion (IsShort (MAX_WEIGHT + 1)) first.new.items) }
 {
     if !graph.is_cut(Place::At(node)) {

@@ -1,9 +1,10 @@
--- The root's paths come first.
-use Rattle.file_paths.proofs.BeginningLaws.{begun_root}
+-- No start was looked at yet; then those after nodes; with the root's the others follow.
+use Rattle.file_paths.proofs.FirstLaws.{first_none, first_root}
 use Rattle.file_paths.proofs.starting.first_paths.Goals as goal
 
-pub loop-node-init : goal.loop-node-init
-loop-node-init c = record {
-  first = begun_root c.args.graph.now c.new-first.result.items c.push_units.new.first.items c.new-first.ensures.items c.in_ok-push_units.ensures.longer;
-  short = c.in_ok-push_units.ensures.short;
-}
+pub push_afters-requires-clause-first : goal.push_afters-requires-clause-first
+push_afters-requires-clause-first c = first_none c.args.graph.now c.new-first.result.items c.new-first.ensures.items
+
+pub push_befores-requires-clause-first : goal.push_befores-requires-clause-first
+push_befores-requires-clause-first c =
+    first_root c.args.graph.now c.push_afters.new.first.items c.push_units.new.first.items c.in_ok-push_afters.ensures.first c.in_ok-push_units.ensures.longer
