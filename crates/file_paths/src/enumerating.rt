@@ -9,7 +9,7 @@ ghost use Rattle.file_paths.specs.Finding.{IsShort, AddsLonger, LeadsTo, if_land
 ghost use Rattle.file_paths.specs.Finds.{max_weight, AddsWalks, HasCause};
 
 use crate::fault::{MAX_WEIGHT, PathsFault};
-use crate::growing::{begin_longer, grow};
+use crate::growing::{begin_longer, grow, put};
 use crate::starting::first_paths;
 use graph_nodes::{FileGraph, Place, Steps};
 use partial_path::{FilePaths, PartialPath};
@@ -85,7 +85,7 @@ fn find(alloc: Global, graph: &FileGraph, steps: &mut u64) -> Result<Found, Path
     // Tells that the graph is checked.
     graph.node_count();
     let mut begun = first_paths(alloc, graph)?;
-    let mut paths = Vec::new(alloc);
+    let mut paths = Vec::with_capacity(alloc, begun.len())?;
     let mut weight = 0;
     while let Some(path) = begun.pop() {
         *steps += 1;
@@ -95,6 +95,7 @@ fn find(alloc: Global, graph: &FileGraph, steps: &mut u64) -> Result<Found, Path
         }
         keep(alloc, graph, path, &mut begun, &mut paths)?;
     }
+    paths.shrink_to_fit();
     Ok(Found { paths, weight })
 }
 
@@ -122,7 +123,7 @@ fn keep(
         return Ok(());
     }
     onward(alloc, graph, &path, sink, begun)?;
-    paths.push(path)?;
+    put(path, paths)?;
     Ok(())
 }
 

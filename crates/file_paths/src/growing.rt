@@ -73,7 +73,15 @@ fn begin(path: Option<PartialPath>, begun: &mut Vec<PartialPath>) -> Result<(), 
     let Some(path) = path else {
         return Ok(());
     };
-    begun.push(path)?;
+    put(path, begun)
+}
+
+/// Puts the path behind the others. Room is made first, so that the path is moved once and never given back.
+pub fn put(path: PartialPath, paths: &mut Vec<PartialPath>) -> Result<(), AllocError>
+    ensures { OnOk result (paths.new.items ≡ paths.old.items ++ path ∷ []) }
+{
+    paths.reserve(1)?;
+    paths.push_reserved(path);
     Ok(())
 }
 

@@ -10,11 +10,14 @@ ghost use Rattle.file_paths.specs.declared.fault.TheConstants.{MAX_WEIGHT};
 ghost use Rattle.file_paths.specs.Walking.{no_edges};
 ghost use Rattle.file_paths.specs.Finding.{IsShort, AddsLonger, AddsFirst, AreFirstRules, before_node, after_node, starts_after, starts_rooted, all_starts};
 
-use crate::growing::grow;
+use crate::growing::{grow, put};
 use graph_nodes::{FileGraph, Place};
 use partial_path::PartialPath;
 use path_join::{opening, unit};
 use std::alloc::{AllocError, Global};
+
+/// For how many paths room is made at first; for one a node, where the file has fewer nodes.
+const FIRST_ROOM: usize = 256;
 
 /// The paths of one edge, from each start of the file's walks: after each cut node, after the root and before
 /// each reference. They stand in the order of their starts, the greatest first. The one error is want of memory.
@@ -22,7 +25,8 @@ pub fn first_paths(alloc: Global, graph: &FileGraph) -> Result<Vec<PartialPath>,
     ensures first { IfOk result (λ first. AreFirstRules graph.now (all_starts graph.now) first.items) }
     ensures short { IfOk result (λ first. AllByRecursion (IsShort (MAX_WEIGHT + 1)) first.items) }
 {
-    let mut first = Vec::new(alloc);
+    let room = FIRST_ROOM.min(graph.node_count() as usize);
+    let mut first = Vec::with_capacity(alloc, room)?;
     push_afters(alloc, graph, &mut first)?;
     push_units(alloc, graph, Place::Root, &mut first)?;
     push_befores(alloc, graph, &mut first)?;
@@ -117,7 +121,7 @@ fn push_units(
     // Tells that the graph is checked.
     graph.node_count();
     for edge in graph.edges_from(from) {
-        first.push(unit(alloc, graph, edge)?)?;
+        put(unit(alloc, graph, edge)?, first)?;
     }
     Ok(())
 }

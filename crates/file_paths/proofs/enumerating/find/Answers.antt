@@ -1,13 +1,14 @@
 -- The last begun path is taken, counted and kept where it lands; in the end there is none left.
-use Rattle.std.proofs.Common.{◌+◌, refl, arith}
+use Rattle.std.proofs.Common.{◌+◌, refl, sym, subst, arith}
 use Rattle.std.specs.Vec.{vec_len}
+use Rattle.partial_path.specs.PathSets.{IsPathSet}
 use Rattle.file_paths.specs.declared.fault.TheConstants.{MAX_WEIGHT}
 use Rattle.file_paths.proofs.CountingLaws.{counting_begins, counting_few, counting_within, takes, taken_rule, taken_walk, taken_few, taken_within, taken_heavy, taken_short, taken_kept, counted_set, counted_weight, counted_steps, short_last, short_fits, none_left, taken_smaller, least, one_above}
 use Rattle.file_paths.proofs.enumerating.find.Goals as goal
 
 pub loop-path-init : goal.loop-path-init
 loop-path-init c = record {
-  counting = counting_begins c.args.graph.now c.new-paths.result.items c.in_ok-begun.begun.items c.args.steps.now c.node_count.ensures.checked c.in_ok-begun.ensures.first c.new-paths.ensures.items;
+  counting = counting_begins c.args.graph.now c.in_ok-paths.paths.items c.in_ok-begun.begun.items c.args.steps.now c.node_count.ensures.checked c.in_ok-begun.ensures.first c.in_ok-paths.ensures.items;
   short = c.in_ok-begun.ensures.short;
   light = least MAX_WEIGHT;
 }
@@ -100,8 +101,9 @@ loop-path-preserved c = record {
 
 pub returns-clause-paths : goal.returns-clause-paths
 returns-clause-paths c =
-    counted_set c.args.graph.now c.loop-path.paths.items c.loop-path.begun.items c.loop-path.weight c.args.steps.now c.loop-path.steps
-    (none_left (vec_len c.loop-path.begun) c.loop-path.begun.items c.pop.new.self.items c.in_default.ensures.cases.0 c.in_default.ensures.items c.in_default.ensures.rest) c.loop-path.invariant.counting
+    subst (IsPathSet c.args.graph.now) (sym c.shrink_to_fit.ensures.items)
+    (counted_set c.args.graph.now c.loop-path.paths.items c.loop-path.begun.items c.loop-path.weight c.args.steps.now c.loop-path.steps
+    (none_left (vec_len c.loop-path.begun) c.loop-path.begun.items c.pop.new.self.items c.in_default.ensures.cases.0 c.in_default.ensures.items c.in_default.ensures.rest) c.loop-path.invariant.counting)
 
 pub returns-clause-weight : goal.returns-clause-weight
 returns-clause-weight c =

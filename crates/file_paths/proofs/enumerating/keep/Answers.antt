@@ -19,5 +19,5 @@ returns-then-not-lands-clause-kept c =
 
 pub returns-clause-kept : goal.returns-clause-kept
 returns-clause-kept c =
-    keeps_landing c.args.graph.now c.args.path c.last_sink-sink.result c.args.paths.now.items c.push.new.self.items c.last_sink-sink.ensures.leads
-    (sym c.lands.ensures ∙ c.if-not-lands.false) c.in_ok-push.ensures.items
+    keeps_landing c.args.graph.now c.args.path c.last_sink-sink.result c.args.paths.now.items c.put.new.paths.items c.last_sink-sink.ensures.leads
+    (sym c.lands.ensures ∙ c.if-not-lands.false) c.in_ok-put.ensures

@@ -3,7 +3,7 @@ use Rattle.file_paths.proofs.FirstLaws.{first_none, first_root}
 use Rattle.file_paths.proofs.starting.first_paths.Goals as goal
 
 pub push_afters-requires-clause-first : goal.push_afters-requires-clause-first
-push_afters-requires-clause-first c = first_none c.args.graph.now c.new-first.result.items c.new-first.ensures.items
+push_afters-requires-clause-first c = first_none c.args.graph.now c.in_ok-first.first.items c.in_ok-first.ensures.items
 
 pub push_befores-requires-clause-first : goal.push_befores-requires-clause-first
 push_befores-requires-clause-first c =

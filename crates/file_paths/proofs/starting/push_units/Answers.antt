@@ -25,10 +25,10 @@ pub loop-edge-preserved : goal.loop-edge-preserved
 loop-edge-preserved c = record {
   units =
       units_more c.args.graph.now c.args.from c.loop-edge.edge-iterator c.next.new.self c.in-Some.edge c.args.first.now.items c.loop-edge.first.items
-      c.push.new.self.items c.in_ok-unit.field-0 c.node_count.ensures.checked c.requires.cut c.loop-edge.invariant.units c.in-Some.ensures.steps
-      c.in_ok-unit.ensures.start c.in_ok-unit.ensures.edges c.in_ok-unit.ensures.rule c.in_ok-push.ensures.items;
+      c.put.new.paths.items c.in_ok-unit.field-0 c.node_count.ensures.checked c.requires.cut c.loop-edge.invariant.units c.in-Some.ensures.steps
+      c.in_ok-unit.ensures.start c.in_ok-unit.ensures.edges c.in_ok-unit.ensures.rule c.in_ok-put.ensures;
   short =
-      subst (λ (items : List Rule). AllByRecursion (IsShort (MAX_WEIGHT + 1)) items) (sym c.in_ok-push.ensures.items)
+      subst (λ (items : List Rule). AllByRecursion (IsShort (MAX_WEIGHT + 1)) items) (sym c.in_ok-put.ensures)
       (all_push (IsShort (MAX_WEIGHT + 1)) c.loop-edge.first.items c.in_ok-unit.field-0 c.loop-edge.invariant.short
       (unit_short MAX_WEIGHT c.in-Some.edge c.in_ok-unit.field-0 c.in_ok-unit.ensures.peak c.in_ok-unit.ensures.edges));
 }
