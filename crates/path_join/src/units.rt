@@ -13,6 +13,9 @@ use partial_path::{EdgeAt, End, PartialPath, Spot, Start};
 use stacks_vars::NodeAt;
 use std::alloc::{AllocError, Global};
 
+/// For how many edges a path has room at first: most grow to about so many.
+const EDGES_ROOM: usize = 3;
+
 /// The partial path of one edge of the file, from after its source: applied to any configuration it does
 /// what following the edge does. The one error is want of memory.
 pub fn unit(alloc: Global, graph: &FileGraph, edge: u32) -> Result<PartialPath, AllocError>
@@ -25,7 +28,8 @@ pub fn unit(alloc: Global, graph: &FileGraph, edge: u32) -> Result<PartialPath, 
 {
     let found = edge_of(graph, edge);
     let start = Start::After(spot_of(found.source));
-    let edges = Vec::from_slice(alloc, &[EdgeAt { file: 0, edge }])?;
+    let mut edges = Vec::with_capacity(alloc, EDGES_ROOM)?;
+    edges.push(EdgeAt { file: 0, edge })?;
     place_entered(alloc, graph, start, found.sink, edges)
 }
 
@@ -40,7 +44,8 @@ pub fn opening(alloc: Global, graph: &FileGraph, node: u32) -> Result<PartialPat
     ensures files { IfOk result IsOfFileZero }
 {
     let start = Start::Before(NodeAt { file: 0, node });
-    place_entered(alloc, graph, start, Place::At(node), Vec::new(alloc))
+    let edges = Vec::with_capacity(alloc, EDGES_ROOM)?;
+    place_entered(alloc, graph, start, Place::At(node), edges)
 }
 
 /// The file's edge: it doesn't leave the jump, and its sink is there.

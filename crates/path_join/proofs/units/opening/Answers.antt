@@ -19,8 +19,8 @@ returns-clause-rule c =
     let g : Graph = c.args.graph.now in
     let rule : List EdgeAt → Rule = λ (es : List EdgeAt). place_rule g (Before (node_at 0 c.args.node)) (place.At c.args.node) es in
     IfOk-weaker c.place_entered.result
-    (λ (path : Rule). path ≡ rule c.new.result.items) (IsRuleOf g)
-    (λ path e. subst (IsRuleOf g) (ap rule (sym c.new.ensures.items) ∙ sym e)
+    (λ (path : Rule). path ≡ rule c.in_ok-edges.edges.items) (IsRuleOf g)
+    (λ path e. subst (IsRuleOf g) (ap rule (sym c.in_ok-edges.ensures.items) ∙ sym e)
     (opening-exact g c.args.node (reference-there g.nodes c.args.node c.requires)))
     c.place_entered.ensures
 
@@ -29,7 +29,7 @@ returns-clause-peak c =
     let g : Graph = c.args.graph.now in
     let rule : List EdgeAt → Rule = λ (es : List EdgeAt). place_rule g (Before (node_at 0 c.args.node)) (place.At c.args.node) es in
     IfOk-weaker c.place_entered.result
-    (λ (path : Rule). path ≡ rule c.new.result.items) (λ (path : Rule). path.peak ≤ 1)
+    (λ (path : Rule). path ≡ rule c.in_ok-edges.edges.items) (λ (path : Rule). path.peak ≤ 1)
     (λ path e. subst (λ (r : Rule). r.peak ≤ 1) (sym e) (peak-low (place_action g (place.At c.args.node))))
     c.place_entered.ensures
 
