@@ -15,7 +15,7 @@ use Rattle.partial_path.specs.Walks.{alone, starts_walks, is_cut_spot, IsUncut, 
 use Rattle.partial_path.specs.PathSets.{IsRuleOf, walk_of_rule}
 use Rattle.path_join.specs.Joins.{IsJoin, NonePasses}
 use Rattle.file_paths.specs.Walking.{ends_cut, one_more, no_edges, AreLonger}
-use Rattle.file_paths.specs.Finding.{MayGoOn, GoesOnFrom, IsLongerRule, AreLongerRules, AddsLonger, IsShort}
+use Rattle.file_paths.specs.Finding.{MayGoOn, GoesOnFrom, IsLongerRule, AreLongerRules, AddsFound, AddsLonger}
 use Rattle.list_facts.specs.Members.{IsIn}
 use Rattle.list_facts.proofs.Members.{IsIn-append_right, Contains-from_IsIn, IsIn-from_Contains}
 use Rattle.list_facts.proofs.Each.{all_push}
@@ -181,7 +181,7 @@ adding_more g w from left rest i old now new j h is one pushed = record {
 }
 
 -- or none, where the edge doesn't make the walk longer
-pub adding_found : (g : Graph) (w : Walk) (from : Place) (left rest : List ℕ) (i : ℕ) (old now new : List Rule) (found : Option Rule)
+adding_found : (g : Graph) (w : Walk) (from : Place) (left rest : List ℕ) (i : ℕ) (old now new : List Rule) (found : Option Rule)
     → IsAdding g w from left old now → left ≡ i ∷ rest → IfSome found (IsLongerRule g w i)
     → (found ≡ None → ¬ IsWalk g w.start (w.edges ++ edge_in i ∷ [])) → new ≡ now ++ option_to_list found → IsAdding g w from rest old new
 adding_found g w from left rest i old now new (Some j) h is one none pushed = adding_more g w from left rest i old now new j h is one pushed
@@ -191,15 +191,11 @@ adding_found g w from left rest i old now new None h is one none pushed = record
   added = pushed ∙ (append-nil now ∙ h.added);
 }
 
+pub adding_rule : (g : Graph) (w : Walk) (from : Place) (left rest : List ℕ) (i : ℕ) (old now new : List Rule)
+    → IsAdding g w from left old now → left ≡ i ∷ rest → AddsFound g w i now new → IsAdding g w from rest old new
+adding_rule g w from left rest i old now new h is adds = adding_found g w from left rest i old now new adds.found h is adds.joined adds.none adds.added
+
 -- in the end there are rules for all longer walks
 pub adding_ends : (g : Graph) (w : Walk) (from : Place) (left : List ℕ) (old now : List Rule) → IsAdding g w from left old now → left ≡ []
     → GoesOnFrom g w from → AddsLonger g w old now
 adding_ends g w from left old now h is onward = (h.longer, growing_ends g w from left h.longer h.growing is onward, h.added)
-
--- with a short rule that was found, all are short
-pub short_found : (limit : ℕ) (now new : List Rule) (found : Option Rule) → AllByRecursion (IsShort limit) now → IfSome found (IsShort limit)
-    → new ≡ now ++ option_to_list found → AllByRecursion (IsShort limit) new
-short_found limit now new (Some j) all short pushed =
-    subst (λ (ps : List Rule). AllByRecursion (IsShort limit) ps) (sym pushed) (all_push (IsShort limit) now j all short)
-short_found limit now new None all short pushed =
-    subst (λ (ps : List Rule). AllByRecursion (IsShort limit) ps) (sym (pushed ∙ append-nil now)) all

@@ -1,6 +1,7 @@
 -- A path joined with that of an edge of the file: what the join is for the walk with the edge more, and how
 -- long and how high it is.
-use Rattle.std.proofs.Common.{◌≡◌, ◌≤◌, ◌+◌, ◌-◌, ℕ, List, [], ◌∷◌, ◌++◌, length, max, Bool, true, false, Option, Some, None, IfSome, IsSome, is_some, if◌then◌else◌, refl, sym, ap, ◌∙◌, subst, arith, length-append}
+use Rattle.std.proofs.Common.{◌≡◌, ◌≤◌, ◌+◌, ◌-◌, ℕ, List, [], ◌∷◌, ◌++◌, length, max, Bool, true, false, Option, Some, None, IfSome, IsSome, is_some, if◌then◌else◌, refl, sym, ap, ◌∙◌, subst, arith, length-append, append-nil, option_to_list}
+use Rattle.std.specs.List.{AllByRecursion}
 use Rattle.std.specs.Option.{option_map_or}
 use Rattle.std.proofs.lemmas.Option.{IfSome_then}
 use Rattle.graph_nodes.specs.Graph.{Graph}
@@ -14,7 +15,8 @@ use Rattle.partial_path.specs.PathSets.{IsRuleOf, walk_of_rule}
 use Rattle.path_join.specs.Joins.{IsJoin, NonePasses, joined_peak}
 use Rattle.path_join.specs.Extended.{IsExtended}
 use Rattle.path_join.specs.Units.{after_source, edge_alone, place_spot}
-use Rattle.file_paths.specs.Finding.{MayGoOn, IsLongerRule, IsShort}
+use Rattle.file_paths.specs.Finding.{MayGoOn, IsLongerRule, IsShort, AddsFound}
+use Rattle.list_facts.proofs.Each.{all_push}
 use Rattle.file_paths.proofs.UnitLaws.{IsUnitOf}
 use Rattle.file_paths.proofs.SourceLaws.{source_leaves}
 use Rattle.path_join.proofs.MeetsLaws.{filled, passes, apply-passes}
@@ -101,6 +103,29 @@ module _ (g : Graph) (i : ℕ) (p : Rule) (found : Option Rule) (h : IsExtended 
   extended_short limit short rule =
       IfSome_then found h.joined
       (λ j join. next_short limit i p h.step j short rule (joined_asks g p h.step j h.unit.rule join) h.unit.low h.unit.edges join)
+
+  -- what is added where there is no such path, and where there is one
+  pub adds_none : (old : List Rule) → MayGoOn g p → found ≡ None → AddsFound g (walk_of_rule p) i old old
+  adds_none old may is = record {
+    found = found;
+    joined = extended_rule may;
+    none = extended_none may;
+    added = sym (ap (λ (o : Option Rule). old ++ option_to_list o) is ∙ append-nil old);
+  }
+
+  pub adds_some : (old new : List Rule) (j : Rule) → MayGoOn g p → found ≡ Some j → new ≡ old ++ j ∷ [] → AddsFound g (walk_of_rule p) i old new
+  adds_some old new j may is added = record {
+    found = found;
+    joined = extended_rule may;
+    none = extended_none may;
+    added = added ∙ sym (ap (λ (o : Option Rule). old ++ option_to_list o) is);
+  }
+
+  pub adds_short : (limit : ℕ) (old new : List Rule) (j : Rule) → IsShort limit p → IsRule p → AllByRecursion (IsShort (limit + 1)) old
+      → found ≡ Some j → new ≡ old ++ j ∷ [] → AllByRecursion (IsShort (limit + 1)) new
+  adds_short limit old new j short rule all is added =
+      subst (λ (ps : List Rule). AllByRecursion (IsShort (limit + 1)) ps) (sym added)
+      (all_push (IsShort (limit + 1)) old j all (subst (λ (o : Option Rule). IfSome o (IsShort (limit + 1))) is (extended_short limit short rule)))
 
 -- the path of an edge is short
 pub unit_short : (limit i : ℕ) (u : Rule) → u.peak ≤ 1 → u.edges ≡ edge_alone i ∷ [] → IsShort (limit + 1) u

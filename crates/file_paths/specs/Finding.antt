@@ -1,5 +1,5 @@
 -- What finding a file's paths meets on its way. No public clause cites this.
-use Rattle.std.specs.Prelude.{◌≡◌, ◌≤◌, ◌+◌, ◌-◌, ℕ, zero, suc, List, [], ◌∷◌, ◌++◌, length, map, filter, Bool, true, false, if◌then◌else◌, IsTrue, Contains, Some, slice_get}
+use Rattle.std.specs.Prelude.{◌≡◌, ◌≤◌, ◌+◌, ◌-◌, ℕ, zero, suc, List, [], ◌∷◌, ◌++◌, length, map, filter, Bool, true, false, if◌then◌else◌, IsTrue, IfSome, Contains, Option, Some, None, option_to_list, slice_get}
 use Rattle.std.specs.List.{AllByRecursion}
 use Rattle.graph_nodes.specs.Graph.{Graph, is_reference}
 use Rattle.graph_nodes.specs.Cut.{is_cut}
@@ -49,6 +49,13 @@ pub record AreLongerRules (g : Graph) (w : Walk) (longer : List Rule) : Type 0 w
 -- such rules were added to these
 abbrev pub AddsLonger : Graph → Walk → List Rule → List Rule → Type 0
 AddsLonger g w old new = (longer : List Rule) × AreLongerRules g w longer × (new ≡ old ++ longer)
+
+-- a rule of the walk with the edge more was added to these, where there is such a walk, and else none
+pub record AddsFound (g : Graph) (w : Walk) (i : ℕ) (old : List Rule) (new : List Rule) : Type 0 where
+  pub found : Option Rule
+  pub joined : IfSome found (IsLongerRule g w i)
+  pub none : found ≡ None → ¬ IsWalk g w.start (w.edges ++ edge_alone i ∷ [])
+  pub added : new ≡ old ++ option_to_list found
 
 -- the rule, where its walk is a landing one
 abbrev pub if_landing : Graph → Rule → List Rule

@@ -1,11 +1,9 @@
-ghost use Rattle.std.specs.Prelude.{◌≡◌, ◌<◌, ◌+◌, [], ◌∷◌, ◌++◌, length, IfOk, IfSome, OnOk, IsTrue, None, option_to_list};
+ghost use Rattle.std.specs.Prelude.{◌≡◌, ◌<◌, ◌+◌, [], ◌∷◌, ◌++◌, length, OnOk, IsTrue};
 ghost use Rattle.std.specs.List.{AllByRecursion};
 ghost use Rattle.graph_nodes.specs.Graph.{has_place};
-ghost use Rattle.partial_path.specs.Walks.{IsWalk};
 ghost use Rattle.partial_path.specs.PathSets.{walk_of_rule};
-ghost use Rattle.path_join.specs.Units.{edge_alone};
 ghost use Rattle.file_paths.specs.declared.fault.TheConstants.{MAX_WEIGHT};
-ghost use Rattle.file_paths.specs.Finding.{IsShort, MayGoOn, GoesOnFrom, IsLongerRule, AddsLonger};
+ghost use Rattle.file_paths.specs.Finding.{IsShort, MayGoOn, GoesOnFrom, AddsFound, AddsLonger};
 
 use graph_nodes::{FileGraph, Place};
 use partial_path::PartialPath;
@@ -35,12 +33,10 @@ pub fn grow(
         return Ok(());
     };
     for next in left {
-        let longer = one_more(alloc, graph, &path, last)?;
-        begin(longer, begun)?;
+        begin_copy(alloc, graph, &path, last, begun)?;
         last = next;
     }
-    let longer = made_longer(alloc, graph, path, last)?;
-    begin(longer, begun)
+    begin_itself(alloc, graph, path, last, begun)
 }
 
 /// As `grow`, from a path that is kept.
@@ -60,20 +56,55 @@ pub fn begin_longer(
     ensures begun { OnOk result (AllByRecursion (IsShort (MAX_WEIGHT + 1)) begun.new.items) }
 {
     for edge in graph.edges_from(from) {
-        let longer = one_more(alloc, graph, path, edge)?;
-        begin(longer, begun)?;
+        begin_copy(alloc, graph, path, edge, begun)?;
     }
     Ok(())
 }
 
-/// Begins the path, where there is one.
-fn begin(path: Option<PartialPath>, begun: &mut Vec<PartialPath>) -> Result<(), AllocError>
-    ensures { OnOk result (begun.new.items ≡ begun.old.items ++ option_to_list path) }
+/// Begins a new path with this edge more, where a walk has it.
+fn begin_copy(
+    alloc: Global,
+    graph: &FileGraph,
+    path: &PartialPath,
+    edge: u32,
+    begun: &mut Vec<PartialPath>,
+) -> Result<(), AllocError>
+    requires edge { edge < length graph.now.edges }
+    requires may { MayGoOn graph.now path.now }
+    requires short { IsShort MAX_WEIGHT path.now }
+    requires begun { AllByRecursion (IsShort (MAX_WEIGHT + 1)) begun.old.items }
+    ensures found { OnOk result (AddsFound graph.now (walk_of_rule path.now) edge begun.old.items begun.new.items) }
+    ensures begun { OnOk result (AllByRecursion (IsShort (MAX_WEIGHT + 1)) begun.new.items) }
 {
-    let Some(path) = path else {
+    // The start tells that the path is a rule.
+    let _ = path.start();
+    let Some(longer) = extended(alloc, graph, path, edge)? else {
         return Ok(());
     };
-    put(path, begun)
+    put(longer, begun)
+}
+
+/// As `begin_copy`, of a path that isn't kept: it is made longer itself.
+fn begin_itself(
+    alloc: Global,
+    graph: &FileGraph,
+    path: PartialPath,
+    edge: u32,
+    begun: &mut Vec<PartialPath>,
+) -> Result<(), AllocError>
+    requires edge { edge < length graph.now.edges }
+    requires may { MayGoOn graph.now path }
+    requires short { IsShort MAX_WEIGHT path }
+    requires begun { AllByRecursion (IsShort (MAX_WEIGHT + 1)) begun.old.items }
+    ensures found { OnOk result (AddsFound graph.now (walk_of_rule path) edge begun.old.items begun.new.items) }
+    ensures begun { OnOk result (AllByRecursion (IsShort (MAX_WEIGHT + 1)) begun.new.items) }
+{
+    // The start tells that the path is a rule.
+    let _ = path.start();
+    let Some(longer) = extend(alloc, graph, path, edge)? else {
+        return Ok(());
+    };
+    put(longer, begun)
 }
 
 /// Puts the path behind the others. Room is made first, so that the path is moved once and never given back.
@@ -83,42 +114,4 @@ pub fn put(path: PartialPath, paths: &mut Vec<PartialPath>) -> Result<(), AllocE
     paths.reserve(1)?;
     paths.push_reserved(path);
     Ok(())
-}
-
-/// The path with this edge more; None where no walk has it.
-fn one_more(
-    alloc: Global,
-    graph: &FileGraph,
-    path: &PartialPath,
-    edge: u32,
-) -> Result<Option<PartialPath>, AllocError>
-    requires edge { edge < length graph.now.edges }
-    requires may { MayGoOn graph.now path.now }
-    requires short { IsShort MAX_WEIGHT path.now }
-    ensures joined { IfOk result (λ found. IfSome found (IsLongerRule graph.now (walk_of_rule path.now) edge)) }
-    ensures none { IfOk result (λ found. found ≡ None → ¬ IsWalk graph.now path.now.start (path.now.edges ++ edge_alone edge ∷ [])) }
-    ensures short { IfOk result (λ found. IfSome found (IsShort (MAX_WEIGHT + 1))) }
-{
-    // The start tells that the path is a rule.
-    let _ = path.start();
-    extended(alloc, graph, path, edge)
-}
-
-/// As `one_more`, of a path that isn't kept.
-fn made_longer(
-    alloc: Global,
-    graph: &FileGraph,
-    path: PartialPath,
-    edge: u32,
-) -> Result<Option<PartialPath>, AllocError>
-    requires edge { edge < length graph.now.edges }
-    requires may { MayGoOn graph.now path }
-    requires short { IsShort MAX_WEIGHT path }
-    ensures joined { IfOk result (λ found. IfSome found (IsLongerRule graph.now (walk_of_rule path) edge)) }
-    ensures none { IfOk result (λ found. found ≡ None → ¬ IsWalk graph.now path.start (path.edges ++ edge_alone edge ∷ [])) }
-    ensures short { IfOk result (λ found. IfSome found (IsShort (MAX_WEIGHT + 1))) }
-{
-    // The start tells that the path is a rule.
-    let _ = path.start();
-    extend(alloc, graph, path, edge)
 }
