@@ -53,6 +53,19 @@ impl Document {
         ensures { IfOk result (λ doc. doc ≡ doc_of (string_bytes path) bytes.items) }
     {
         let digest = digest_of(path.as_str(), bytes.as_slice());
+        Document::signed(alloc, path, bytes, digest)
+    }
+
+    /// As `taking`, where this is the document's digest.
+    pub(crate) fn signed(
+        alloc: Global,
+        path: String,
+        bytes: Vec<u8>,
+        digest: [u8; 32],
+    ) -> Result<Document, AllocError>
+        requires { digest ≡ digest_of (doc_of (string_bytes path) bytes.items) }
+        ensures { IfOk result (λ doc. doc ≡ doc_of (string_bytes path) bytes.items) }
+    {
         let contents = Contents {
             path,
             bytes,
@@ -107,7 +120,7 @@ ghost use Rattle.path_store.specs.Documents.{doc_of, digest_of};
 
 // The digest of the document with this path and these bytes.
 #[tactic(auto, unfolding(crate::specs::Documents::digest_of))]
-fn digest_of(path: &str, bytes: &[u8]) -> [u8; 32]
+pub(crate) fn digest_of(path: &str, bytes: &[u8]) -> [u8; 32]
     ensures { result ≡ digest_of (doc_of path.now bytes.now) }
 {
     let mut hasher = Sha256::new();

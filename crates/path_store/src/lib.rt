@@ -5,10 +5,12 @@ mod buckets;
 mod document;
 mod held;
 mod laws;
+mod making;
 mod store;
 #[cfg(test)]
 mod tests;
 
 pub use document::Document;
 pub use laws::{a_sweep_leaves_the_newest, what_is_kept_is_found};
+pub use making::{NewDocument, documents_of, threads_for};
 pub use store::PathStore;

@@ -1,6 +1,6 @@
 ghost use Rattle.std.specs.Prelude.{◌≡◌, []};
 
-use crate::{Document, PathStore};
+use crate::{Document, NewDocument, PathStore, documents_of};
 use graph_nodes::{FileGraph, Node, NodeKind};
 use partial_path::{FilePaths, SharedPaths, no_edges_no_walks};
 use std::alloc::Global;
@@ -125,5 +125,31 @@ fn a_digest_is_of_path_and_bytes(rt: HostRuntime) -> Result<(), Fail> {
         0x71, 0x38,
     ];
     assert!(rt; doc.digest() == &told);
+    Ok(())
+}
+
+#[test]
+fn documents_made_together_are_as_made_alone(rt: HostRuntime) -> Result<(), Fail> {
+    let alloc = rt.alloc();
+    let texts: [(&str, &str); 5] = [
+        ("a", "b"),
+        ("a", ""),
+        ("lib/b.py", "x = 1\n"),
+        ("a", "b"),
+        ("c.py", "x"),
+    ];
+    let mut made = Vec::new(alloc);
+    for (path, text) in texts {
+        let bytes = Vec::from_slice(alloc, text.as_bytes())?;
+        made.push(NewDocument::of(String::from_str(alloc, path)?, bytes))?;
+    }
+    let docs = documents_of(&rt, alloc, made)?;
+    assert_eq!(rt; docs.len(), texts.len());
+    for (doc, (path, text)) in docs.iter().zip(texts) {
+        let alone = Document::new(alloc, path, text.as_bytes())?;
+        assert_eq!(rt; doc.path(), path);
+        assert_eq!(rt; doc.bytes(), text.as_bytes());
+        assert!(rt; doc.digest() == alone.digest());
+    }
     Ok(())
 }
