@@ -5,15 +5,17 @@ ghost use Rattle.index_gate.specs.declared.ahead.Slot.{Slot};
 
 use crate::working::{Done, work};
 use nav_io::Gate;
-use path_store::{Document, PathStore};
+use path_store::{Document, PathStore, threads_for};
 use std::alloc::{AllocError, Global};
 use std::collections::HashMap;
 use std::marker::Model;
 use std::thread;
 use std::thread::Threads;
 
-/// The most threads that work.
-const MOST_THREADS: usize = 8;
+/// For how many documents a thread asks for room at once, and about how many bytes one of a few kilobytes takes.
+const AT_ONCE: usize = 64;
+
+const ROOM_OF_ONE: usize = 256 * 1_024;
 
 /// The document at a place, the number of its job, and what came of the work on it, once it was done.
 #[derive(Drop)]
@@ -46,9 +48,8 @@ impl<'a> Model for Ahead<'a> {
 
 impl<'a> Ahead<'a> {
     /// Works on each document that the store doesn't keep, once, as a job between `enter` and `leave` of the gate, whose
-    /// number is its place among these. They are worked on by as many threads as the machine has processors, at most
-    /// eight and no more than there are such documents; where a thread can't be made, the caller does its work. A single
-    /// document is left to the caller. The one error is want of memory.
+    /// number is its place among these. They are worked on by as many threads as `threads_for` says; where a thread can't
+    /// be made, the caller does its work. A single document is left to the caller. The one error is want of memory.
     pub fn of<R: Threads + Sync, G: Gate + Sync>(
         rt: &R,
         alloc: Global,
@@ -58,7 +59,7 @@ impl<'a> Ahead<'a> {
     ) -> Result<Ahead<'a>, AllocError> {
         let mut places = HashMap::new(alloc);
         let wanted = wanted_in(alloc, docs, store, &mut places)?;
-        let threads = thread_count(rt, wanted.len());
+        let threads = threads_for(rt, wanted.len());
         let mut slots = dealt(alloc, &wanted, threads)?;
         fill(rt, alloc, docs, gate, threads, &mut slots);
         for i in 0..slots.len() {
@@ -103,16 +104,6 @@ fn is_same(a: &Document, b: &Document) -> bool
     ensures { IsTrue result → a.now ≡ b.now }
 {
     a.path() == b.path() && a.bytes() == b.bytes()
-}
-
-/// On how many threads so many documents are worked on: one for each processor, and no more than there are documents.
-fn thread_count<R: Threads>(rt: &R, documents: usize) -> usize
-    ensures some { 0 < result }
-{
-    match thread::available_parallelism(rt) {
-        Ok(count) => count.get().min(MOST_THREADS).min(documents).max(1),
-        Err(_) => 1,
-    }
 }
 
 /// The places of the documents that the store doesn't keep, each document's once, by its digest; none of a single one.
@@ -182,12 +173,36 @@ fn fill<R: Threads + Sync, G: Gate + Sync>(
     requires { 0 < threads }
     ensures { AreSlotsOf docs.now slots.new }
 {
+    let share = slots.len() / threads;
+    if threads > 1 {
+        ask_for(alloc, AT_ONCE);
+    }
     thread::for_each_mut(
         rt,
         slots,
         threads,
-        &|_, slot| fill_one(alloc, docs, gate, slot),
+        &|_, slot| {
+            make_room(alloc, threads, share, slot.job);
+            fill_one(alloc, docs, gate, slot)
+        },
     );
+}
+
+/// Before a thread's first job, and then before each one so many later, asks for the room of the next ones. The C library
+/// makes a thread's heap larger by a call of the system for each few pages that it lacks, and such a call holds up the
+/// other threads; thus it makes one for many documents.
+fn make_room(alloc: Global, threads: usize, share: usize, job: usize)
+    requires { 0 < threads }
+{
+    if threads > 1 && job / threads % AT_ONCE == 0 {
+        ask_for(alloc, share);
+    }
+}
+
+/// Asks for a block that has room for so many documents, as far as it is asked for at once, and gives it back untouched.
+/// From a thread's heap the C library takes a large block only where a larger one was given back before.
+fn ask_for(alloc: Global, documents: usize) {
+    let _ = Vec::<u8>::with_capacity(alloc, documents.min(AT_ONCE) * ROOM_OF_ONE);
 }
 
 /// Works on the document of a slot.
