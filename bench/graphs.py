@@ -8,7 +8,9 @@ short name.
 usage: bench/graphs.py [PROGRAM]     (crates/aux_bench/out/aux_bench, as bench/graphs.sh leaves it)
 
 Walks are timed without the reading of the graph: the time of `read` is taken off that of `walk`. Documents
-are timed through the call that indexes them, over a store that keeps none of them and over one that keeps all.
+are timed through the call that indexes them, over a store that keeps none of them and over one that keeps all. Documents a
+second are timed up to the line that tells how many there are, the middle ones of several rounds, on one processor and on all
+by turns: a server keeps what was indexed, so that the freeing of it isn't waited for.
 Memory is to follow the number of paths, and not the length of the name but for the text itself.
 """
 
@@ -23,7 +25,7 @@ from measure import least_memory
 
 PROGRAM = sys.argv[1] if len(sys.argv) > 1 else "crates/aux_bench/out/aux_bench"
 DOCUMENTS = 1_000
-# How many modules one round of the split takes, and how many rounds there are.
+# How many modules one round of the split takes, and how many rounds there are, of the split and of documents a second.
 SPLIT, ROUNDS = 300, 9
 PART = """\
 import os.path as path
@@ -77,14 +79,31 @@ def answer(case, times, text, alone=False):
     return done.stdout.decode().strip()
 
 
-def seconds(case, times, text, alone=False):
+def seconds(case, times, text):
     """The least of three runs."""
     took = []
     for _ in range(3):
         start = time.perf_counter()
-        answer(case, times, text, alone)
+        answer(case, times, text)
         took.append(time.perf_counter() - start)
     return min(took)
+
+
+def told_after(case, times, text, alone):
+    """The seconds up to the program's first line."""
+    limit = (lambda: os.sched_setaffinity(0, {min(os.sched_getaffinity(0))})) if alone else None
+    start = time.perf_counter()
+    with subprocess.Popen([PROGRAM], stdin=subprocess.PIPE, stdout=subprocess.PIPE, preexec_fn=limit) as process:
+        process.stdin.write(f"{case} {times}\n{text}".encode())
+        process.stdin.close()
+        process.stdout.readline()
+        took = time.perf_counter() - start
+    return took
+
+
+def documents_a_second(case, text, alone):
+    """How many documents of this text are indexed a second."""
+    return DOCUMENTS / (told_after(case, DOCUMENTS, text, alone) - told_after(case, 0, text, alone))
 
 
 def took_once(case, times):
@@ -118,13 +137,11 @@ def main():
         print(f"{line}, {(found - read) / read:8.2f} times the reading of the file")
     text, _ = groups(100)
     for name, case, document in [("such files", "index", text), ("Python modules", "modules", MODULE)]:
-        rates = []
-        for alone in (True, False):
-            took = seconds(case, DOCUMENTS, document, alone) - seconds(case, 0, document, alone)
-            rates.append(DOCUMENTS / took)
+        rounds = [[documents_a_second(case, document, alone) for alone in (True, False)] for _ in range(ROUNDS)]
+        one, many, times = (sorted(column)[ROUNDS // 2] for column in zip(*((one, many, many / one) for one, many in rounds)))
         name = f"{DOCUMENTS:,} {name} of {len(document):,} bytes"
         processors = len(os.sched_getaffinity(0))
-        print(f"{name:40} {rates[0]:8,.0f} documents/s on one processor, {rates[1]:8,.0f} on {processors}, {rates[1] / rates[0]:.1f} times as many")
+        print(f"{name:40} {one:8,.0f} documents/s on one processor, {many:8,.0f} on {processors}, {times:.1f} times as many")
     split()
     none = seconds("index", 0, text)
     first = seconds("index", DOCUMENTS, text) - none

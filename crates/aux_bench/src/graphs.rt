@@ -8,8 +8,8 @@ use graph_json::read_graph;
 use graph_nodes::{FileGraph, Steps};
 use index_gate::{IndexFault, index_all};
 use nav_io::Unguarded;
-use partial_path::FilePaths;
-use path_store::{Document, PathStore};
+use partial_path::{FilePaths, SharedPaths};
+use path_store::{Document, NewDocument, PathStore, documents_of};
 use std::alloc::Global;
 use std::marker::Brand;
 use std::sync::ledger::{Blank, Ledger};
@@ -60,18 +60,24 @@ pub fn file_of(alloc: Global, graph: FileGraph) -> Option<FilePaths> {
 }
 
 /// So many documents of this text, each at a path of its own that ends like this.
-fn documents(alloc: Global, text: &[u8], count: u32, ending: &str) -> Option<Vec<Document>> {
-    let mut docs = Vec::new(alloc);
+fn documents<R: Threads + Sync>(
+    rt: &R,
+    alloc: Global,
+    text: &[u8],
+    count: u32,
+    ending: &str,
+) -> Option<Vec<Document>> {
+    let mut made = Vec::new(alloc);
     for number in 0..count {
         let path = format!(in alloc; "f{number}{ending}").ok()?;
-        let doc = Document::new(alloc, path.as_str(), text).ok()?;
-        docs.push(doc).ok()?;
+        let bytes = Vec::from_slice(alloc, text).ok()?;
+        made.push(NewDocument::of(path, bytes)).ok()?;
     }
-    Some(docs)
+    documents_of(rt, alloc, made).ok()
 }
 
 /// Indexes so many documents of this text, whose paths end like this, over a store that keeps none, and then
-/// so many times again: how many files that gave the last time.
+/// so many times again: the files that it gave the last time, which the caller frees once it has told their number.
 pub fn index<R: Threads + Sync>(
     rt: &R,
     alloc: Global,
@@ -79,8 +85,8 @@ pub fn index<R: Threads + Sync>(
     count: u32,
     ending: &str,
     again: u32,
-) -> Option<usize> {
-    let docs = documents(alloc, text, count, ending)?;
+) -> Option<Vec<SharedPaths>> {
+    let docs = documents(rt, alloc, text, count, ending)?;
     indexed::<_, Brand>(rt, alloc, &docs, again, Blank::new(1))
 }
 
@@ -90,7 +96,7 @@ fn indexed<R: Threads + Sync, L: Ledger>(
     docs: &[Document],
     again: u32,
     blank: Blank,
-) -> Option<usize>
+) -> Option<Vec<SharedPaths>>
     requires name { blank.name ≡ L.name }
     requires parts { blank.parts ≡ L.parts }
     requires some { 0 < blank.parts }
@@ -101,5 +107,5 @@ fn indexed<R: Threads + Sync, L: Ledger>(
     for _ in 0..again {
         files = index_all(rt, alloc, docs, &mut store, &Unguarded, &mut steps).ok()?;
     }
-    Some(files.len())
+    Some(files)
 }

@@ -28,6 +28,7 @@ mod views;
 
 use graphs::{index, walk, walk_module};
 use modules::{parsed, translated};
+use partial_path::SharedPaths;
 use queries::{Asked, searched, stitched};
 use roots::{committed, offered};
 use std::alloc::Global;
@@ -50,9 +51,9 @@ fn print_walked(rt: &impl Print, walked: Option<(u32, usize)>) -> IoResult<()> {
 }
 
 /// Prints how many files were indexed.
-fn print_indexed(rt: &impl Print, files: Option<usize>) -> IoResult<()> {
-    match files {
-        Some(files) => println!(rt; "files: {files}"),
+fn print_indexed(rt: &impl Print, files: Option<Vec<SharedPaths>>) -> IoResult<()> {
+    match &files {
+        Some(files) => println!(rt; "files: {}", files.len()),
         None => println!(rt; "not indexed"),
     }
 }
