@@ -13,6 +13,3 @@ pub use door::{ACCEPT_FAILED, serve_door};
 pub use doors::serve_doors;
 pub use house::serve_house;
 pub use laws::connections_lie_on_one_log;
-
-#[cfg(test)]
-mod tests;

@@ -8,8 +8,6 @@ mod editor;
 mod phase;
 mod refusals;
 mod serving;
-#[cfg(test)]
-mod tests;
 
 pub use answering::answer_message;
 pub use editor::Editor;

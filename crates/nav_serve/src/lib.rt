@@ -18,6 +18,3 @@ pub use laws::once_and_upgrade_are_tasks;
 pub use running::run;
 pub use tasks::{Task, perform};
 pub use words::{Command, command_of};
-
-#[cfg(test)]
-mod tests;

@@ -1,5 +1,5 @@
 use Rattle.nav_session.specs.Desks.{HasItsView}
-use Rattle.nav_doors.proofs.tests.replies_of.Given as goal
+use Rattle.aux_session_tests.proofs.doors.replies_of.Given as goal
 
 -- each desk's view is that of its own seat's pin
 abbrev pub invariant-loop-row : goal.invariant-loop-row

@@ -1,10 +1,10 @@
 //! What no clause says: that messages are answered with memory at hand.
 ghost use Rattle.std.specs.Prelude.{◌≡◌, ◌<◌};
 
-use crate::serve_lsp;
 use graph_nodes::Steps;
 use lsp_frames::frame_text;
 use nav_io::{MemSink, MemSource, Unguarded};
+use nav_lsp::serve_lsp;
 use std::alloc::Global;
 use std::marker::Brand;
 use std::sync::ledger::{Blank, Ledger};

@@ -1,9 +1,8 @@
 //! What no clause says: that the commands answer with memory at hand, on inputs worked by hand.
-use crate::words::command_of;
-use crate::{Task, perform};
 use aux_graph_text::files_of;
 use graph_json::print_graph;
 use nav_io::{MemSink, MemSource};
+use nav_serve::{Task, command_of, perform};
 use std::alloc::Global;
 use std::test::Fail;
 

@@ -1,4 +1,4 @@
-use Rattle.nav_doors.proofs.tests.replied_by_two.Given as goal
+use Rattle.aux_session_tests.proofs.doors.replied_by_two.Given as goal
 
 -- the board and the ledger are the ones that were made here
 abbrev pub ghosts-replied_by-J-Naming : goal.ghosts-replied_by-J-Naming

@@ -3,9 +3,9 @@
 ghost use Rattle.std.specs.Prelude.{◌≡◌, ◌<◌, ◌≤◌};
 ghost use Rattle.shared_board.specs.Seats.{max_seats};
 
-use super::*;
 use graph_nodes::Steps;
 use left_right::Absorb;
+use nav_doors::serve_house;
 use nav_io::{MemDoor, MemHouse, MemSink, MemSource, TcpHouse, Unguarded};
 use nav_session::{Desk, answer_line};
 use shared_board::{Head, Naming, SharedBoard, Slot, close};

@@ -1,4 +1,4 @@
-use Rattle.nav_lsp.proofs.tests.written.Given as goal
+use Rattle.aux_session_tests.proofs.editors.written.Given as goal
 
 -- the ledger is the one that was opened here
 abbrev pub ghosts-written_on : goal.ghosts-written_on
