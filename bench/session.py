@@ -24,7 +24,8 @@ from graphs import MODULE
 PROGRAM = sys.argv[1] if len(sys.argv) > 1 else "crates/navd/out/navd"
 FILES = (64, 512, 2_048)
 BATCH = 64
-MODULES = 256
+# A project of so many modules, and how many of them are put by one commit: about a megabyte, as `examples/ask.py` puts them.
+MODULES, AT_ONCE = 1_024, 342
 # How often they are committed on one processor and on all, by turns.
 ROUNDS = 7
 # How many commits of one file, definitions and who-refers questions are timed.
@@ -132,7 +133,7 @@ def measured(files):
 def modules_a_second(alone):
     """Documents a second of a project's first commits, each module with a name of its own in it."""
     puts = [{"put": f"m{n:03}.py", "text": MODULE + f"own_{n} = 1\n"} for n in range(MODULES)]
-    commits = [line_of(do="commit", edits=puts[n:n + BATCH]) for n in range(0, MODULES, BATCH)]
+    commits = [line_of(do="commit", edits=puts[n:n + AT_ONCE]) for n in range(0, MODULES, AT_ONCE)]
     session = Session(alone)
     _, took = session.replies(commits)
     session.end()
