@@ -1,6 +1,6 @@
 -- A path made longer where it stands is the join with the edge's unit: such a unit asks for no scope of which
 -- something could become known.
-use Rattle.std.proofs.Common.{◌≡◌, ◌≤◌, ◌<◌, ◌^◌, refl, ap, ◌∙◌, sym, subst, ℕ, zero, suc, ◌+◌, ◌-◌, List, [], ◌∷◌, ◌++◌, length, max, map, drop, replicate, Bool, true, false, Option, Some, None, slice_get, cond, arith, IsTrue}
+use Rattle.std.proofs.Common.{◌≡◌, ◌≤◌, ◌<◌, ◌^◌, refl, ap, ◌∙◌, sym, ℕ, zero, suc, ◌+◌, ◌-◌, List, [], ◌∷◌, ◌++◌, length, max, map, drop, replicate, Bool, true, false, Option, Some, None, slice_get, cond, arith, IsTrue}
 use Rattle.std.specs.Option.{option_and_then, option_map_or, option_map, IfSome}
 use Rattle.std.specs.Str.{bytes_eq}
 use Rattle.std.proofs.lemmas.List.{append-nil, length-append}
@@ -19,6 +19,7 @@ use Rattle.stacks_vars.specs.declared.patterns.SymOut.{SymOut}
 use Rattle.stacks_vars.specs.declared.patterns.Post.{Post}
 use Rattle.partial_path.specs.declared.config.Spot.{Spot}
 use Rattle.partial_path.specs.declared.config.EdgeAt.{EdgeAt}
+use Rattle.partial_path.specs.declared.path.PathParts.{PathParts}
 use Rattle.partial_path.specs.declared.rule.Start.{Start}
 use Rattle.partial_path.specs.declared.rule.Start.TheVariants.{After}
 use Rattle.partial_path.specs.declared.rule.End.{End}
@@ -27,10 +28,10 @@ use Rattle.partial_path.specs.Rules.{Rule, IsRule, rule_of}
 use Rattle.partial_path.specs.Apply.{Rests, tail_scopes}
 use Rattle.partial_path.proofs.Equals.{spot_eq-refl}
 use Rattle.path_join.specs.Joins.{IsJoin, joined_peak}
-use Rattle.path_join.specs.Joining.{grow, meet_scopes, meet_attached, asked_scopes, nothing_known, known_with, grown_scopes, grown_symbol, longer_scopes, longer_symbols, handed, wide_pre, wide_post, Bound, bound_items, bound_by, put_scopes, put_symbol, joined_by, can_end, if_ends, join_rules}
+use Rattle.path_join.specs.Joining.{grow, meet_scopes, meet_attached, asked_scopes, nothing_known, known_with, grown_scopes, grown_symbol, longer_scopes, longer_symbols, handed, wide_pre, wide_post, Bound, bound_items, bound_by, put_scopes, put_symbol, joined_by, if_ends, join_rules}
 use Rattle.path_join.specs.Units.{IsUnit, edge_alone, place_spot, place_end, place_action, place_rule, entry_rule, asks, makes, pat_of, out_of, any_scopes, scopes_out}
-use Rattle.path_join.specs.Extended.{IsExtended}
-use Rattle.path_join.specs.Extending.{post_of, with_front, asks_more, taken_plain, taken, taken_attached, taken_scoped, entered, longer_peak, longer_by, extended_by}
+use Rattle.path_join.specs.Extended.{IsExtended, rule_apart, rule_if}
+use Rattle.path_join.specs.Extending.{post_of, with_front, asks_more, taken_plain, taken_attached, longer_by, extended_by}
 use Rattle.path_join.proofs.FitsLaws.{same_cons}
 use Rattle.path_join.proofs.CodeMet.{grow-nothing, met-handed}
 use Rattle.path_join.proofs.CodeUnits.{entry-ruled, peak-low}
@@ -309,10 +310,16 @@ extends p s end Drops e r h =
     unasked p s end (makes [] Nil) 0 e h
     ∙ ap (peaked p end e (post_of p.post.symbols (scopes_out [] Nil))) (peak-same p.peak (length p.pre.symbols) (length p.post.symbols))
 
-pub extended_is_rule : (p : Rule) (s : Spot) (end : End) (action : Action) (e : EdgeAt) (j : Rule) → IsRule p → p.end ≡ At s
+extended_is_rule : (p : Rule) (s : Spot) (end : End) (action : Action) (e : EdgeAt) (j : Rule) → IsRule p → p.end ≡ At s
     → extended_by p action end e ≡ Some j → IsRule j
 extended_is_rule p s end action e j r h is =
     joined_is_rule p (entry_rule (After s) end action (e ∷ [])) j r (entry-ruled (After s) end action (e ∷ [])) (extends p s end action e r h ∙ is)
+
+-- the same of parts that are made longer where they lie
+pub longer_is_rule : (p : Rule) (s : Spot) (end : End) (action : Action) (e : EdgeAt) (longer : Bool) (parts : PathParts) → IsRule p → p.end ≡ At s
+    → rule_if longer parts ≡ extended_by p action end e → longer ≡ true → IsRule (rule_apart parts)
+longer_is_rule p s end action e longer parts r h is goes =
+    extended_is_rule p s end action e (rule_apart parts) r h (sym is ∙ ap (λ (b : Bool). rule_if b parts) goes)
 
 -- The unit of an edge, and the path with the edge more.
 
@@ -338,73 +345,6 @@ is_extended g p e edge here found r is source there ends f =
     let k : IsRule q = entry-ruled (After here) (place_end edge.sink) (place_action g edge.sink) (edge_alone e ∷ []) in
     let j : found ≡ join_rules p q = f ∙ sym (extends p here (place_end edge.sink) (place_action g edge.sink) (edge_alone e) r ends) in
     record { step = q; unit = unit-is g e edge here is source there; joined = found-joins p q r k found j; none = λ none. never p q r k (sym j ∙ none) }
-
--- How many symbols the longer path asks for and makes.
-
-abbrev IsLow : Pre → Post → Pre × Post → Type 0
-IsLow pre post sides = (length sides.0.symbols ≤ length pre.symbols + 1) × (length sides.1.symbols ≤ length post.symbols + 1)
-
-low-if : (pre : Pre) (post : Post) (b : Bool) (o : Option (Pre × Post)) → IfSome o (IsLow pre post) → IfSome (cond b o None) (IsLow pre post)
-low-if pre post true o h = h
-low-if pre post false o h = tt
-
-low-asked : (pre : Pre) (pat : SymPat) → length (pre.symbols ++ pat ∷ []) ≤ length pre.symbols + 1
-low-asked pre pat = let e : length (pre.symbols ++ pat ∷ []) ≡ length pre.symbols + 1 = length-append pre.symbols (pat ∷ []) in omega (arith, e)
-
-low-plain : (pre : Pre) (front : SymOut) (rest : List SymOut) (scopes : ScopeOut) (attached : Option ScopeOut) → IfSome (taken_plain pre rest scopes attached) (IsLow pre (post_of (front ∷ rest) scopes))
-low-plain pre front rest scopes None = (omega arith, omega arith)
-low-plain pre front rest scopes (Some attached) = tt
-
-low-attached : (pre : Pre) (front : SymOut) (rest : List SymOut) (scopes : ScopeOut) (attached : Option ScopeOut) → IfSome (taken_attached pre rest attached) (IsLow pre (post_of (front ∷ rest) scopes))
-low-attached pre front rest scopes None = tt
-low-attached pre front rest scopes (Some attached) = (omega arith, omega arith)
-
-low-taken : (symbol : List ℕ) (pre : Pre) (outs : List SymOut) (scopes : ScopeOut) → IfSome (taken symbol pre outs scopes) (IsLow pre (post_of outs scopes))
-low-taken symbol pre [] scopes = (low-asked pre (pat_of symbol None), omega arith)
-low-taken symbol pre (front ∷ rest) scopes =
-    low-if pre (post_of (front ∷ rest) scopes) (bytes_eq symbol front.symbol) (taken_plain pre rest scopes front.scopes) (low-plain pre front rest scopes front.scopes)
-
-low-taken_scoped : (symbol : List ℕ) (pre : Pre) (outs : List SymOut) (scopes : ScopeOut) → IfSome (taken_scoped symbol pre outs) (IsLow pre (post_of outs scopes))
-low-taken_scoped symbol pre [] scopes = (low-asked pre (pat_of symbol (Some any_scopes)), omega arith)
-low-taken_scoped symbol pre (front ∷ rest) scopes =
-    low-if pre (post_of (front ∷ rest) scopes) (bytes_eq symbol front.symbol) (taken_attached pre rest front.scopes) (low-attached pre front rest scopes front.scopes)
-
-entered-low : (action : Action) (pre : Pre) (post : Post) → IfSome (entered action pre post) (IsLow pre post)
-entered-low Pass pre post = (omega arith, omega arith)
-entered-low (Push symbol) pre post = (omega arith, omega arith)
-entered-low (PushScoped symbol scope) pre post = (omega arith, omega arith)
-entered-low (Pop symbol) pre post = low-taken symbol pre post.symbols post.scopes
-entered-low (PopScoped symbol) pre post = low-taken_scoped symbol pre post.symbols post.scopes
-entered-low Drops pre post = (omega arith, omega arith)
-
-peak-within : (peak a b c d top : ℕ) → max a b ≤ peak → peak + 1 < top → c ≤ a + 1 → d ≤ b + 1 → max (peak + (c - a)) d < top
-peak-within peak a b c d top h k l m = omega arith
-
-longer-low_at : (pre : Pre) (post : Post) (peak : ℕ) (action : Action) (sides : Pre × Post) → max (length pre.symbols) (length post.symbols) ≤ peak
-    → peak + 1 < 2 ^ 32 → Some sides ≡ entered action pre post → longer_peak peak (length pre.symbols) sides.0 sides.1 < 2 ^ 32
-longer-low_at pre post peak action sides r h e =
-    let low : IsLow pre post sides = subst (λ (o : Option (Pre × Post)). IfSome o (IsLow pre post)) (sym e) (entered-low action pre post) in
-    peak-within peak (length pre.symbols) (length post.symbols) (length sides.0.symbols) (length sides.1.symbols) (2 ^ 32) r h low.0 low.1
-
-pub longer-low : (p : Rule) (start : Start) (end : End) (pre : Pre) (post : Post) (peak : ℕ) (edges : List EdgeAt) (action : Action) (longer : Pre) (made : Post) (asked : ℕ)
-    → IsRule p → rule_of start end pre post peak edges ≡ p → p.peak + 1 < 2 ^ 32 → asked ≡ length pre.symbols → Some (longer, made) ≡ entered action pre post
-    → longer_peak peak asked longer made < 2 ^ 32
-longer-low p start end pre post peak edges action longer made asked r is h n e =
-    let rule : IsRule (rule_of start end pre post peak edges) = subst IsRule (sym is) r in
-    let low : peak + 1 < 2 ^ 32 = subst (λ (q : Rule). q.peak + 1 < 2 ^ 32) (sym is) h in
-    subst (λ (a : ℕ). longer_peak peak a longer made < 2 ^ 32) (sym n) (longer-low_at pre post peak action (longer, made) rule.peak low e)
-
--- The parts, put together, are the longer path.
-pub parts-extended : (p : Rule) (start : Start) (before end last : End) (pre : Pre) (post : Post) (peak : ℕ) (edges : List EdgeAt) (action : Action) (e : EdgeAt)
-    (longer : Pre) (made : Post) (asked top : ℕ) (all : List EdgeAt)
-    → rule_of start before pre post peak edges ≡ p → Some (longer, made) ≡ entered action pre post → last ≡ end → can_end end made.scopes ≡ true
-    → asked ≡ length pre.symbols → top ≡ longer_peak peak asked longer made → all ≡ edges ++ e ∷ []
-    → extended_by p action end e ≡ Some (rule_of start last longer made top all)
-parts-extended p start before end last pre post peak edges action e longer made asked top all is enters ends can n high more =
-    ap (λ (q : Rule). extended_by q action end e) (sym is)
-    ∙ ap (option_and_then (λ (sides : Pre × Post). if_ends (longer_by (rule_of start before pre post peak edges) end e sides))) (sym enters)
-    ∙ ap (λ (b : Bool). cond b (Some (longer_by (rule_of start before pre post peak edges) end e (longer, made))) None) can
-    ∙ (λ i. Some (rule_of start (sym ends i) longer made ((ap (λ (a : ℕ). longer_peak peak a longer made) (sym n) ∙ sym high) i) (sym more i)))
 
 -- The join with any path of one edge is low enough.
 pub unit-peak : (p q : Rule) → IsRule p → IsRule q → q.peak ≤ 1 → p.peak + 1 < 2 ^ 32 → joined_peak p q < 2 ^ 32

@@ -1,5 +1,5 @@
 -- A path made longer by one edge where it stands. No public clause cites this: it is the join with the edge's unit.
-use Rattle.std.specs.Prelude.{ℕ, ◌+◌, ◌-◌, List, [], ◌∷◌, ◌++◌, length, max, Option, Some, None, if◌then◌else◌}
+use Rattle.std.specs.Prelude.{ℕ, ◌+◌, ◌-◌, List, [], ◌∷◌, ◌++◌, length, max, Bool, Option, Some, None, if◌then◌else◌}
 use Rattle.std.specs.Option.{option_and_then}
 use Rattle.std.specs.Str.{bytes_eq}
 use Rattle.stacks_vars.specs.declared.scopes.NodeAt.{NodeAt}
@@ -78,3 +78,12 @@ longer_by p end e sides =
 abbrev pub extended_by : Rule → Action → End → EdgeAt → Option Rule
 extended_by p action end e =
     option_and_then (λ (sides : Pre × Post). if_ends (longer_by p end e sides)) (entered action p.pre p.post)
+
+-- what a path asks for and makes, where it does
+abbrev pub sides_if : Bool → Pre → Post → Option (Pre × Post)
+sides_if there pre post = if there then Some (pre, post) else None
+
+-- the symbols that a path makes, the front of which is told apart, where there is one
+abbrev pub front_and_rest : Option SymOut → List SymOut → List SymOut
+front_and_rest None rest = rest
+front_and_rest (Some front) rest = front ∷ rest

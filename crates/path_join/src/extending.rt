@@ -1,20 +1,20 @@
-ghost use Rattle.std.specs.Prelude.{◌≡◌, ◌<◌, ◌+◌, ◌^◌, [], length, IfOk, IsTrue, Some, None};
+ghost use Rattle.std.specs.Prelude.{◌≡◌, ◌<◌, ◌+◌, ◌^◌, [], ◌∷◌, ◌++◌, length, IfOk, OnOk, IsTrue, None, true};
 ghost use Rattle.std.specs.Str.{bytes_eq};
 ghost use Rattle.graph_nodes.specs.Graph.{has_place};
-ghost use Rattle.stacks_vars.specs.declared.patterns.Tail.TheVariants.{Nil};
-ghost use Rattle.partial_path.specs.Rules.{Rule, IsRule};
+ghost use Rattle.partial_path.specs.Rules.{IsRule};
 ghost use Rattle.partial_path.specs.Step.{action_of};
 ghost use Rattle.path_join.specs.Units.{edge_alone, place_end, place_action, pat_of, out_of, scopes_out};
-ghost use Rattle.path_join.specs.Extended.{IsExtended};
-ghost use Rattle.path_join.specs.Extending.{post_of, with_front, with_scope, asks_more, taken, taken_scoped, entered, longer_peak, extended_by};
+ghost use Rattle.path_join.specs.Extended.{IsExtended, rule_apart, rule_if};
+ghost use Rattle.path_join.specs.Extending.{with_scope, taken, taken_scoped, entered, longer_peak, extended_by, sides_if, front_and_rest};
 
-use crate::entering::{any_scopes, makes};
+use crate::entering::{any_scopes, passing};
 use crate::joining::{can_end, join};
 use crate::units::{edge_of, spot_of, unit};
 use graph_nodes::{FileGraph, Name, NodeKind, Place};
-use partial_path::{EdgeAt, End, PartialPath, PathParts, Spot, symbol_of};
+use partial_path::{EdgeAt, End, PartialPath, PathParts, Spot, Start, symbol_of};
 use stacks_vars::{Listed, NodeAt, Post, Pre, ScopeOut, ScopePat, SymOut, SymPat, Symbol, Tail};
 use std::alloc::{AllocError, Global};
+use std::mem;
 
 /// The path with an edge of its file more: the join of the path with the edge's unit, or `None` where no
 /// configuration passes both. The one error is want of memory, and the path is gone with it. Where the path
@@ -31,14 +31,78 @@ pub fn extend(
     requires peak { path.peak + 1 < 2 ^ 32 }
     ensures { IfOk result (IsExtended graph.now path edge) }
 {
+    let mut parts = path.into_parts();
+    if !extend_in_place(alloc, graph, &mut parts, edge)? {
+        return Ok(None);
+    }
+    Ok(Some(whole(parts)))
+}
+
+/// As `extend`, of a path that is taken apart, which is made longer where it lies; false where no
+/// configuration passes both. Nothing is said of its parts then, nor where memory is refused.
+pub fn extend_in_place(
+    alloc: Global,
+    graph: &FileGraph,
+    parts: &mut PathParts,
+    edge: u32,
+) -> Result<bool, AllocError>
+    requires edge { edge < length graph.now.edges }
+    requires rule { IsRule (rule_apart parts.old) }
+    requires edges { length parts.old.edges.items + 1 < 2 ^ 32 }
+    requires peak { parts.old.peak + 1 < 2 ^ 32 }
+    ensures rule { IfOk result (λ longer. longer ≡ true → IsRule (rule_apart parts.new)) }
+    ensures extended { IfOk result (λ longer. IsExtended graph.now (rule_apart parts.old) edge (rule_if longer parts.new)) }
+{
     let found = edge_of(graph, edge);
     let source = spot_of(found.source);
-    match path.end() {
-        End::At(spot) if spot.same(source) => extended_in_place(
-            alloc, graph, path, found.sink, edge,
-        ),
-        End::At(_) | End::ByStack => extended(alloc, graph, &path, edge),
+    match parts.end {
+        End::At(spot) if spot.same(source) => enter(alloc, graph, parts, found.sink, edge),
+        End::At(_) | End::ByStack => extend_anew(alloc, graph, parts, edge),
     }
+}
+
+/// The path of these parts. It takes no memory and constant time.
+pub fn whole(parts: PathParts) -> PartialPath
+    requires { IsRule (rule_apart parts) }
+    ensures { result ≡ rule_apart parts }
+{
+    let PathParts {
+        start,
+        end,
+        pre,
+        post,
+        peak,
+        edges,
+    } = parts;
+    PartialPath::of(start, end, pre, post, peak, edges)
+}
+
+/// As `extend_in_place`, wherever the path ends: the parts become those of the join.
+fn extend_anew(
+    alloc: Global,
+    graph: &FileGraph,
+    parts: &mut PathParts,
+    edge: u32,
+) -> Result<bool, AllocError>
+    requires edge { edge < length graph.now.edges }
+    requires rule { IsRule (rule_apart parts.old) }
+    requires edges { length parts.old.edges.items + 1 < 2 ^ 32 }
+    requires peak { parts.old.peak + 1 < 2 ^ 32 }
+    ensures rule { IfOk result (λ longer. longer ≡ true → IsRule (rule_apart parts.new)) }
+    ensures extended { IfOk result (λ longer. IsExtended graph.now (rule_apart parts.old) edge (rule_if longer parts.new)) }
+{
+    let none = passing(
+        alloc,
+        Start::After(Spot::Root),
+        End::At(Spot::Root),
+        Vec::new(alloc),
+    );
+    let path = whole(mem::replace(parts, none.into_parts()));
+    let Some(longer) = extended(alloc, graph, &path, edge)? else {
+        return Ok(false);
+    };
+    *parts = longer.into_parts();
+    Ok(true)
 }
 
 /// As `extend`, of a path that is kept: a new path, for which the edge's unit is made and joined.
@@ -59,39 +123,31 @@ pub fn extended(
     join(alloc, path, &step)
 }
 
-/// The path made longer in place: it goes on from its end by the edge to this sink.
-fn extended_in_place(
+/// The path goes on from its end by the edge to this sink; false where entry is refused, or it can't end so.
+fn enter(
     alloc: Global,
     graph: &FileGraph,
-    path: PartialPath,
+    parts: &mut PathParts,
     sink: Place,
     edge: u32,
-) -> Result<Option<PartialPath>, AllocError>
+) -> Result<bool, AllocError>
     requires there { IsTrue (has_place (length graph.now.nodes) sink) }
-    requires peak { path.peak + 1 < 2 ^ 32 }
-    requires rule { (j : Rule) → extended_by path (place_action graph.now sink) (place_end sink) (edge_alone edge) ≡ Some j → IsRule j }
-    ensures { IfOk result (λ found. found ≡ extended_by path (place_action graph.now sink) (place_end sink) (edge_alone edge)) }
+    requires rule { IsRule (rule_apart parts.old) }
+    requires peak { parts.old.peak + 1 < 2 ^ 32 }
+    ensures { IfOk result (λ longer. rule_if longer parts.new ≡ extended_by (rule_apart parts.old) (place_action graph.now sink) (place_end sink) (edge_alone edge)) }
 {
-    let PathParts {
-        start,
-        pre,
-        post,
-        peak,
-        edges,
-        ..
-    } = path.into_parts();
-    let asked = pre.symbols.len();
-    let Some((pre, post)) = place_entered(alloc, graph, sink, pre, post)? else {
-        return Ok(None);
-    };
-    let end = end_of(sink);
-    if !can_end(end, &post.scopes) {
-        return Ok(None);
+    let asked = parts.pre.symbols.len();
+    if !place_entered(alloc, graph, sink, &mut parts.pre, &mut parts.post)? {
+        return Ok(false);
     }
-    let peak = longer_peak(peak, asked, &pre, &post);
-    let mut edges = edges;
-    edges.push(EdgeAt { file: 0, edge })?;
-    Ok(Some(PartialPath::of(start, end, pre, post, peak, edges)))
+    let end = end_of(sink);
+    if !can_end(end, &parts.post.scopes) {
+        return Ok(false);
+    }
+    parts.end = end;
+    parts.peak = longer_peak(parts.peak, asked, &parts.pre, &parts.post);
+    parts.edges.push(EdgeAt { file: 0, edge })?;
+    Ok(true)
 }
 
 /// Where a path ends that enters the place of a file that stands alone.
@@ -114,20 +170,21 @@ fn longer_peak(peak: u32, asked: usize, pre: &Pre, post: &Post) -> u32
     (peak as usize + more).max(post.symbols.len()) as u32
 }
 
-/// What a path asks for and makes once it enters the place besides; None where entry is refused.
+/// What the path asks for and makes becomes what it asks for and makes once it enters the place besides; false
+/// where entry is refused.
 fn place_entered(
     alloc: Global,
     graph: &FileGraph,
     place: Place,
-    pre: Pre,
-    post: Post,
-) -> Result<Option<(Pre, Post)>, AllocError>
+    pre: &mut Pre,
+    post: &mut Post,
+) -> Result<bool, AllocError>
     requires there { IsTrue (has_place (length graph.now.nodes) place) }
-    requires asked { length pre.symbols < 2 ^ 32 }
-    ensures { IfOk result (λ found. found ≡ entered (place_action graph.now place) pre post) }
+    requires asked { length pre.old.symbols < 2 ^ 32 }
+    ensures { IfOk result (λ goes. sides_if goes pre.new post.new ≡ entered (place_action graph.now place) pre.old post.old) }
 {
     match place {
-        Place::Root | Place::Jump => Ok(Some((pre, post))),
+        Place::Root | Place::Jump => Ok(true),
         Place::At(node) => node_entered(alloc, &graph.node(node).kind, pre, post),
     }
 }
@@ -136,26 +193,33 @@ fn place_entered(
 fn node_entered(
     alloc: Global,
     kind: &NodeKind,
-    pre: Pre,
-    post: Post,
-) -> Result<Option<(Pre, Post)>, AllocError>
-    requires { length pre.symbols < 2 ^ 32 }
-    ensures { IfOk result (λ found. found ≡ entered (action_of 0 kind.now) pre post) }
+    pre: &mut Pre,
+    post: &mut Post,
+) -> Result<bool, AllocError>
+    requires { length pre.old.symbols < 2 ^ 32 }
+    ensures { IfOk result (λ goes. sides_if goes pre.new post.new ≡ entered (action_of 0 kind.now) pre.old post.old) }
 {
     match kind {
-        NodeKind::Scope { .. } => Ok(Some((pre, post))),
-        NodeKind::Push { symbol, .. } => Ok(Some((pre, with_front(symbol, None, post)?))),
+        NodeKind::Scope { .. } => Ok(true),
+        NodeKind::Push { symbol, .. } => {
+            put_front(alloc, symbol, None, &mut post.symbols)?;
+            Ok(true)
+        }
         NodeKind::PushScoped { symbol, scope, .. } => {
             let scope = NodeAt {
                 file: 0,
                 node: *scope,
             };
             let scopes = with_scope(alloc, scope, &post.scopes)?;
-            Ok(Some((pre, with_front(symbol, Some(scopes), post)?)))
+            put_front(alloc, symbol, Some(scopes), &mut post.symbols)?;
+            Ok(true)
         }
-        NodeKind::Pop { symbol, .. } => taken(symbol, pre, post),
-        NodeKind::PopScoped { symbol, .. } => taken_scoped(alloc, symbol, pre, post),
-        NodeKind::Drops => Ok(Some((pre, without_scopes(alloc, post)))),
+        NodeKind::Pop { symbol, .. } => take(alloc, symbol, pre, post),
+        NodeKind::PopScoped { symbol, .. } => take_scoped(alloc, symbol, pre, post),
+        NodeKind::Drops => {
+            post.scopes = scopes_of(alloc, Tail::Nil);
+            Ok(true)
+        }
     }
 }
 
@@ -169,11 +233,16 @@ fn room_for_first<T>(items: &mut Vec<T>) -> Result<(), AllocError>
     items.reserve_exact(1)
 }
 
-/// The postcondition with this symbol in front.
-fn with_front(symbol: &Name, scopes: Option<ScopeOut>, post: Post) -> Result<Post, AllocError>
-    ensures { IfOk result (λ made. made ≡ with_front (out_of symbol.now scopes) post) }
+/// Puts this symbol in front of those that the path makes.
+fn put_front(
+    alloc: Global,
+    symbol: &Name,
+    scopes: Option<ScopeOut>,
+    made: &mut Listed<SymOut>,
+) -> Result<(), AllocError>
+    ensures { OnOk result (made.new ≡ out_of symbol.now scopes ∷ made.old) }
 {
-    let mut symbols = post.symbols.into_items();
+    let mut symbols = mem::replace(made, Listed::new(alloc)).into_items();
     room_for_first(&mut symbols)?;
     symbols.insert(
         0,
@@ -182,10 +251,8 @@ fn with_front(symbol: &Name, scopes: Option<ScopeOut>, post: Post) -> Result<Pos
             scopes,
         },
     )?;
-    Ok(Post {
-        symbols: Listed::of(symbols),
-        scopes: post.scopes,
-    })
+    *made = Listed::of(symbols);
+    Ok(())
 }
 
 /// The scopes, copied, with this one in front.
@@ -202,82 +269,88 @@ fn with_scope(alloc: Global, scope: NodeAt, out: &ScopeOut) -> Result<ScopeOut, 
     })
 }
 
-/// The postcondition with an empty scope stack.
-fn without_scopes(alloc: Global, post: Post) -> Post
-    ensures { result ≡ post_of post.symbols (scopes_out [] Nil) }
+/// A scope stack of this variable alone.
+fn scopes_of(alloc: Global, tail: Tail) -> ScopeOut
+    ensures { result ≡ scopes_out [] tail }
 {
-    Post {
-        symbols: post.symbols,
-        scopes: ScopeOut {
-            scopes: Listed::new(alloc),
-            tail: Tail::Nil,
-        },
+    ScopeOut {
+        scopes: Listed::new(alloc),
+        tail,
     }
 }
 
-/// The precondition that asks for one symbol more, behind the others.
-fn asks_more(pre: Pre, symbol: &Name, scopes: Option<ScopePat>) -> Result<Pre, AllocError>
-    ensures { IfOk result (λ asks. asks ≡ asks_more pre (pat_of symbol.now scopes)) }
+/// Asks for one symbol more, behind the others.
+fn ask_more(
+    alloc: Global,
+    symbol: &Name,
+    scopes: Option<ScopePat>,
+    asked: &mut Listed<SymPat>,
+) -> Result<(), AllocError>
+    ensures { OnOk result (asked.new ≡ asked.old ++ pat_of symbol.now scopes ∷ []) }
 {
-    let mut symbols = pre.symbols.into_items();
+    let mut symbols = mem::replace(asked, Listed::new(alloc)).into_items();
     room_for_first(&mut symbols)?;
     symbols.push(SymPat {
         symbol: symbol_of(symbol)?,
         scopes,
     })?;
-    Ok(Pre {
-        symbols: Listed::of(symbols),
-        scopes: pre.scopes,
-    })
+    *asked = Listed::of(symbols);
+    Ok(())
+}
+
+/// Takes the front off the symbols that the path makes, where there are any.
+fn take_front(alloc: Global, made: &mut Listed<SymOut>) -> Option<SymOut>
+    ensures both { front_and_rest result made.new ≡ made.old }
+    ensures none { result ≡ None → made.old ≡ [] }
+{
+    if made.is_empty() {
+        return None;
+    }
+    let mut symbols = mem::replace(made, Listed::new(alloc)).into_items();
+    let front = symbols.remove(0);
+    *made = Listed::of(symbols);
+    Some(front)
 }
 
 /// A plain symbol is popped: the front of those that the path makes, or one more that it asks for.
-fn taken(symbol: &Name, pre: Pre, post: Post) -> Result<Option<(Pre, Post)>, AllocError>
-    ensures { IfOk result (λ found. found ≡ taken symbol.now pre post.symbols post.scopes) }
+fn take(alloc: Global, symbol: &Name, pre: &mut Pre, post: &mut Post) -> Result<bool, AllocError>
+    ensures { IfOk result (λ goes. sides_if goes pre.new post.new ≡ taken symbol.now pre.old post.old.symbols post.old.scopes) }
 {
-    let mut made = post.symbols.into_items();
-    let scopes = post.scopes;
-    if made.is_empty() {
-        let symbols = Listed::of(made);
-        return Ok(Some((asks_more(pre, symbol, None)?, Post { symbols, scopes })));
-    }
-    let front = made.remove(0);
-    if !is_of(&front.symbol, symbol) || front.scopes.is_some() {
-        return Ok(None);
-    }
-    let symbols = Listed::of(made);
-    Ok(Some((pre, Post { symbols, scopes })))
+    let Some(front) = take_front(alloc, &mut post.symbols) else {
+        ask_more(alloc, symbol, None, &mut pre.symbols)?;
+        return Ok(true);
+    };
+    Ok(is_of(&front.symbol, symbol) && front.scopes.is_none())
 }
 
 /// A symbol with attached scopes is popped: the front of those that the path makes, whose scopes become the
 /// scope stack, or one more that it asks for.
-fn taken_scoped(
+fn take_scoped(
     alloc: Global,
     symbol: &Name,
-    pre: Pre,
-    post: Post,
-) -> Result<Option<(Pre, Post)>, AllocError>
-    requires { length pre.symbols < 2 ^ 32 }
-    ensures { IfOk result (λ found. found ≡ taken_scoped symbol.now pre post.symbols) }
+    pre: &mut Pre,
+    post: &mut Post,
+) -> Result<bool, AllocError>
+    requires { length pre.old.symbols < 2 ^ 32 }
+    ensures { IfOk result (λ goes. sides_if goes pre.new post.new ≡ taken_scoped symbol.now pre.old post.old.symbols) }
 {
-    let mut made = post.symbols.into_items();
-    if made.is_empty() {
-        let place = pre.symbols.len() as u32;
-        let pre = asks_more(pre, symbol, Some(any_scopes(alloc)))?;
-        return Ok(Some((pre, makes(alloc, made, Tail::Item(place)))));
-    }
+    let Some(front) = take_front(alloc, &mut post.symbols) else {
+        post.scopes = scopes_of(alloc, Tail::Item(pre.symbols.len() as u32));
+        ask_more(alloc, symbol, Some(any_scopes(alloc)), &mut pre.symbols)?;
+        return Ok(true);
+    };
     let SymOut {
         symbol: front,
         scopes,
-    } = made.remove(0);
+    } = front;
     if !is_of(&front, symbol) {
-        return Ok(None);
+        return Ok(false);
     }
     let Some(scopes) = scopes else {
-        return Ok(None);
+        return Ok(false);
     };
-    let symbols = Listed::of(made);
-    Ok(Some((pre, Post { symbols, scopes })))
+    post.scopes = scopes;
+    Ok(true)
 }
 
 /// Whether the made symbol is this one.

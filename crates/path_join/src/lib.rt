@@ -11,6 +11,6 @@ mod meeting;
 mod units;
 mod writing;
 
-pub use extending::{extend, extended};
+pub use extending::{extend, extend_in_place, extended, whole};
 pub use joining::join;
 pub use units::{opening, unit};
