@@ -6,15 +6,14 @@ use Rattle.graph_nodes.specs.Cut.{is_cut}
 use Rattle.graph_nodes.specs.declared.node.Edge.{Edge}
 use Rattle.graph_nodes.specs.declared.node.Place.{Place}
 use Rattle.partial_path.specs.declared.config.EdgeAt.{EdgeAt}
-use Rattle.partial_path.specs.declared.rule.Start.{Start}
 use Rattle.partial_path.specs.Rules.{Rule}
 use Rattle.partial_path.specs.Walks.{alone, is_definition_place, IsWalk}
 use Rattle.partial_path.specs.PathSets.{IsRuleOf, walk_of_rule}
 use Rattle.path_join.specs.Units.{edge_alone}
 use Rattle.file_paths.specs.Walking.{ends_cut}
-use Rattle.file_paths.specs.Finding.{LeadsTo, MayGoOn, GoesOnFrom, AddsLonger, if_landing}
+use Rattle.file_paths.specs.Finding.{EndsWith, LeadsTo, MayGoOn, GoesOnFrom, AddsLonger, if_landing}
 use Rattle.file_paths.proofs.StepLaws.{none_longer}
-use Rattle.file_paths.proofs.SinkLaws.{walk_last, sink_leaves, uncut_no_jump}
+use Rattle.file_paths.proofs.SinkLaws.{sink_leaves, uncut_no_jump}
 use Rattle.file_paths.proofs.OnwardLaws.{ends_cut-sink, ends_landing-sink}
 use Rattle.file_paths.proofs.GrowingLaws.{walk_may_go_on}
 
@@ -30,32 +29,34 @@ last_at es before e d is =
     less_one : (n : ℕ) → (n + 1) - 1 ≡ n
     less_one n = omega arith
 
--- the last edge of a walk is the file's, where the edges lie in a slice
-pub last_is : (g : Graph) (start : Start) (es there : List EdgeAt) (d : EdgeAt) → (walk : IsWalk g start es) → there ≡ es
-    → (slice_index_or there (length there - 1) d).edge ≡ (walk_last g start es walk).last
-last_is g start es there d walk same =
-    let last = walk_last g start es walk in
-    ap (λ (e : EdgeAt). e.edge) (last_at there last.before (edge_alone last.last) d (same ∙ last.is))
+-- the last edge is found where it lies
+last_is : (g : Graph) (es : List EdgeAt) (d : EdgeAt) → (last : EndsWith g es) → (slice_index_or es (length es - 1) d).edge ≡ last.last
+last_is g es d last = ap (λ (e : EdgeAt). e.edge) (last_at es last.before (edge_alone last.last) d last.is)
 
-pub last_is_there : (g : Graph) (start : Start) (es there : List EdgeAt) (d : EdgeAt) → IsWalk g start es → there ≡ es
-    → (slice_index_or there (length there - 1) d).edge < length g.edges
-last_is_there g start es there d walk same =
-    let last = walk_last g start es walk in
-    subst (λ (n : ℕ). n < length g.edges) (sym (last_is g start es there d walk same)) (slice_get_within g.edges last.last last.edge last.there)
+pub last_is_there : (g : Graph) (es : List EdgeAt) (d : EdgeAt) → EndsWith g es → (slice_index_or es (length es - 1) d).edge < length g.edges
+last_is_there g es d last =
+    subst (λ (n : ℕ). n < length g.edges) (sym (last_is g es d last)) (slice_get_within g.edges last.last last.edge last.there)
 
-pub last_leads : (g : Graph) (start : Start) (es there : List EdgeAt) (d : EdgeAt) (edge : Edge) → IsWalk g start es → there ≡ es
-    → slice_get g.edges (slice_index_or there (length there - 1) d).edge ≡ Some edge → LeadsTo g es edge.sink
-last_leads g start es there d edge walk same found =
-    let last = walk_last g start es walk in (
-      record {
-        before = last.before;
-        last = last.last;
-        edge = edge;
-        is = last.is;
-        there = subst (λ (n : ℕ). slice_get g.edges n ≡ Some edge) (last_is g start es there d walk same) found;
-      },
-      refl,
-    )
+pub last_leads : (g : Graph) (es : List EdgeAt) (d : EdgeAt) (edge : Edge) → EndsWith g es
+    → slice_get g.edges (slice_index_or es (length es - 1) d).edge ≡ Some edge → LeadsTo g es edge.sink
+last_leads g es d edge last found = (
+  record {
+    before = last.before;
+    last = last.last;
+    edge = edge;
+    is = last.is;
+    there = subst (λ (n : ℕ). slice_get g.edges n ≡ Some edge) (last_is g es d last) found;
+  },
+  refl,
+)
+
+-- the same edges lead to the same place, also those of the path that they are put into
+pub leads_apart : (g : Graph) (there es : List EdgeAt) (sink : Place) → there ≡ es → LeadsTo g there sink → LeadsTo g es sink
+leads_apart g there es sink same leads = subst (λ (xs : List EdgeAt). LeadsTo g xs sink) same leads
+
+pub leads_whole : (g : Graph) (there : List EdgeAt) (p q : Rule) (sink : Place) → there ≡ p.edges → q ≡ p → LeadsTo g there sink → LeadsTo g q.edges sink
+leads_whole g there p q sink same is leads =
+    subst (λ (r : Rule). LeadsTo g r.edges sink) (sym is) (leads_apart g there p.edges sink same leads)
 
 cut_at : (g : Graph) (es : List EdgeAt) (sink : Place) (leads : LeadsTo g es sink) → ends_cut (alone g) es ≡ is_cut g sink
 cut_at g es sink leads = ends_cut-sink g es leads.0 ∙ ap (is_cut g) leads.1

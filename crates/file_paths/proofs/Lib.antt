@@ -1,7 +1,7 @@
 -- Which clause rests on which file. `find_paths`, which `enumerate` calls: file, walks, fault, few and fewer on
 -- CountingLaws, which has what its loop keeps, from FindingLaws and FirstLaws; light on WalkingLaws.
 -- The paths with which the search begins: BeginningLaws. What one path adds, and those of one edge more: LastLaws,
--- GrowingLaws and NextLaws.
+-- GrowingLaws, NextLaws and OnlyLaws.
 -- Only these cite the others: PairsLaws, PrefixLaws, BegunLaws, StepLaws, SumsLaws and SetLaws are about walks;
 -- UnitLaws, SourceLaws and JoinedLaws about the rules of edges; LeavingLaws, EdgesLaws, PassableLaws, SinkLaws and
 -- OnwardLaws about the edges that go on; GatherLaws, StartsLaws and EachStartLaws about all starts. WalkingLaws is
@@ -30,5 +30,6 @@ pub mod NextLaws
 pub mod BeginningLaws
 pub mod CountingLaws
 pub mod LastLaws
+pub mod OnlyLaws
 pub mod WalkingLaws
 pub mod StoredLaws

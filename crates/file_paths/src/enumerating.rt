@@ -1,18 +1,20 @@
-ghost use Rattle.std.specs.Prelude.{◌≡◌, ◌≤◌, ◌<◌, ◌+◌, ◌||◌, length, ◌++◌, IfOk, IfErr, OnOk, OnErr, Err, IsTrue, ℕ};
+ghost use Rattle.std.specs.Prelude.{◌≡◌, ◌≤◌, ◌<◌, ◌+◌, ◌||◌, [], ◌∷◌, length, ◌++◌, IfOk, IfErr, IfSome, OnOk, IsTrue, ℕ};
 ghost use Rattle.std.specs.List.{AllByRecursion};
 ghost use Rattle.graph_nodes.specs.Graph.{has_place};
 ghost use Rattle.graph_nodes.specs.Cut.{is_cut};
+ghost use Rattle.graph_nodes.specs.Out.{edges_from};
 ghost use Rattle.partial_path.specs.Walks.{alone, is_definition_place, ends_landing, IsWalk, IsWeight, IsHeavier};
 ghost use Rattle.partial_path.specs.PathSets.{IsRuleOf, IsPathSet, AreFileRules, walk_of_rule};
 ghost use Rattle.file_paths.specs.declared.fault.TheConstants.{MAX_WEIGHT};
-ghost use Rattle.file_paths.specs.Finding.{IsShort, AddsLonger, LeadsTo, if_landing};
+ghost use Rattle.file_paths.specs.Finding.{IsShort, AddsLonger, EndsWith, LeadsTo, IsFinding};
 ghost use Rattle.file_paths.specs.Finds.{max_weight, AddsWalks, HasCause};
 
 use crate::fault::{MAX_WEIGHT, PathsFault};
 use crate::growing::{begin_longer, grow, put};
 use crate::starting::first_paths;
 use graph_nodes::{FileGraph, Place, Steps};
-use partial_path::{FilePaths, PartialPath};
+use partial_path::{EdgeAt, FilePaths, PartialPath};
+use path_join::{extend_in_place, whole};
 use std::alloc::{AllocError, Global};
 use std::sync::ledger::Ledger;
 
@@ -56,16 +58,18 @@ pub fn find_paths(alloc: Global, graph: FileGraph, walks: &mut u64) -> Result<Fi
     ensures few { walks.new ≤ max_weight + 1 }
     ensures fewer { (weight : ℕ) → IsWeight graph weight → walks.new ≤ weight }
 {
-    let found = find(alloc, &graph, walks)?;
-    let file = FilePaths::new(graph, found.paths, found.weight);
+    let Found { paths, weight, .. } = find(alloc, &graph, walks)?;
+    let file = FilePaths::new(graph, paths, weight);
     // Tells that what is stored is the path set.
     file.weight();
     Ok(file)
 }
 
-/// What was found of a file: its paths, and its weight.
+/// What is found of a file on the way: the paths that are begun and not yet looked at, those that are kept, and
+/// how many edges the walks looked at have together.
 #[derive(Debug, Drop)]
 struct Found {
+    begun: Vec<PartialPath>,
     paths: Vec<PartialPath>,
     weight: u32,
 }
@@ -84,58 +88,90 @@ fn find(alloc: Global, graph: &FileGraph, steps: &mut u64) -> Result<Found, Path
 {
     // Tells that the graph is checked.
     graph.node_count();
-    let mut begun = first_paths(alloc, graph)?;
-    let mut paths = Vec::with_capacity(alloc, begun.len())?;
-    let mut weight = 0;
-    while let Some(path) = begun.pop() {
-        *steps += 1;
-        weight += path.edges().len() as u32;
-        if weight > MAX_WEIGHT {
-            return Err(PathsFault::Heavy(MAX_WEIGHT + 1));
-        }
-        keep(alloc, graph, path, &mut begun, &mut paths)?;
+    let begun = first_paths(alloc, graph)?;
+    let room = begun.len() + begun.len() / 8;
+    let paths = Vec::with_capacity(alloc, room)?;
+    let mut found = Found {
+        begun,
+        paths,
+        weight: 0,
+    };
+    while let Some(path) = found.begun.pop() {
+        follow(alloc, graph, path, &mut found, steps)?;
     }
-    paths.shrink_to_fit();
-    Ok(Found { paths, weight })
+    found.paths.shrink_to_fit();
+    Ok(found)
 }
 
-/// Keeps the path, where it lands, and begins those of one edge more. One that doesn't land is itself made
-/// longer.
-fn keep(
+/// Counts the path, the last of those begun, and keeps it where it lands; its longer ones are begun beside it then.
+/// Else, where one edge alone leads on, the path is made longer where it lies and the same is done again; where
+/// several do, those of one edge more are begun. The error is `Heavy` where the weight comes to exceed
+/// `MAX_WEIGHT`, and else want of memory. An edge that alone leads on costs neither a copy nor a move of the path.
+fn follow(
     alloc: Global,
     graph: &FileGraph,
     path: PartialPath,
-    begun: &mut Vec<PartialPath>,
-    paths: &mut Vec<PartialPath>,
+    found: &mut Found,
+    steps: &mut u64,
 ) -> Result<(), PathsFault>
-    requires walk { IsWalk graph.now path.start path.edges }
-    requires exact { IsRuleOf graph.now path }
-    requires short { IsShort MAX_WEIGHT path }
-    requires begun { AllByRecursion (IsShort (MAX_WEIGHT + 1)) begun.old.items }
-    ensures longer { OnOk result (AddsLonger graph.now (walk_of_rule path) begun.old.items begun.new.items) }
-    ensures begun { OnOk result (AllByRecursion (IsShort (MAX_WEIGHT + 1)) begun.new.items) }
-    ensures kept { OnOk result (paths.new.items ≡ paths.old.items ++ if_landing graph.now path) }
-    ensures fault { OnErr result (result ≡ Err PathsFault.NoMemory) }
+    requires finding { IsFinding graph.now found.old.paths.items (found.old.begun.items ++ path ∷ []) found.old.weight steps.old }
+    requires short { IsShort (MAX_WEIGHT + 1) path }
+    requires begun { AllByRecursion (IsShort (MAX_WEIGHT + 1)) found.old.begun.items }
+    requires light { found.old.weight ≤ MAX_WEIGHT }
+    ensures finding { OnOk result (IsFinding graph.now found.new.paths.items found.new.begun.items found.new.weight steps.new) }
+    ensures begun { OnOk result (AllByRecursion (IsShort (MAX_WEIGHT + 1)) found.new.begun.items) }
+    ensures light { OnOk result (found.new.weight ≤ MAX_WEIGHT) }
+    ensures heavier { OnOk result (found.old.weight < found.new.weight) }
+    ensures fault { IfErr result (HasCause graph.now) }
+    ensures few { steps.new ≤ MAX_WEIGHT + 1 }
+    ensures fewer { (weight : ℕ) → IsWeight graph.now weight → steps.new ≤ weight }
 {
-    let sink = last_sink(graph, &path);
-    if !lands(graph, sink) {
-        grow(alloc, graph, path, sink, begun)?;
-        return Ok(());
+    let mut parts = path.into_parts();
+    loop {
+        *steps += 1;
+        let edges = parts.edges.as_slice();
+        found.weight += edges.len() as u32;
+        if found.weight > MAX_WEIGHT {
+            return Err(PathsFault::Heavy(MAX_WEIGHT + 1));
+        }
+        let sink = last_sink(graph, edges);
+        if lands(graph, sink) {
+            let path = whole(parts);
+            onward(alloc, graph, &path, sink, &mut found.begun)?;
+            put(path, &mut found.paths)?;
+            return Ok(());
+        }
+        let Some(edge) = only_edge(graph, sink) else {
+            grow(alloc, graph, whole(parts), sink, &mut found.begun)?;
+            return Ok(());
+        };
+        if !extend_in_place(alloc, graph, &mut parts, edge)? {
+            return Ok(());
+        }
     }
-    onward(alloc, graph, &path, sink, begun)?;
-    put(path, paths)?;
-    Ok(())
 }
 
-/// The place to which the path's last edge leads.
-fn last_sink(graph: &FileGraph, path: &PartialPath) -> Place
-    requires { IsWalk graph.now path.now.start path.now.edges }
-    ensures leads { LeadsTo graph.now path.now.edges result }
+/// The edge that leaves the place, where there is one alone.
+fn only_edge(graph: &FileGraph, from: Place) -> Option<u32>
+    requires { IsTrue (has_place (length graph.now.nodes) from) }
+    ensures { IfSome result (λ edge. edges_from graph.now from ≡ edge ∷ []) }
+{
+    let mut left = graph.edges_from(from);
+    let edge = left.next()?;
+    match left.next() {
+        Some(_) => None,
+        None => Some(edge),
+    }
+}
+
+/// The place to which the last of these edges leads.
+fn last_sink(graph: &FileGraph, edges: &[EdgeAt]) -> Place
+    requires { EndsWith graph.now edges.now }
+    ensures leads { LeadsTo graph.now edges.now result }
     ensures place { IsTrue (has_place (length graph.now.nodes) result) }
 {
     // Tells that the graph is checked.
     graph.edge_count();
-    let edges = path.edges();
     graph.edge(edges[edges.len() - 1].edge).sink
 }
 

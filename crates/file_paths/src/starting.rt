@@ -17,7 +17,7 @@ use path_join::{opening, unit};
 use std::alloc::{AllocError, Global};
 
 /// For how many paths room is made at first; for one a node, where the file has fewer nodes.
-const FIRST_ROOM: usize = 256;
+const FIRST_ROOM: usize = 1_024;
 
 /// The paths of one edge, from each start of the file's walks: after each cut node, after the root and before
 /// each reference. They stand in the order of their starts, the greatest first. The one error is want of memory.
