@@ -13,17 +13,17 @@ use Rattle.partial_path.specs.declared.rule.Start.{Start}
 use Rattle.partial_path.specs.declared.rule.Start.TheVariants.{After}
 use Rattle.partial_path.specs.Spots.{node_at}
 use Rattle.partial_path.specs.Rules.{Rule}
-use Rattle.partial_path.specs.Walks.{is_cut_spot, starts_walks, IsWalk, walk_of}
+use Rattle.partial_path.specs.Walks.{is_cut_spot, IsWalk, walk_of}
 use Rattle.partial_path.specs.PathSets.{IsRuleOf, walk_of_rule}
 use Rattle.path_join.specs.Units.{after_source, edge_alone, place_spot}
 use Rattle.file_paths.specs.Walking.{no_edges}
-use Rattle.file_paths.specs.Finding.{MayGoOn, GoesOnFrom, IsLongerRule, AddsLonger, AddsFirst, before_node, after_node}
+use Rattle.file_paths.specs.Finding.{GoesOnFrom, IsLongerRule, AddsLonger, AddsFirst, before_node, after_node}
 use Rattle.file_paths.proofs.UnitLaws.{IsSpotOf}
 use Rattle.file_paths.proofs.EdgesLaws.{Leaves-from}
 use Rattle.file_paths.proofs.SourceLaws.{source_unit}
 use Rattle.file_paths.proofs.PassableLaws.{unit_walk}
 use Rattle.file_paths.proofs.SinkLaws.{reference_leaves, cut_leaves}
-use Rattle.file_paths.proofs.GrowingLaws.{IsAdding, growing_in, adding_begins, adding_there, adding_more, adding_ends, start_may_go_on}
+use Rattle.file_paths.proofs.GrowingLaws.{IsAdding, growing_in, adding_begins, adding_there, adding_more, adding_ends}
 use Rattle.file_paths.proofs.FirstLaws.{start_walk}
 
 -- to these rules were added those of one edge from a place's spot so far, and these edges are left
@@ -82,9 +82,6 @@ units_end g from left old now h is =
     (λ s at_place. adding_ends g (no_edges (After s)) from left old now (h.adding s at_place) is (λ e walk. cut_leaves g from s e at_place walk))
 
 -- a path without edges goes on from the reference
-pub opened_may_go_on : (g : Graph) (n : ℕ) (p : Rule) → p.start ≡ before_node n → p.edges ≡ [] → IsRuleOf g p → is_reference g.nodes n ≡ true → MayGoOn g p
-opened_may_go_on g n p starts none exact is = start_may_go_on g p exact (subst (λ (s : Start). IsTrue (starts_walks g s)) (sym starts) is) none
-
 pub opened_goes_on : (g : Graph) (n : ℕ) (p : Rule) → p.start ≡ before_node n → p.edges ≡ [] → GoesOnFrom g (walk_of_rule p) (place.At n)
 opened_goes_on g n p starts none =
     subst (λ w. GoesOnFrom g w (place.At n)) (sym (start_walk p (before_node n) starts none)) (λ e walk. reference_leaves g n e walk)

@@ -1,44 +1,29 @@
 -- The rules of one edge more than a rule's, gathered edge by edge by joining.
-use Rattle.std.proofs.Common.{◌≡◌, ◌<◌, ℕ, List, [], ◌∷◌, ◌++◌, map, length, Option, Some, None, IfSome, option_to_list, false, IsTrue, Contains, inl, refl, sym, ap, ◌∙◌, subst, append_assoc, append-nil}
+use Rattle.std.proofs.Common.{◌≡◌, ◌<◌, ℕ, List, [], ◌∷◌, ◌++◌, map, length, Option, Some, None, IfSome, option_to_list, false, Contains, inl, refl, sym, ap, ◌∙◌, subst, append_assoc, append-nil}
 use Rattle.std.specs.List.{AllByRecursion}
 use Rattle.std.proofs.lemmas.List.{map-append}
 use Rattle.graph_nodes.specs.Graph.{Graph}
-use Rattle.graph_nodes.specs.Checked.{IsChecked}
 use Rattle.graph_nodes.specs.Out.{edges_from}
 use Rattle.graph_nodes.specs.declared.node.Place.{Place}
-use Rattle.partial_path.specs.declared.config.Spot.{Spot}
 use Rattle.partial_path.specs.declared.config.EdgeAt.{EdgeAt}
-use Rattle.partial_path.specs.declared.rule.Start.TheVariants.{After}
 use Rattle.partial_path.specs.Rules.{Rule}
 use Rattle.partial_path.specs.Runs.{IsApart}
-use Rattle.partial_path.specs.Walks.{alone, starts_walks, is_cut_spot, IsUncut, IsWalk, Walk, walk_of}
+use Rattle.partial_path.specs.Walks.{alone, IsWalk, Walk}
 use Rattle.partial_path.specs.PathSets.{IsRuleOf, walk_of_rule}
-use Rattle.path_join.specs.Joins.{IsJoin, NonePasses}
-use Rattle.file_paths.specs.Walking.{ends_cut, one_more, no_edges, AreLonger}
+use Rattle.file_paths.specs.Walking.{ends_cut, one_more, AreLonger}
 use Rattle.file_paths.specs.Finding.{MayGoOn, GoesOnFrom, IsLongerRule, AreLongerRules, AddsFound, AddsLonger}
 use Rattle.list_facts.specs.Members.{IsIn}
 use Rattle.list_facts.proofs.Members.{IsIn-append_right, Contains-from_IsIn, IsIn-from_Contains}
 use Rattle.list_facts.proofs.Each.{all_push}
 use Rattle.list_facts.proofs.Apart.{IsApart-last, IsApart-append_left}
 use Rattle.file_paths.proofs.GatherLaws.{AreLongerSoFar, none_tried, tried_none, tried_more, all_tried}
-use Rattle.file_paths.proofs.UnitLaws.{edge_in, IsUnitOf}
+use Rattle.file_paths.proofs.UnitLaws.{edge_in}
 use Rattle.partial_path.proofs.Positions.{IsApart-edges_from}
 use Rattle.file_paths.proofs.EdgesLaws.{edges_from-there}
-use Rattle.file_paths.proofs.PassableLaws.{unit_walk}
-use Rattle.file_paths.proofs.JoinedLaws.{joined_walk_of, joined_is_rule, joined_is_walk, no_walk}
 
 -- a rule that is a walk and doesn't end with a cut edge
 pub walk_may_go_on : (g : Graph) (p : Rule) → IsRuleOf g p → IsWalk g p.start p.edges → ends_cut (alone g) p.edges ≡ false → MayGoOn g p
 walk_may_go_on g p exact walk on = record { exact = exact; begins = walk.begins; uncut = walk.uncut; on = on }
-
--- a rule without edges
-pub start_may_go_on : (g : Graph) (p : Rule) → IsRuleOf g p → IsTrue (starts_walks g p.start) → p.edges ≡ [] → MayGoOn g p
-start_may_go_on g p exact begins none = record {
-  exact = exact;
-  begins = begins;
-  uncut = subst (IsUncut (alone g)) (sym none) tt;
-  on = ap (ends_cut (alone g)) none;
-}
 
 -- of the file's edges these were tried, and these are rules for the walks of one edge more with them
 pub record AreRulesSoFar (g : Graph) (w : Walk) (tried : List ℕ) (longer : List Rule) : Type 0 where
@@ -60,30 +45,6 @@ grown_by g w i j tried longer so new same walk exact = record {
   where
     pushed : map walk_of_rule (longer ++ j ∷ []) ≡ map walk_of_rule longer ++ one_more w (edge_in i) ∷ []
     pushed = map-append walk_of_rule longer (j ∷ []) ∙ ap (λ (v : Walk). map walk_of_rule longer ++ v ∷ []) same
-
--- the edge's rule was joined
-pub grown_more : (g : Graph) (i : ℕ) (s : Spot) (p u j : Rule) (tried : List ℕ) (longer : List Rule) → AreRulesSoFar g (walk_of_rule p) tried longer
-    → ¬ Contains tried i → MayGoOn g p → IsUnitOf g i s u → IsJoin p u j → AreRulesSoFar g (walk_of_rule p) (tried ++ i ∷ []) (longer ++ j ∷ [])
-grown_more g i s p u j tried longer so new may unit join =
-    grown_by g (walk_of_rule p) i j tried longer so new (joined_walk_of g i s p u j unit join)
-    (joined_is_walk g i s p u j may.exact unit join may.begins may.uncut may.on)
-    (joined_is_rule g i s p u j may.exact unit join)
-
--- it can't be
-pub grown_same : (g : Graph) (i : ℕ) (s : Spot) (p u : Rule) (tried : List ℕ) (longer : List Rule) → AreRulesSoFar g (walk_of_rule p) tried longer
-    → MayGoOn g p → IsUnitOf g i s u → NonePasses p u → AreRulesSoFar g (walk_of_rule p) (tried ++ i ∷ []) longer
-grown_same g i s p u tried longer so may unit none = record {
-  walks = tried_none g (walk_of_rule p) tried i (map walk_of_rule longer) so.walks (no_walk g i s p u may.exact unit none);
-  exact = so.exact;
-}
-
--- after a cut spot the edge's rule itself is one of a walk
-pub grown_unit : (g : Graph) (i : ℕ) (s : Spot) (u : Rule) (tried : List ℕ) (longer : List Rule) → AreRulesSoFar g (no_edges (After s)) tried longer
-    → ¬ Contains tried i → IsChecked g → IsTrue (is_cut_spot g s) → IsUnitOf g i s u → AreRulesSoFar g (no_edges (After s)) (tried ++ i ∷ []) (longer ++ u ∷ [])
-grown_unit g i s u tried longer so new checked cut unit =
-    grown_by g (no_edges (After s)) i u tried longer so new (λ n. walk_of (unit.start n) (unit.edges n))
-    (subst (λ (w : Walk). IsWalk g w.start w.edges) (sym (λ n. walk_of (unit.start n) (unit.edges n))) (unit_walk g i s checked unit.leaves cut))
-    unit.exact
 
 -- all edges with which the walk may go on were tried
 pub grown_all : (g : Graph) (w : Walk) (tried : List ℕ) (longer : List Rule) → AreRulesSoFar g w tried longer

@@ -82,10 +82,6 @@ module _ (g : Graph) (i : ℕ) (s : Spot) (p u j : Rule) (rule : IsRuleOf g p) (
       is : j.edges ≡ p.edges ++ edge_in i ∷ []
       is = joined_edges g i s p u j unit join
 
--- a rule that some configuration passes runs there
-pub rule_runs : (g : Graph) (j : Rule) → IsRuleOf g j → (c : Config) × IsSome (apply j c) → (c : Config) × IsSome (run_from (alone g) j.start j.edges c)
-rule_runs g j rule passed = (passed.0, subst (λ (o : Option Config). IsSome o) (rule.applies passed.0) passed.1)
-
 -- where no configuration passes both, none runs the edge more
 pub none_runs : (g : Graph) (i : ℕ) (s : Spot) (p u : Rule) → IsRuleOf g p → IsUnitOf g i s u → NonePasses p u → (c : Config)
     → run_from (alone g) p.start (p.edges ++ edge_in i ∷ []) c ≡ None

@@ -1,10 +1,9 @@
--- Which edges a walk can go on with: those that leave the spot where its rule ends.
+-- Which edges a walk can go on with: those that leave the spot where the walk before them ends.
 use Rattle.std.proofs.Common.{◌≡◌, ℕ, zero, suc, List, [], ◌∷◌, ◌++◌, Option, Some, None, IsSome, refl, sym, ap, ◌∙◌, subst, if◌then◌else◌, Bool, true, false, slice_get, eqb, eqb-true}
 use Rattle.std.specs.Option.{option_and_then}
 use Rattle.std.proofs.lemmas.Option.{none-some, same_Some, option_and_then_some}
 use Rattle.std.proofs.lemmas.Bool.{false≢true, and_parts}
 use Rattle.stacks_vars.specs.declared.scopes.NodeAt.{NodeAt}
-use Rattle.stacks_vars.specs.declared.stacks.Stacks.{Stacks}
 use Rattle.graph_nodes.specs.Graph.{Graph}
 use Rattle.graph_nodes.specs.Whole.{edge_of}
 use Rattle.graph_nodes.specs.declared.node.Edge.{Edge}
@@ -16,16 +15,11 @@ use Rattle.partial_path.specs.declared.config.Config.{Config}
 use Rattle.partial_path.specs.declared.config.EdgeAt.{EdgeAt}
 use Rattle.partial_path.specs.declared.rule.Start.{Start}
 use Rattle.partial_path.specs.declared.rule.Start.TheVariants.{After}
-use Rattle.partial_path.specs.declared.rule.End.{End}
-use Rattle.partial_path.specs.declared.rule.End.TheVariants as end
 use Rattle.partial_path.specs.Spots.{node_at}
 use Rattle.partial_path.specs.Same.{spot_eq}
 use Rattle.partial_path.specs.Step.{step, follow, stands_at, enter_place}
 use Rattle.partial_path.specs.Runs.{run}
-use Rattle.partial_path.specs.Rules.{Rule, start_spot}
-use Rattle.partial_path.specs.Apply.{apply, rewrite, end_at}
 use Rattle.partial_path.specs.Walks.{alone, run_from, IsWalk}
-use Rattle.partial_path.specs.PathSets.{IsRuleOf}
 use Rattle.partial_path.proofs.Followed.{if_some}
 use Rattle.partial_path.proofs.RunsOn.{run_from-append, run_one}
 use Rattle.file_paths.proofs.UnitLaws.{edge_in, IsSpotOf, Leaves}
@@ -85,22 +79,6 @@ walk_leaves g start es e walk =
     (subst (λ (o : Option Config). IsSome o) (run_from-append (alone g) start es (e ∷ []) c) walk.runs.1) in
     let next = made_of (step (alone g) over.0 e) over.2 in
     (c, over.0, over.1, step_leaves g over.0 next.0 e next.1)
-
-spot_of_end : (s : Spot) (stacks : Stacks) (d : Config) → end_at (end.At s) stacks ≡ Some d → d.spot ≡ s
-spot_of_end s stacks d h = ap (λ (x : Config). x.spot) (sym (same_Some (record { spot = s; stacks = stacks }) d h))
-
--- what a path makes that ends at a spot stands there
-pub apply_ends : (p : Rule) (s : Spot) (c d : Config) → p.end ≡ end.At s → apply p c ≡ Some d → d.spot ≡ s
-apply_ends p s c d is h =
-    option_and_then_some (end_at p.end) (rewrite p.pre p.post c.stacks) d
-    (if_some (spot_eq (start_spot p.start) c.spot) (option_and_then (end_at p.end) (rewrite p.pre p.post c.stacks)) d h).1
-    (λ stacks there at. spot_of_end s stacks d (subst (λ (x : End). end_at x stacks ≡ Some d) is at))
-
--- the walks of one edge more than a rule's go on with edges that leave the spot where it ends
-pub next_leaves : (g : Graph) (p : Rule) (s : Spot) (e : EdgeAt) → IsRuleOf g p → p.end ≡ end.At s → IsWalk g p.start (p.edges ++ e ∷ []) → LeavesBy g s e
-next_leaves g p s e rule is walk =
-    let at = walk_leaves g p.start p.edges e walk in
-    subst (λ (x : Spot). LeavesBy g x e) (apply_ends p s at.0 at.1 is (rule.applies at.0 ∙ at.2)) at.3
 
 begun_at : (b : Bool) (c d : Config) → option_and_then (λ (first : Config). Some first) (if b then Some c else None) ≡ Some d → (b ≡ true) × (c ≡ d)
 begun_at true c d h = (refl, same_Some c d h)

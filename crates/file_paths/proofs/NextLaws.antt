@@ -139,13 +139,3 @@ unit_short limit i u low has = record {
 
     two : (n : ℕ) → n ≤ 1 → n ≤ 1 + 1
     two n h = omega arith
-
--- and one without edges
-pub opened_short : (limit : ℕ) (p : Rule) → p.peak ≤ 1 → p.edges ≡ [] → IsShort limit p
-opened_short limit p low none = record {
-  edges = subst (λ (es : List EdgeAt). length es ≤ limit) (sym none) (least limit);
-  peak = subst (λ (es : List EdgeAt). p.peak ≤ length es + 1) (sym none) low;
-}
-  where
-    least : (n : ℕ) → 0 ≤ n
-    least n = omega arith

@@ -67,9 +67,6 @@ walk_same a b h k = λ i. record { start = h i; edges = k i }
 pub goes_on_itself : (w : Walk) → GoesOn w w
 goes_on_itself w = (refl, ([], sym (append-nil w.edges)))
 
-pub goes_on_equal : (w o : Walk) → w ≡ o → GoesOn w o
-goes_on_equal w o e = subst (GoesOn w) e (goes_on_itself w)
-
 pub goes_on_on : (a b c : Walk) → GoesOn a b → GoesOn b c → GoesOn a c
 goes_on_on a b c h k = (
   h.0 ∙ k.0,

@@ -106,7 +106,8 @@ fn find(alloc: Global, graph: &FileGraph, steps: &mut u64) -> Result<Found, Path
 /// Counts the path, the last of those begun, and keeps it where it lands; its longer ones are begun beside it then.
 /// Else, where one edge alone leads on, the path is made longer where it lies and the same is done again; where
 /// several do, those of one edge more are begun. The error is `Heavy` where the weight comes to exceed
-/// `MAX_WEIGHT`, and else want of memory. An edge that alone leads on costs neither a copy nor a move of the path.
+/// `MAX_WEIGHT`, and else want of memory. An edge that alone leads on costs what `extend_in_place` costs: the path
+/// isn't put back among those begun.
 fn follow(
     alloc: Global,
     graph: &FileGraph,

@@ -1,4 +1,4 @@
--- The path is the last of those begun. Where one edge alone leads on, it is the only one that is begun for it, or none is.
+-- The path is the last of those begun. Where one edge alone leads on, what it becomes is begun in its place, or nothing is.
 use Rattle.std.proofs.Common.{◌+◌, [], ◌∷◌, ◌++◌, length, refl, sym, ◌∙◌, subst, arith}
 use Rattle.partial_path.specs.Rules.{Rule, IsRule}
 use Rattle.partial_path.specs.Walks.{IsWalk}
