@@ -1,10 +1,9 @@
 -- The work on documents, which may be done ahead of its use; no public clause cites this.
-use Rattle.std.specs.Prelude.{◌≡◌, ◌≤◌, ◌<◌, ℕ, List, length, Some, IfOk, IfErr, IfSome, slice_get, slice_index_or}
+use Rattle.std.specs.Prelude.{◌≤◌, ℕ, IfOk, IfErr}
 use Rattle.file_paths.specs.Finds.{AddsWalks}
 use Rattle.path_store.specs.Documents.{Doc}
 use Rattle.path_store.specs.Store.{kept_of}
 use Rattle.index_gate.specs.declared.working.Done.{Done}
-use Rattle.index_gate.specs.declared.ahead.Slot.{Slot}
 use Rattle.index_gate.specs.Indexed.{IsIndexed, IsDocWeight}
 use Rattle.index_gate.specs.Reading.{HasNone}
 
@@ -16,10 +15,7 @@ pub record IsDone (doc : Doc) (done : Done) : Type 0 where
   pub fault : IfErr done.found (HasNone doc)
   pub few : (weight : ℕ) → IsDocWeight doc weight → done.walks ≤ weight
 
--- what stands in a slot came of the work on the document at its place
-abbrev pub IsSlotOf : List Doc → Slot → Type 0
-IsSlotOf docs slot = IfSome slot.done (λ done. (doc : Doc) × (slice_get docs slot.place ≡ Some doc) × IsDone doc done)
-
--- the same of each of the slots
-abbrev pub AreSlotsOf : List Doc → List Slot → Type 0
-AreSlotsOf docs slots = (i : ℕ) (other : Slot) → i < length slots → IsSlotOf docs (slice_index_or slots i other)
+-- a document, and what came of the work on it
+pub record Work : Type 0 where
+  pub doc : Doc
+  pub done : Done

@@ -1,7 +1,6 @@
 //! Documents that are worked on ahead, several at once.
-ghost use Rattle.std.specs.Prelude.{◌≡◌, ◌<◌, ◌≤◌, ℕ, length, IfOk, IfSome, IsTrue, slice_index_or};
-ghost use Rattle.index_gate.specs.Ahead.{IsDone, IsSlotOf, AreSlotsOf};
-ghost use Rattle.index_gate.specs.declared.ahead.Slot.{Slot};
+ghost use Rattle.std.specs.Prelude.{◌≡◌, ◌<◌, IfSome, IsTrue};
+ghost use Rattle.index_gate.specs.Ahead.{IsDone};
 
 use crate::working::{Done, work};
 use nav_io::Gate;
@@ -9,47 +8,64 @@ use path_store::{Document, PathStore, threads_for};
 use std::alloc::{AllocError, Global};
 use std::collections::HashMap;
 use std::marker::Model;
+use std::sync::atomic::{AtomicU64, Ordering};
 use std::thread;
 use std::thread::Threads;
 
-/// For how many documents a thread asks for room at once, and about how many bytes one of a few kilobytes takes.
+/// For how many documents a thread asks for room at once.
 const AT_ONCE: usize = 64;
 
+/// About how many bytes a document of a few kilobytes takes once it is indexed.
 const ROOM_OF_ONE: usize = 256 * 1_024;
 
-/// The document at a place, the number of its job, and what came of the work on it, once it was done.
+/// A document, and what came of the work on it.
 #[derive(Drop)]
-pub struct Slot {
-    pub place: usize,
-    pub job: usize,
-    pub done: Option<Done>,
+pub struct Worked<'a> {
+    doc: &'a Document,
+    done: Done,
+}
+
+impl<'a> Model for Worked<'a> {
+    ghost use Rattle.index_gate.specs.Ahead.{Work, IsDone};
+
+    ghost Value = { Work };
+
+    ghost view = { λ w. record { doc = w.doc.now; done = w.done } };
+
+    ghost invariant = { λ w. IsDone w.doc.now w.done };
+}
+
+impl<'a> Worked<'a> {
+    ghost use Rattle.std.specs.Prelude.{IfSome};
+    ghost use Rattle.index_gate.specs.Ahead.{IsDone};
+
+    /// What came of the work, where it was on this document.
+    fn on(&self, doc: &Document) -> Option<&Done>
+        ensures { IfSome result (λ done. IsDone doc.now done.now) }
+    {
+        if is_same(self.doc, doc) {
+            Some(&self.done)
+        } else {
+            None
+        }
+    }
 }
 
 /// Documents of a list that were worked on ahead.
 #[derive(Drop)]
 pub struct Ahead<'a> {
-    docs: &'a [Document],
-    slots: Vec<Slot>,
-    /// The place of a document's slot, by its digest.
-    places: HashMap<[u8; 32], usize>,
-}
-
-impl<'a> Model for Ahead<'a> {
-    ghost use Rattle.std.specs.Prelude.{List};
-    ghost use Rattle.index_gate.specs.Ahead.{AreSlotsOf};
-    ghost use Rattle.index_gate.specs.declared.ahead.Slot.{Slot};
-
-    ghost Value = { List Slot };
-
-    ghost view = { λ a. a.slots.items };
-
-    ghost invariant = { λ a. AreSlotsOf a.docs.now a.slots.items };
+    /// Those of each thread.
+    hands: Vec<Vec<Worked<'a>>>,
+    /// By a document's digest, which thread's it is and its place among these.
+    places: HashMap<[u8; 32], (usize, usize)>,
 }
 
 impl<'a> Ahead<'a> {
     /// Works on each document that the store doesn't keep, once, as a job between `enter` and `leave` of the gate, whose
-    /// number is its place among these. They are worked on by as many threads as `threads_for` says; where a thread can't
-    /// be made, the caller does its work. A single document is left to the caller. The one error is want of memory.
+    /// number is its place among these. They are worked on by as many threads as `threads_for` says, each of which takes
+    /// the next one that is left, so that none waits for a thread that begins late; where a thread can't be made, the
+    /// caller does its work. A single document is left to the caller, and so is one for whose answer there was no room.
+    /// The one error is want of memory.
     pub fn of<R: Threads + Sync, G: Gate + Sync>(
         rt: &R,
         alloc: Global,
@@ -59,66 +75,55 @@ impl<'a> Ahead<'a> {
     ) -> Result<Ahead<'a>, AllocError> {
         let mut places = HashMap::new(alloc);
         let wanted = wanted_in(alloc, docs, store, &mut places)?;
-        let threads = threads_for(rt, wanted.len());
-        let mut slots = dealt(alloc, &wanted, threads)?;
-        fill(rt, alloc, docs, gate, threads, &mut slots);
-        for i in 0..slots.len() {
-            if let Some(doc) = docs.get(slots[i].place) {
-                places.insert(*doc.digest(), i)?;
-            }
+        let hands = share_out(rt, alloc, wanted.as_slice(), gate)?;
+        for i in 0..hands.len() {
+            place_all(hands[i].as_slice(), i, &mut places)?;
         }
-        Ok(Ahead {
-            docs,
-            slots,
-            places,
-        })
+        Ok(Ahead { hands, places })
     }
 
     /// What came of the work on the document, where it was worked on.
-    #[tactic(auto, using(crate::proofs::Slots::slot_there))]
     pub fn find(&self, doc: &Document) -> Option<&Done>
         ensures { IfSome result (λ done. IsDone doc.now done.now) }
     {
-        let place = *self.places.get(doc.digest())?;
-        done_of(self.docs, self.slots.get(place)?, doc)
+        let (hand, place) = *self.places.get(doc.digest())?;
+        self.hands.get(hand)?.get(place)?.on(doc)
     }
 }
 
-/// What stands in the slot, where it is of this document.
-#[tactic(auto, using(crate::proofs::Slots::done_there))]
-fn done_of<'b>(docs: &[Document], slot: &'b Slot, doc: &Document) -> Option<&'b Done>
-    requires { IsSlotOf docs.now slot.now }
-    ensures { IfSome result (λ done. IsDone doc.now done.now) }
-{
-    let other = docs.get(slot.place)?;
-    if is_same(other, doc) {
-        slot.done.as_ref()
-    } else {
-        None
+/// Notes where the documents of a thread stand.
+fn place_all(
+    hand: &[Worked],
+    number: usize,
+    places: &mut HashMap<[u8; 32], (usize, usize)>,
+) -> Result<(), AllocError> {
+    for i in 0..hand.len() {
+        let one = &hand[i];
+        places.insert(*one.doc.digest(), (number, i))?;
     }
+    Ok(())
 }
 
 /// Whether the two documents have one path and the same bytes.
-#[tactic(auto, using(crate::proofs::Slots::same_is))]
+#[tactic(auto, using(crate::proofs::Same::same_is))]
 fn is_same(a: &Document, b: &Document) -> bool
     ensures { IsTrue result → a.now ≡ b.now }
 {
     a.path() == b.path() && a.bytes() == b.bytes()
 }
 
-/// The places of the documents that the store doesn't keep, each document's once, by its digest; none of a single one.
-fn wanted_in(
+/// The documents that the store doesn't keep, each once, by its digest; none where there is but a single one.
+fn wanted_in<'a>(
     alloc: Global,
-    docs: &[Document],
+    docs: &'a [Document],
     store: &PathStore,
-    seen: &mut HashMap<[u8; 32], usize>,
-) -> Result<Vec<usize>, AllocError> {
+    seen: &mut HashMap<[u8; 32], (usize, usize)>,
+) -> Result<Vec<&'a Document>, AllocError> {
     let mut wanted = Vec::new(alloc);
-    for place in 0..docs.len() {
-        let doc = &docs[place];
+    for doc in docs {
         if store.find(doc).is_none() && !seen.contains_key(doc.digest()) {
-            seen.insert(*doc.digest(), place)?;
-            wanted.push(place)?;
+            seen.insert(*doc.digest(), (0, 0))?;
+            wanted.push(doc)?;
         }
     }
     if wanted.len() < 2 {
@@ -127,75 +132,64 @@ fn wanted_in(
     Ok(wanted)
 }
 
-/// Slots for the documents at these places, dealt out so that each thread, which takes slots that stand side by side,
-/// gets jobs from all over the list.
-fn dealt(alloc: Global, wanted: &[usize], threads: usize) -> Result<Vec<Slot>, AllocError>
-    requires { 0 < threads }
-{
-    let mut slots = Vec::with_capacity(alloc, wanted.len())?;
-    for first in 0..threads {
-        deal(wanted, threads, first, &mut slots)?;
-    }
-    Ok(slots)
-}
-
-/// Puts the jobs of one thread last.
-fn deal(
-    wanted: &[usize],
-    threads: usize,
-    first: usize,
-    slots: &mut Vec<Slot>,
-) -> Result<(), AllocError>
-    requires { 0 < threads }
-{
-    for job in 0..wanted.len() {
-        if job % threads == first {
-            let place = wanted[job];
-            slots.push(Slot {
-                place,
-                job,
-                done: None,
-            })?;
-        }
-    }
-    Ok(())
-}
-
-/// Works on the documents of all slots, on several threads where they can be made.
-fn fill<R: Threads + Sync, G: Gate + Sync>(
+/// Works on the documents, on several threads where they can be made: those that each thread took, with what came of them.
+fn share_out<'a, R: Threads + Sync, G: Gate + Sync>(
     rt: &R,
     alloc: Global,
-    docs: &[Document],
+    wanted: &[&'a Document],
     gate: &G,
-    threads: usize,
-    slots: &mut [Slot],
-)
-    requires { 0 < threads }
-    ensures { AreSlotsOf docs.now slots.new }
-{
-    let share = slots.len() / threads;
+) -> Result<Vec<Vec<Worked<'a>>>, AllocError> {
+    let threads = threads_for(rt, wanted.len());
+    let mut hands = Vec::with_capacity(alloc, threads)?;
+    for _ in 0..threads {
+        hands.push(Vec::new(alloc))?;
+    }
     if threads > 1 {
         ask_for(alloc, AT_ONCE);
     }
+    let next = AtomicU64::new(0);
     thread::for_each_mut(
         rt,
-        slots,
+        hands.as_mut_slice(),
         threads,
-        &|_, slot| {
-            make_room(alloc, threads, share, slot.job);
-            fill_one(alloc, docs, gate, slot)
-        },
+        &|_, hand| take_all(alloc, wanted, gate, threads, &next, hand),
     );
+    Ok(hands)
 }
 
-/// Before a thread's first job, and then before each one so many later, asks for the room of the next ones. The C library
-/// makes a thread's heap larger by a call of the system for each few pages that it lacks, and such a call holds up the
-/// other threads; thus it makes one for many documents.
-fn make_room(alloc: Global, threads: usize, share: usize, job: usize)
+/// Takes the next document that is left and works on it, and so on until none is left, or there is no room for an answer.
+fn take_all<'a, G: Gate>(
+    alloc: Global,
+    wanted: &[&'a Document],
+    gate: &G,
+    threads: usize,
+    next: &AtomicU64,
+    hand: &mut Vec<Worked<'a>>,
+)
     requires { 0 < threads }
 {
-    if threads > 1 && job / threads % AT_ONCE == 0 {
-        ask_for(alloc, share);
+    for _ in 0..wanted.len() {
+        let job = next.fetch_add(1, Ordering::SeqCst) as usize;
+        if job >= wanted.len() {
+            return;
+        }
+        make_room(alloc, threads, wanted.len() - job, hand.len());
+        let doc = wanted[job];
+        let done = work(alloc, doc, job, gate);
+        if hand.push(Worked { doc, done }).is_err() {
+            return;
+        }
+    }
+}
+
+/// Before a thread's first document, and then before each one so many later, asks for the room of the next ones, of so
+/// many that are left to all threads. The C library makes a thread's heap larger by a call of the system for each few pages
+/// that it lacks, and such a call holds up the other threads; thus it makes one for many documents.
+fn make_room(alloc: Global, threads: usize, left: usize, taken: usize)
+    requires { 0 < threads }
+{
+    if threads > 1 && taken % AT_ONCE == 0 {
+        ask_for(alloc, left / threads + 1);
     }
 }
 
@@ -203,14 +197,4 @@ fn make_room(alloc: Global, threads: usize, share: usize, job: usize)
 /// From a thread's heap the C library takes a large block only where a larger one was given back before.
 fn ask_for(alloc: Global, documents: usize) {
     let _ = Vec::<u8>::with_capacity(alloc, documents.min(AT_ONCE) * ROOM_OF_ONE);
-}
-
-/// Works on the document of a slot.
-fn fill_one<G: Gate>(alloc: Global, docs: &[Document], gate: &G, slot: &mut Slot)
-    ensures { IsSlotOf docs.now slot.new }
-{
-    slot.done = match docs.get(slot.place) {
-        Some(doc) => Some(work(alloc, doc, slot.job, gate)),
-        None => None,
-    };
 }
