@@ -10,7 +10,10 @@ usage: bench/graphs.py [PROGRAM]     (crates/aux_bench/out/aux_bench, as bench/g
 Walks are timed without the reading of the graph: the time of `read` is taken off that of `walk`. Documents
 are timed through the call that indexes them, over a store that keeps none of them and over one that keeps all. Documents a
 second are timed up to the line that tells how many there are, the middle ones of several rounds, on one processor and on all
-by turns: a server keeps what was indexed, so that the freeing of it isn't waited for.
+by turns: a server keeps what was indexed, so that the freeing of it isn't waited for. Beside them stands how many times as much
+plain counting all processors do as one, in the same rounds. What one module costs is timed up to
+that line too. Its reading, graph and paths are each made and freed again so many times, so their freeing counts; what stands
+beside them is all that indexing takes besides, less the freeing of the graph and the paths, which it keeps.
 Memory is to follow the number of paths, and not the length of the name but for the text itself.
 """
 
@@ -21,7 +24,7 @@ import sys
 import time
 import timeit
 
-from measure import least_memory
+from measure import at_once, least_memory
 
 PROGRAM = sys.argv[1] if len(sys.argv) > 1 else "crates/aux_bench/out/aux_bench"
 DOCUMENTS = 1_000
@@ -106,16 +109,9 @@ def documents_a_second(case, text, alone):
     return DOCUMENTS / (told_after(case, DOCUMENTS, text, alone) - told_after(case, 0, text, alone))
 
 
-def took_once(case, times):
-    """The seconds that the case takes for the module on one processor."""
-    start = time.perf_counter()
-    answer(case, times, MODULE, True)
-    return time.perf_counter() - start
-
-
 def split_once():
     """The seconds that one module's reading, graph, paths and keeping take on one processor, and CPython's `compile`."""
-    took = [(took_once(case, 1 + SPLIT) - took_once(case, 1)) / SPLIT for case in ("parse", "translate", "found", "modules")]
+    took = [(told_after(case, 1 + SPLIT, MODULE, True) - told_after(case, 1, MODULE, True)) / SPLIT for case in ("parse", "translate", "found", "modules")]
     compiled = min(timeit.repeat(lambda: compile(MODULE, "module.py", "exec"), number=50, repeat=3)) / 50
     return [took[0]] + [later - earlier for earlier, later in zip(took, took[1:])] + [took[-1], took[-1] / compiled]
 
@@ -137,11 +133,11 @@ def main():
         print(f"{line}, {(found - read) / read:8.2f} times the reading of the file")
     text, _ = groups(100)
     for name, case, document in [("such files", "index", text), ("Python modules", "modules", MODULE)]:
-        rounds = [[documents_a_second(case, document, alone) for alone in (True, False)] for _ in range(ROUNDS)]
-        one, many, times = (sorted(column)[ROUNDS // 2] for column in zip(*((one, many, many / one) for one, many in rounds)))
+        rounds = [[documents_a_second(case, document, alone) for alone in (True, False)] + [at_once()] for _ in range(ROUNDS)]
+        one, many, times, counting = (sorted(column)[ROUNDS // 2] for column in zip(*((one, many, many / one, c) for one, many, c in rounds)))
         name = f"{DOCUMENTS:,} {name} of {len(document):,} bytes"
         processors = len(os.sched_getaffinity(0))
-        print(f"{name:40} {one:8,.0f} documents/s on one processor, {many:8,.0f} on {processors}, {times:.1f} times as many")
+        print(f"{name:40} {one:8,.0f} documents/s on one processor, {many:8,.0f} on {processors}, {times:.1f} times as many; plain counting {counting:.1f} times")
     split()
     none = seconds("index", 0, text)
     first = seconds("index", DOCUMENTS, text) - none

@@ -1,9 +1,13 @@
 """What the scripts of this folder measure alike."""
 
+import os
 import resource
 import subprocess
+import sys
+import time
 
 STEP = 16_384
+COUNTING = "for _ in range(4_000_000): pass"
 
 
 def answer_within(command, data, steps=None):
@@ -35,3 +39,18 @@ def least_memory(command, data):
         else:
             without = middle
     return within * STEP / 1e6
+
+
+def counted(processes):
+    """The seconds that so many processes take that only count, at once."""
+    start = time.perf_counter()
+    for process in [subprocess.Popen([sys.executable, "-c", COUNTING]) for _ in range(processes)]:
+        process.wait()
+    return time.perf_counter() - start
+
+
+def at_once():
+    """How many times as much all processors do as one does, of work that shares nothing: less than their number where others
+    use the machine too."""
+    processors = len(os.sched_getaffinity(0))
+    return processors * counted(1) / counted(processors)

@@ -9,7 +9,8 @@ columns are: the commits of all files, 64 in each; the commit of one file that c
 the one of the smallest tree; definitions asked at one version with all lines sent at once, a second, of one file after
 the other and then of one file alone, and beside these how often one costs what it costs in the smallest tree; who refers
 to a definition, asked first and again at one version; and the program's memory at the end. Below stand the documents a
-second of a project's first commits, the middle ones of several rounds.
+second of a project's first commits, the middle ones of several rounds, and how many times as much plain counting all
+processors do as one, in the same rounds.
 """
 
 import json
@@ -20,6 +21,7 @@ import threading
 import time
 
 from graphs import MODULE
+from measure import at_once
 
 PROGRAM = sys.argv[1] if len(sys.argv) > 1 else "crates/navd/out/navd"
 FILES = (64, 512, 2_048)
@@ -148,10 +150,10 @@ def main():
         least = least or (one_file, spread, alone)
         print(f"{files:5}   {all_files:8.3f} s   {one_file * 1e3:7.2f} ms   {one_file / least[0]:5.2f}   {1 / spread:8,.0f}   {spread / least[1]:5.2f}   "
               f"{1 / alone:9,.0f}     {alone / least[2]:5.2f}   {first * 1e3:7.2f} ms   {again * 1e3:7.2f} ms   {memory:6.1f} MB")
-    rounds = [(modules_a_second(True), modules_a_second(False)) for _ in range(ROUNDS)]
-    one, many, times = (sorted(column)[ROUNDS // 2] for column in zip(*((one, many, many / one) for one, many in rounds)))
+    rounds = [(modules_a_second(True), modules_a_second(False), at_once()) for _ in range(ROUNDS)]
+    one, many, times, counting = (sorted(column)[ROUNDS // 2] for column in zip(*((one, many, many / one, c) for one, many, c in rounds)))
     processors = len(os.sched_getaffinity(0))
-    print(f"{MODULES} modules of {len(MODULE):,} bytes: {one:,.0f} documents/s on one processor, {many:,.0f} on {processors}, {times:.1f} times as many")
+    print(f"{MODULES} modules of {len(MODULE):,} bytes: {one:,.0f} documents/s on one processor, {many:,.0f} on {processors}, {times:.1f} times as many; plain counting {counting:.1f} times")
 
 
 if __name__ == "__main__":
