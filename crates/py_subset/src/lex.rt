@@ -1,6 +1,6 @@
 //! The tokens of a text.
 
-ghost use Rattle.std.specs.Prelude.{◌≡◌, ◌+◌, ◌^◌, ◌<◌, ◌≤◌, length, take, drop};
+ghost use Rattle.std.specs.Prelude.{◌≡◌, ◌+◌, ◌^◌, ◌<◌, ◌≤◌, length, take, drop, IfOk};
 ghost use Rattle.py_subset.specs.Pieces as pieces;
 ghost use Rattle.py_subset.specs.Layout as spec;
 
@@ -9,19 +9,23 @@ use crate::piece::{Piece, PieceKind, piece_at};
 use crate::reading::{Place, Reading};
 use crate::token::PyFault;
 use crate::token_list::Tokens;
-use std::alloc::Global;
+use std::alloc::{AllocError, Global};
 
-/// Before the first line.
-fn start(alloc: Global) -> Reading
-    ensures { result ≡ spec.start }
+/// For how many bytes of a text room for one token is made at once. A text with more tokens than that takes
+/// more room as they come.
+const BYTES_A_TOKEN: usize = 4;
+
+/// Before the first line of a text of this many bytes; the one error is want of memory.
+fn start(alloc: Global, bytes: usize) -> Result<Reading, AllocError>
+    ensures { IfOk result (λ r. r ≡ spec.start) }
 {
-    Reading {
-        tokens: Tokens::new(alloc),
+    Ok(Reading {
+        tokens: Items::with_capacity(alloc, bytes / BYTES_A_TOKEN)?,
         blocks: Items::new(alloc),
         brackets: Items::new(alloc),
         fresh: true,
         tab: false,
-    }
+    })
 }
 
 /// The place after a piece of this kind and length.
@@ -74,12 +78,13 @@ pub fn end_line(text: &[u8]) -> u32
     text.iter().filter(|b| **b == b'\n').count() as u32
 }
 
-/// The tokens of a text of fewer than 2^32 bytes, without the end of the text, or its first fault.
+/// The tokens of a text of fewer than 2^32 bytes, without the end of the text, or its first fault. It takes time
+/// and memory that follow the length of the text.
 pub fn tokens(alloc: Global, text: &[u8]) -> Result<Tokens, PyFault>
     requires { length text.now < 2 ^ 32 }
     ensures { spec.Reads result (spec.tokens_of text.now) }
 {
-    let mut reading = start(alloc);
+    let mut reading = start(alloc, text.len())?;
     let mut place = Place { line: 0, column: 0 };
     let mut at = 0;
     while at < text.len() {
@@ -90,5 +95,5 @@ pub fn tokens(alloc: Global, text: &[u8]) -> Result<Tokens, PyFault>
         at += piece.len;
     }
     reading.finish(alloc, end_line(text))?;
-    Ok(reading.tokens)
+    Ok(Tokens::of(reading.tokens))
 }

@@ -4,9 +4,9 @@ ghost use Rattle.std.specs.Prelude.{◌≡◌, ◌+◌, ◌^◌, ◌<◌, ◌++�
 ghost use Rattle.std.specs.Str.{IsAscii};
 ghost use Rattle.py_subset.specs.Layout as spec;
 
+use crate::items::Items;
 use crate::reading::Place;
 use crate::token::{Mark, Token};
-use crate::token_list::Tokens;
 use crate::tree::{PyText, Word};
 use std::alloc::{AllocError, Global};
 
@@ -44,7 +44,12 @@ pub fn name_token(alloc: Global, name: &[u8], place: Place) -> Result<Token, All
 }
 
 /// Adds this many `Dedent`.
-pub fn dedents(alloc: Global, tokens: &mut Tokens, n: usize, line: u32) -> Result<(), AllocError>
+pub fn dedents(
+    alloc: Global,
+    tokens: &mut Items<Token>,
+    n: usize,
+    line: u32,
+) -> Result<(), AllocError>
     ensures { OnOk result (tokens.new ≡ tokens.old ++ replicate n (spec.token Mark.Dedent line)) }
 {
     for i in 0..n {

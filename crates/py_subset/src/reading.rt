@@ -6,7 +6,6 @@ ghost use Rattle.py_subset.specs.Layout as spec;
 use crate::items::Items;
 use crate::piece::Bracket;
 use crate::token::{Mark, PyFault, Token};
-use crate::token_list::Tokens;
 use crate::tree::{PyText, Word};
 use std::alloc::{AllocError, Global};
 
@@ -21,7 +20,7 @@ pub struct Place {
 #[derive(Drop)]
 pub struct Reading {
     /// The tokens so far.
-    pub tokens: Tokens,
+    pub tokens: Items<Token>,
     /// The columns of the open blocks, the innermost last.
     pub blocks: Items<u32>,
     /// The open brackets, the innermost last.

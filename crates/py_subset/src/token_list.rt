@@ -1,12 +1,10 @@
 //! The tokens that are left to read.
 
-ghost use Rattle.std.specs.Prelude.{◌≡◌, [], ◌∷◌, ◌++◌, OnOk};
-
+use crate::items::Items;
 use crate::mark::same;
 use crate::token::{Mark, Token};
 use crate::tree::Word;
-use std::alloc::{AllocError, Global};
-use std::collections::VecDeque;
+use std::alloc::AllocError;
 use std::marker::Model;
 
 /// Why a rule of the grammar stops.
@@ -32,54 +30,47 @@ impl From<AllocError> for Stop {
 /// Tokens in order, taken from the front. Contracts see them as a list.
 #[derive(Drop)]
 pub struct Tokens {
-    left: VecDeque<Token>,
+    /// The tokens that are left, the next one last.
+    turned: Vec<Token>,
 }
 
 impl Model for Tokens {
-    ghost use Rattle.std.specs.Prelude.{List};
+    ghost use Rattle.std.specs.Prelude.{List, reverse};
     ghost use Rattle.py_subset.specs.declared.token.Token.{Token};
 
     ghost Value = { List Token };
 
-    ghost view = { λ t. t.left.items };
+    ghost view = { λ t. reverse t.turned.items };
 }
 
 impl Tokens {
-    ghost use Rattle.std.specs.Prelude.{◌≡◌, [], ◌∷◌, ◌++◌, length, OnOk};
+    ghost use Rattle.std.specs.Prelude.{◌≡◌, length};
     ghost use Rattle.py_subset.specs.Marks as marks;
     ghost use Rattle.py_subset.specs.Language as language;
     ghost use Rattle.py_subset.specs.Parsers as parsers;
     ghost use Rattle.py_subset.specs.Refusals as refusals;
 
-    /// No tokens.
-    pub(crate) fn new(alloc: Global) -> Tokens
-        ensures { result ≡ [] }
+    /// The tokens of this list, in its order. It takes time that follows their number, and no memory.
+    pub(crate) fn of(tokens: Items<Token>) -> Tokens
+        ensures { result ≡ tokens }
     {
-        Tokens {
-            left: VecDeque::new(alloc),
-        }
-    }
-
-    /// Puts a token at the end.
-    pub(crate) fn push(&mut self, token: Token) -> Result<(), AllocError>
-        ensures { OnOk result (self.new ≡ self.old ++ token ∷ []) }
-    {
-        self.left.push_back(token)?;
-        Ok(())
+        let mut turned = tokens.into_items();
+        turned.reverse();
+        Tokens { turned }
     }
 
     /// How many tokens there are.
     pub(crate) fn len(&self) -> usize
         ensures { result ≡ length self.now }
     {
-        self.left.len()
+        self.turned.len()
     }
 
     /// The line of the next token, or this one where there is none.
     pub(crate) fn line_or(&self, end: u32) -> u32
         ensures { result ≡ refusals.line_or end self.now }
     {
-        match self.left.front() {
+        match self.turned.last() {
             Some(token) => token.word.line,
             None => end,
         }
@@ -89,7 +80,7 @@ impl Tokens {
     pub(crate) fn peek(&self) -> Mark
         ensures { result ≡ language.next self.now }
     {
-        match self.left.front() {
+        match self.turned.last() {
             Some(token) => token.mark,
             None => Mark::End,
         }
@@ -106,7 +97,7 @@ impl Tokens {
     pub(crate) fn pass(&mut self)
         ensures { self.new ≡ parsers.rest self.old }
     {
-        let _ = self.left.pop_front();
+        let _ = self.turned.pop();
     }
 
     /// Takes a token with this mark.
@@ -128,7 +119,7 @@ impl Tokens {
         if !self.sees(Mark::Name) {
             return Err(Stop::Refused);
         }
-        match self.left.pop_front() {
+        match self.turned.pop() {
             Some(token) => Ok(token.word),
             None => Err(Stop::Refused),
         }

@@ -11,10 +11,10 @@ returns-in_err-take c =
     let piece = c.piece_at-piece.result in
     let bytes = c.front.ensures ∙ ap (take piece.len) c.rest_from-rest.ensures in
     let is = c.piece_at-piece.ensures.exact ∙ ap piece_at c.rest_from-rest.ensures in
-    let p = err_from_is_err_and c.from_residual.result c.from_residual.ensures.1 in
+    let p = err_from_is_err_and c.from_residual-in_err-take.result c.from_residual-in_err-take.ensures.1 in
     let q = passes_on c.in_err-take.field-0.0 _ _ (spec.tokens_of bs) c.in_err-take.ensures (λ f e.
     stops _ piece c.loop-at.place bs c.loop-at.at c.loop-at.reading f _ (omega arith) is c.piece_at-piece.ensures.within.some (ap (λ (b : List ℕ). spec.step piece.kind b c.loop-at.place c.loop-at.reading) (sym bytes) ∙ e) c.loop-at.invariant.same) in
-    let eq : c.from_residual.result ≡ Err c.in_err-take.field-0.0 = cc (p.1, p.2, c.in_err-take.was) in
+    let eq : c.from_residual-in_err-take.result ≡ Err c.in_err-take.field-0.0 = cc (p.1, p.2) in
     rw eq q
 
 pub loop-at-preserved : goal.loop-at-preserved
