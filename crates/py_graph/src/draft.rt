@@ -32,6 +32,10 @@ impl From<AllocError> for Stop {
     }
 }
 
+/// For how many nodes, and for how many edges, room is made at once: enough for a small module. A larger one
+/// takes more as they come.
+const FIRST_ROOM: usize = 256;
+
 /// The nodes and edges made so far, and the names that many of the nodes share.
 #[derive(Drop)]
 pub struct Draft {
@@ -65,14 +69,15 @@ impl Draft {
     ghost use Rattle.py_graph.specs.Gives.{Gives};
     ghost use Rattle.py_graph.specs.Modules.{Translates, limited};
 
-    /// Nothing made yet but the two names; the one error is want of memory.
+    /// Nothing made yet but the two names, and the room for the first nodes and edges; the one error is want of
+    /// memory.
     pub fn new(alloc: Global) -> Result<Draft, AllocError>
         ensures nodes { IfOk result (λ draft. draft.nodes ≡ []) }
         ensures edges { IfOk result (λ draft. draft.edges ≡ []) }
     {
         Ok(Draft {
-            nodes: Vec::new(alloc),
-            edges: Vec::new(alloc),
+            nodes: Vec::with_capacity(alloc, FIRST_ROOM)?,
+            edges: Vec::with_capacity(alloc, FIRST_ROOM)?,
             dot: Name::of(alloc, ".")?,
             call: Name::of(alloc, "()")?,
             seen: Seen::new(),
@@ -103,7 +108,8 @@ impl Draft {
         self.seen.name(alloc, self.nodes.as_slice(), text)
     }
 
-    /// The graph of what was made, where it has no more edges than a file may have.
+    /// The graph of what was made, where it has no more edges than a file may have. It keeps no room that is not
+    /// used.
     #[tactic(auto, using(crate::proofs::Sound::drafting))]
     pub fn finish(self, alloc: Global) -> Result<FileGraph, TransFault>
         ensures { Translates result (limited self) }
@@ -111,7 +117,10 @@ impl Draft {
         if self.edges.len() > MAX_EDGES {
             return Err(TransFault::TooManyEdges(65_537));
         }
-        match FileGraph::check(alloc, self.nodes, self.edges) {
+        let (mut nodes, mut edges) = (self.nodes, self.edges);
+        nodes.shrink_to_fit();
+        edges.shrink_to_fit();
+        match FileGraph::check(alloc, nodes, edges) {
             Ok(graph) => Ok(graph),
             Err(fault) => Err(refused(fault)),
         }
