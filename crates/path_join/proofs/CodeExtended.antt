@@ -1,6 +1,6 @@
 -- A path made longer where it stands is the join with the edge's unit: such a unit asks for no scope of which
 -- something could become known.
-use Rattle.std.proofs.Common.{◌≡◌, ◌≤◌, ◌<◌, ◌^◌, refl, ap, ◌∙◌, sym, ℕ, zero, suc, ◌+◌, ◌-◌, List, [], ◌∷◌, ◌++◌, length, max, map, drop, replicate, Bool, true, false, Option, Some, None, slice_get, cond, arith, IsTrue}
+use Rattle.std.proofs.Common.{◌≡◌, ◌≤◌, refl, ap, ◌∙◌, sym, subst, ℕ, zero, suc, ◌+◌, ◌-◌, List, [], ◌∷◌, ◌++◌, length, max, map, drop, replicate, Bool, true, false, Option, Some, None, slice_get, cond, arith, IsTrue}
 use Rattle.std.specs.Option.{option_and_then, option_map_or, option_map, IfSome}
 use Rattle.std.specs.Str.{bytes_eq}
 use Rattle.std.proofs.lemmas.List.{append-nil, length-append}
@@ -26,10 +26,12 @@ use Rattle.partial_path.specs.declared.rule.End.{End}
 use Rattle.partial_path.specs.declared.rule.End.TheVariants.{At}
 use Rattle.partial_path.specs.Rules.{Rule, IsRule, rule_of}
 use Rattle.partial_path.specs.Apply.{Rests, tail_scopes}
+use Rattle.partial_path.specs.FileNumbers.{IsOfFileZero}
+use Rattle.partial_path.specs.PathSets.{IsRuleOf}
 use Rattle.partial_path.proofs.Equals.{spot_eq-refl}
-use Rattle.path_join.specs.Joins.{IsJoin, joined_peak}
+use Rattle.path_join.specs.Joins.{IsJoin, NonePasses, joined_peak}
 use Rattle.path_join.specs.Joining.{grow, meet_scopes, meet_attached, asked_scopes, nothing_known, known_with, grown_scopes, grown_symbol, longer_scopes, longer_symbols, handed, wide_pre, wide_post, Bound, bound_items, bound_by, put_scopes, put_symbol, joined_by, if_ends, join_rules}
-use Rattle.path_join.specs.Units.{IsUnit, edge_alone, place_spot, place_end, place_action, place_rule, entry_rule, asks, makes, pat_of, out_of, any_scopes, scopes_out}
+use Rattle.path_join.specs.Units.{IsUnit, after_source, edge_alone, place_spot, place_end, place_action, place_rule, entry_rule, asks, makes, pat_of, out_of, any_scopes, scopes_out}
 use Rattle.path_join.specs.Extended.{IsExtended, rule_apart, rule_if}
 use Rattle.path_join.specs.Extending.{post_of, with_front, asks_more, taken_plain, taken_attached, longer_by, extended_by}
 use Rattle.path_join.proofs.FitsLaws.{same_cons}
@@ -346,6 +348,14 @@ is_extended g p e edge here found r is source there ends f =
     let j : found ≡ join_rules p q = f ∙ sym (extends p here (place_end edge.sink) (place_action g edge.sink) (edge_alone e) r ends) in
     record { step = q; unit = unit-is g e edge here is source there; joined = found-joins p q r k found j; none = λ none. never p q r k (sym j ∙ none) }
 
--- The join with any path of one edge is low enough.
-pub unit-peak : (p q : Rule) → IsRule p → IsRule q → q.peak ≤ 1 → p.peak + 1 < 2 ^ 32 → joined_peak p q < 2 ^ 32
-unit-peak p q h k low top = let a = h.peak in let b = k.peak in omega arith
+-- The join with a path that is said to be the edge's unit.
+pub unit-joined : (g : Graph) (p : Rule) (e : ℕ) (step path : Rule) (found there : Option Rule) → path ≡ p → there ≡ found
+    → after_source g e ≡ Some step.start → step.edges ≡ edge_alone e ∷ [] → step.peak ≤ 1 → IsRuleOf g step → IsOfFileZero step
+    → IfSome there (IsJoin path step) → (there ≡ None → NonePasses path step) → IsExtended g p e found
+unit-joined g p e step path found there same is start edges low rule files joined none =
+    subst (λ (q : Rule). IsExtended g q e found) same (subst (IsExtended g path e) is (record {
+      step = step;
+      unit = record { start = start; edges = edges; low = low; rule = rule; files = files };
+      joined = joined;
+      none = none;
+    }))

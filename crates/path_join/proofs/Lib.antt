@@ -4,7 +4,8 @@
 -- That the code makes the join of the definition: CodePast and CodeTables (what is known), CodeMet (symbols that
 -- are handed on), CodeBound (what variables stand for), CodeWritten (the joined conditions). `unit` and `opening`:
 -- rule and files on CodeExact, which FilesLaws serves, and peak on CodeUnits. `extend_in_place`: both clauses on
--- CodeExtended: a path made longer where it lies is the join by its definition, and so on Joined. `extend` calls it.
+-- CodeExtended: a path made longer where it lies is the join by its definition, and so on Joined. `extend` and
+-- `extended` call it.
 pub mod CodePast
 pub mod CodeTables
 pub mod CodeMet

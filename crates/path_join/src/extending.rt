@@ -7,6 +7,7 @@ ghost use Rattle.path_join.specs.Units.{edge_alone, place_end, place_action, pat
 ghost use Rattle.path_join.specs.Extended.{IsExtended, rule_apart, rule_if};
 ghost use Rattle.path_join.specs.Extending.{with_scope, taken, taken_scoped, entered, longer_peak, extended_by, sides_if, front_and_rest};
 
+use crate::copying::copied;
 use crate::entering::{any_scopes, passing};
 use crate::joining::{can_end, join};
 use crate::units::{edge_of, spot_of, unit};
@@ -32,6 +33,26 @@ pub fn extend(
     ensures { IfOk result (IsExtended graph.now path edge) }
 {
     let mut parts = path.into_parts();
+    if !extend_in_place(alloc, graph, &mut parts, edge)? {
+        return Ok(None);
+    }
+    Ok(Some(whole(parts)))
+}
+
+/// As `extend`, of a path that is kept: a new path, which shares its symbols. Where the path ends at the edge's
+/// source it costs the size of the path, which is copied and then made longer; else it costs a join besides.
+pub fn extended(
+    alloc: Global,
+    graph: &FileGraph,
+    path: &PartialPath,
+    edge: u32,
+) -> Result<Option<PartialPath>, AllocError>
+    requires edge { edge < length graph.now.edges }
+    requires edges { length path.now.edges + 1 < 2 ^ 32 }
+    requires peak { path.now.peak + 1 < 2 ^ 32 }
+    ensures { IfOk result (IsExtended graph.now path.now edge) }
+{
+    let mut parts = copied(alloc, path)?;
     if !extend_in_place(alloc, graph, &mut parts, edge)? {
         return Ok(None);
     }
@@ -77,7 +98,7 @@ pub fn whole(parts: PathParts) -> PartialPath
     PartialPath::of(start, end, pre, post, peak, edges)
 }
 
-/// As `extend_in_place`, wherever the path ends: the parts become those of the join.
+/// As `extend_in_place`, wherever the path ends: the parts become those of the join with the edge's unit.
 fn extend_anew(
     alloc: Global,
     graph: &FileGraph,
@@ -98,29 +119,14 @@ fn extend_anew(
         Vec::new(alloc),
     );
     let path = whole(mem::replace(parts, none.into_parts()));
-    let Some(longer) = extended(alloc, graph, &path, edge)? else {
+    let step = unit(alloc, graph, edge)?;
+    // Each start tells that its path is a rule.
+    let _ = (path.start(), step.start());
+    let Some(longer) = join(alloc, &path, &step)? else {
         return Ok(false);
     };
     *parts = longer.into_parts();
     Ok(true)
-}
-
-/// As `extend`, of a path that is kept: a new path, for which the edge's unit is made and joined.
-pub fn extended(
-    alloc: Global,
-    graph: &FileGraph,
-    path: &PartialPath,
-    edge: u32,
-) -> Result<Option<PartialPath>, AllocError>
-    requires edge { edge < length graph.now.edges }
-    requires edges { length path.now.edges + 1 < 2 ^ 32 }
-    requires peak { path.now.peak + 1 < 2 ^ 32 }
-    ensures { IfOk result (IsExtended graph.now path.now edge) }
-{
-    let step = unit(alloc, graph, edge)?;
-    // Each start tells that its path is a rule.
-    let _ = (path.start(), step.start());
-    join(alloc, path, &step)
 }
 
 /// The path goes on from its end by the edge to this sink; false where entry is refused, or it can't end so.

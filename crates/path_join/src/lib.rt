@@ -1,6 +1,7 @@
 //! Joins partial paths: two rules become one that does what the first and then the second does.
 #![tactic(auto)]
 
+mod copying;
 mod entering;
 mod extending;
 mod filling;
