@@ -89,6 +89,7 @@ fn find(alloc: Global, graph: &FileGraph, steps: &mut u64) -> Result<Found, Path
     // Tells that the graph is checked.
     graph.node_count();
     let begun = first_paths(alloc, graph)?;
+    // Most paths come of one begun first, and some more of those that go on past a definition.
     let room = begun.len() + begun.len() / 8;
     let paths = Vec::with_capacity(alloc, room)?;
     let mut found = Found {
