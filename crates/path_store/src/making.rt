@@ -36,7 +36,8 @@ impl NewDocument {
     ghost use Rattle.std.specs.String.{string_bytes};
     ghost use Rattle.path_store.specs.Documents.{doc_of};
 
-    /// What a document of this path and these bytes is made of, which are taken over. It takes no time.
+    /// What a document of this path and these bytes is made of, which are taken over. It takes
+    /// constant time, and no memory.
     pub fn of(path: String, bytes: Vec<u8>) -> NewDocument
         ensures { result ≡ doc_of (string_bytes path) bytes.items }
     {
@@ -94,7 +95,7 @@ fn sign_all<R: Threads + Sync>(rt: &R, threads: usize, made: &mut [NewDocument])
 }
 
 /// On how many threads so many documents are worked on: one for each processor, at most eight and no more than there are
-/// documents.
+/// documents, but one at least; one too where the processors can't be counted.
 pub fn threads_for<R: Threads>(rt: &R, documents: usize) -> usize
     ensures some { 0 < result }
     ensures few { result ≤ 8 }

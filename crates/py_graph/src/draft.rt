@@ -100,7 +100,7 @@ impl Draft {
     }
 
     /// A name of this text for the next node, which shares that of a node before it where one is found. It takes
-    /// time that follows the length of the text; the one error is want of memory.
+    /// time that follows the length of the text; the one error is want of memory, or of room to count one holder more.
     pub fn name(&mut self, alloc: Global, text: &str) -> Result<Name, AllocError>
         ensures value { IfOk result (λ name. name ≡ text.now) }
         ensures same { self.new ≡ self.old }
