@@ -6,15 +6,18 @@ use partial_path::{PartialPath, PathParts};
 use stacks_vars::{Listed, NodeAt, Post, Pre, ScopeOut, ScopePat, SymOut, SymPat};
 use std::alloc::{AllocError, Global};
 
-/// The parts of the path once more, with room for one edge besides: a path is copied to be made longer. The
-/// one error is want of memory. It costs the size of the path; its symbols are shared and not copied.
+/// For how many edges besides its own a copy has room: a path is copied to be made longer.
+const MORE_EDGES: usize = 3;
+
+/// The parts of the path once more. The one error is want of memory. It costs the size of the path; its symbols
+/// are shared and not copied.
 pub(crate) fn copied(alloc: Global, path: &PartialPath) -> Result<PathParts, AllocError>
     ensures value { IfOk result (λ parts. rule_apart parts ≡ path.now) }
     ensures rule { IfOk result (λ parts. IsRule (rule_apart parts)) }
 {
     let pre = copied_pre(alloc, path.pre())?;
     let post = copied_post(alloc, path.post())?;
-    let mut edges = Vec::with_capacity(alloc, path.edges().len() + 1)?;
+    let mut edges = Vec::with_capacity(alloc, path.edges().len() + MORE_EDGES)?;
     edges.extend_from_slice(path.edges())?;
     Ok(PathParts {
         start: path.start(),

@@ -9,6 +9,9 @@ use partial_path::{EdgeAt, End, PartialPath, Start, symbol_of};
 use stacks_vars::{Listed, NodeAt, Post, Pre, ScopeOut, ScopePat, SymOut, SymPat, Tail};
 use std::alloc::{AllocError, Global};
 
+/// For how many symbols a path has room that pushes one: half of such paths push two more.
+const MADE_ROOM: usize = 3;
+
 /// The path that leaves the stacks as they are. It takes no memory.
 #[tactic(auto, using(crate::proofs::CodeUnits::ruled))]
 pub(crate) fn passing(alloc: Global, start: Start, end: End, edges: Vec<EdgeAt>) -> PartialPath
@@ -92,7 +95,7 @@ fn made_by(alloc: Global, kind: &NodeKind) -> Result<Post, AllocError>
 fn pushed(alloc: Global, symbol: &Name, scopes: Option<ScopeOut>) -> Result<Post, AllocError>
     ensures { IfOk result (λ post. post ≡ makes (out_of symbol.now scopes ∷ []) Tail.Front) }
 {
-    let mut symbols = Vec::with_capacity(alloc, 1)?;
+    let mut symbols = Vec::with_capacity(alloc, MADE_ROOM)?;
     symbols.push(SymOut {
         symbol: symbol_of(symbol)?,
         scopes,

@@ -13,8 +13,11 @@ use partial_path::{EdgeAt, End, PartialPath, Spot, Start};
 use stacks_vars::NodeAt;
 use std::alloc::{AllocError, Global};
 
-/// For how many edges a path has room at first: most grow to about so many.
+/// For how many edges a path has room at first that starts after a place: most grow to about so many.
 const EDGES_ROOM: usize = 3;
+
+/// For how many one has room that starts before a reference: it mostly pushes some symbols more on its way.
+const OPENING_ROOM: usize = 6;
 
 /// The partial path of one edge of the file, from after its source: applied to any configuration it does
 /// what following the edge does. The one error is want of memory.
@@ -44,7 +47,7 @@ pub fn opening(alloc: Global, graph: &FileGraph, node: u32) -> Result<PartialPat
     ensures files { IfOk result IsOfFileZero }
 {
     let start = Start::Before(NodeAt { file: 0, node });
-    let edges = Vec::with_capacity(alloc, EDGES_ROOM)?;
+    let edges = Vec::with_capacity(alloc, OPENING_ROOM)?;
     place_entered(alloc, graph, start, Place::At(node), edges)
 }
 
