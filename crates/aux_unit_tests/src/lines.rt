@@ -311,7 +311,7 @@ impl Source for Offered {
 fn each_read_is_offered_a_chunk(rt: HostRuntime) -> Result<(), Fail> {
     let mut source = Offered { least: usize::MAX };
     assert_eq!(rt; first_len(rt.alloc(), &mut source), Ok(None));
-    assert_eq!(rt; source.least, 4_096);
+    assert_eq!(rt; source.least, 65_536);
     Ok(())
 }
 

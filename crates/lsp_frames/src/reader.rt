@@ -15,7 +15,7 @@ use std::marker::Model;
 pub const BODY_MAX: usize = 8_388_608;
 
 // How many bytes each read of the source is offered.
-pub(crate) const CHUNK: usize = 4_096;
+pub(crate) const CHUNK: usize = 65_536;
 
 /// Why there is no next frame.
 #[derive(Clone, Copy, Debug, PartialEq, Eq)]
@@ -95,7 +95,7 @@ impl FrameReader {
     ///
     /// The frames are those of the text ahead, which the bytes taken and not yet answered make with what the source
     /// has left. A frame is a block of header lines, of at most 4,096 bytes with the empty line that ends it, and a
-    /// body of the length that its one line `Content-Length` states. Each read of the source is offered 4,096 bytes.
+    /// body of the length that its one line `Content-Length` states. Each read of the source is offered 65,536 bytes.
     /// Where a whole frame is among the bytes taken, or once a read answered that the input ends, the source isn't
     /// read. A frame costs time in its length.
     ///

@@ -16,7 +16,7 @@ use std::marker::Model;
 pub const LINE_MAX: usize = 8_388_608;
 
 // How many bytes each read of the source is offered.
-const CHUNK: usize = 4_096;
+const CHUNK: usize = 65_536;
 
 /// Why there is no next line, or not as many bytes.
 #[derive(Clone, Copy, Debug, PartialEq, Eq)]
@@ -116,7 +116,7 @@ impl LineReader {
     ///
     /// The lines are those of the text ahead, which the bytes taken and not yet answered make with what
     /// the source has left: its pieces between newlines, where a last piece without a newline is a line
-    /// if it isn't empty. Each read of the source is offered 4,096 bytes. Where a whole line is among the
+    /// if it isn't empty. Each read of the source is offered 65,536 bytes. Where a whole line is among the
     /// bytes taken, or once a read answered that the input ends, the source isn't read. A line costs time
     /// in its length.
     ///
