@@ -44,7 +44,7 @@ fn filled_item(
     ensures { IfOk result (λ item. item ≡ fill_item (rests_of rests.now.front rests.now.items.items) (moved_symbol_out base out.now)) }
 {
     let scopes = match &out.scopes {
-        Some(scopes) => Some(filled_scopes(alloc, base, rests, scopes)?),
+        Some(scopes) => Some(filled_scopes(alloc, base, rests, scopes.get())?),
         None => None,
     };
     Ok(SymbolItem {

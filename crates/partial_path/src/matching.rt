@@ -53,7 +53,7 @@ pub fn rest_of_item(alloc: Global, base: u32, pat: &SymPat, item: SymbolItem) ->
     }
     match (&pat.scopes, item.scopes) {
         (None, None) => Some(ScopeStack::new(alloc)),
-        (Some(scopes), Some(attached)) => rest_of(base, scopes, attached),
+        (Some(scopes), Some(attached)) => rest_of(base, scopes.get(), attached),
         _ => None,
     }
 }
@@ -91,7 +91,7 @@ pub fn meets_item(base: u32, pat: &SymPat, item: &SymbolItem) -> bool
     }
     match (&pat.scopes, &item.scopes) {
         (None, None) => true,
-        (Some(scopes), Some(attached)) => meets_scopes(base, scopes, attached),
+        (Some(scopes), Some(attached)) => meets_scopes(base, scopes.get(), attached),
         _ => false,
     }
 }

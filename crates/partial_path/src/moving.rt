@@ -7,7 +7,7 @@ use crate::config::EdgeAt;
 use crate::filling::moved_node;
 use crate::path::PartialPath;
 use crate::rule::{End, Start};
-use stacks_vars::{Listed, NodeAt, Post, Pre, ScopeOut, ScopePat, SymOut, SymPat};
+use stacks_vars::{Held, Listed, NodeAt, Post, Pre, ScopeOut, ScopePat, SymOut, SymPat};
 use std::alloc::{AllocError, Global};
 
 /// A law: a path of file 0 alone can be moved by every number of 32 bits, and applied there.
@@ -79,12 +79,16 @@ fn moved_list<T: Moves>(alloc: Global, base: u32, items: &[T]) -> Result<Listed<
 }
 
 /// The item moved, where there is one.
-fn moved_some<T: Moves>(alloc: Global, base: u32, item: &Option<T>) -> Result<Option<T>, AllocError>
+fn moved_some<T: Moves>(
+    alloc: Global,
+    base: u32,
+    item: &Option<Held<T>>,
+) -> Result<Option<Held<T>>, AllocError>
     requires { IfSome item.now (T.fits base) }
     ensures { IfOk result (λ moved. moved ≡ option_map (T.moved_by base) item.now) }
 {
     match item {
-        Some(item) => Ok(Some(item.moved(alloc, base)?)),
+        Some(item) => Ok(Some(Held::of(alloc, item.get().moved(alloc, base)?)?)),
         None => Ok(None),
     }
 }

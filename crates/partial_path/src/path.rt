@@ -184,7 +184,7 @@ fn bad_symbol(asked: &[SymPat], out: &SymOut) -> Option<u32>
     ensures { result ≡ slice_get (flat_map (bad_place asked.now) (tail_of out.now)) 0 }
 {
     match &out.scopes {
-        Some(scopes) => bad_place(asked, scopes.tail),
+        Some(scopes) => bad_place(asked, scopes.get().tail),
         None => None,
     }
 }

@@ -3,7 +3,7 @@ ghost use Rattle.partial_path.specs.Rules.{IsRule};
 ghost use Rattle.path_join.specs.Extended.{rule_apart};
 
 use partial_path::{PartialPath, PathParts};
-use stacks_vars::{Listed, NodeAt, Post, Pre, ScopeOut, ScopePat, SymOut, SymPat};
+use stacks_vars::{Held, Listed, NodeAt, Post, Pre, ScopeOut, ScopePat, SymOut, SymPat};
 use std::alloc::{AllocError, Global};
 
 /// For how many edges besides its own a copy has room: a path is copied to be made longer.
@@ -72,11 +72,11 @@ fn copied_outs(alloc: Global, outs: &[SymOut]) -> Result<Listed<SymOut>, AllocEr
 }
 
 /// A symbol asked for, once more: its text is shared.
-pub(crate) fn copied_pat(alloc: Global, pat: &SymPat) -> Result<SymPat, AllocError>
+fn copied_pat(alloc: Global, pat: &SymPat) -> Result<SymPat, AllocError>
     ensures { IfOk result (λ copy. copy ≡ pat.now) }
 {
     let scopes = match &pat.scopes {
-        Some(scopes) => Some(copied_fixed(alloc, scopes)?),
+        Some(scopes) => Some(Held::of(alloc, copied_fixed(alloc, scopes.get())?)?),
         None => None,
     };
     Ok(SymPat {
@@ -86,11 +86,11 @@ pub(crate) fn copied_pat(alloc: Global, pat: &SymPat) -> Result<SymPat, AllocErr
 }
 
 /// A symbol made, once more: its text is shared.
-pub(crate) fn copied_out(alloc: Global, out: &SymOut) -> Result<SymOut, AllocError>
+fn copied_out(alloc: Global, out: &SymOut) -> Result<SymOut, AllocError>
     ensures { IfOk result (λ copy. copy ≡ out.now) }
 {
     let scopes = match &out.scopes {
-        Some(scopes) => Some(copied_scopes(alloc, scopes)?),
+        Some(scopes) => Some(Held::of(alloc, copied_scopes(alloc, scopes.get())?)?),
         None => None,
     };
     Ok(SymOut {

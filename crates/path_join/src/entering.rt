@@ -6,7 +6,7 @@ ghost use Rattle.path_join.specs.Units.{asked_by, made_by, peak_by, asks, makes,
 
 use graph_nodes::{Name, NodeKind};
 use partial_path::{EdgeAt, End, PartialPath, Start, symbol_of};
-use stacks_vars::{Listed, NodeAt, Post, Pre, ScopeOut, ScopePat, SymOut, SymPat, Tail};
+use stacks_vars::{Held, Listed, NodeAt, Post, Pre, ScopeOut, ScopePat, SymOut, SymPat, Tail};
 use std::alloc::{AllocError, Global};
 
 /// For how many symbols a path has room that pushes one: half of such paths push two more.
@@ -44,7 +44,11 @@ fn asked_by(alloc: Global, kind: &NodeKind) -> Result<Pre, AllocError>
 {
     match kind {
         NodeKind::Pop { symbol, .. } => popped(alloc, symbol, None),
-        NodeKind::PopScoped { symbol, .. } => popped(alloc, symbol, Some(any_scopes(alloc))),
+        NodeKind::PopScoped { symbol, .. } => popped(
+            alloc,
+            symbol,
+            Some(Held::of(alloc, any_scopes(alloc))?),
+        ),
         NodeKind::Scope { .. }
         | NodeKind::Push { .. }
         | NodeKind::PushScoped { .. }
@@ -53,7 +57,7 @@ fn asked_by(alloc: Global, kind: &NodeKind) -> Result<Pre, AllocError>
 }
 
 /// The symbol with such scopes, and any scope stack.
-fn popped(alloc: Global, symbol: &Name, scopes: Option<ScopePat>) -> Result<Pre, AllocError>
+fn popped(alloc: Global, symbol: &Name, scopes: Option<Held<ScopePat>>) -> Result<Pre, AllocError>
     ensures { IfOk result (λ pre. pre ≡ asks (pat_of symbol.now scopes ∷ [])) }
 {
     let mut symbols = Vec::with_capacity(alloc, 1)?;
@@ -79,7 +83,7 @@ fn made_by(alloc: Global, kind: &NodeKind) -> Result<Post, AllocError>
                 scopes: Listed::of(Vec::from_slice(alloc, &[scope])?),
                 tail: Tail::Front,
             };
-            pushed(alloc, symbol, Some(scopes))
+            pushed(alloc, symbol, Some(Held::of(alloc, scopes)?))
         }
         NodeKind::PopScoped { .. } => Ok(makes(alloc, Vec::new(alloc), Tail::Item(0))),
         NodeKind::Drops => Ok(makes(alloc, Vec::new(alloc), Tail::Nil)),
@@ -92,7 +96,7 @@ fn made_by(alloc: Global, kind: &NodeKind) -> Result<Post, AllocError>
 }
 
 /// The symbol with these scopes, and the scope stack as it is.
-fn pushed(alloc: Global, symbol: &Name, scopes: Option<ScopeOut>) -> Result<Post, AllocError>
+fn pushed(alloc: Global, symbol: &Name, scopes: Option<Held<ScopeOut>>) -> Result<Post, AllocError>
     ensures { IfOk result (λ post. post ≡ makes (out_of symbol.now scopes ∷ []) Tail.Front) }
 {
     let mut symbols = Vec::with_capacity(alloc, MADE_ROOM)?;

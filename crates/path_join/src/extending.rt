@@ -13,7 +13,9 @@ use crate::joining::{can_end, join};
 use crate::units::{edge_of, spot_of, unit};
 use graph_nodes::{FileGraph, Name, NodeKind, Place};
 use partial_path::{EdgeAt, End, PartialPath, PathParts, Spot, Start, symbol_of};
-use stacks_vars::{Listed, NodeAt, Post, Pre, ScopeOut, ScopePat, SymOut, SymPat, Symbol, Tail};
+use stacks_vars::{
+    Held, Listed, NodeAt, Post, Pre, ScopeOut, ScopePat, SymOut, SymPat, Symbol, Tail,
+};
 use std::alloc::{AllocError, Global};
 use std::mem;
 
@@ -216,7 +218,7 @@ fn node_entered(
                 file: 0,
                 node: *scope,
             };
-            let scopes = with_scope(alloc, scope, &post.scopes)?;
+            let scopes = Held::of(alloc, with_scope(alloc, scope, &post.scopes)?)?;
             put_front(alloc, symbol, Some(scopes), &mut post.symbols)?;
             Ok(true)
         }
@@ -243,7 +245,7 @@ fn room_for_first<T>(items: &mut Vec<T>) -> Result<(), AllocError>
 fn put_front(
     alloc: Global,
     symbol: &Name,
-    scopes: Option<ScopeOut>,
+    scopes: Option<Held<ScopeOut>>,
     made: &mut Listed<SymOut>,
 ) -> Result<(), AllocError>
     ensures { OnOk result (made.new ≡ out_of symbol.now scopes ∷ made.old) }
@@ -289,7 +291,7 @@ fn scopes_of(alloc: Global, tail: Tail) -> ScopeOut
 fn ask_more(
     alloc: Global,
     symbol: &Name,
-    scopes: Option<ScopePat>,
+    scopes: Option<Held<ScopePat>>,
     asked: &mut Listed<SymPat>,
 ) -> Result<(), AllocError>
     ensures { OnOk result (asked.new ≡ asked.old ++ pat_of symbol.now scopes ∷ []) }
@@ -342,7 +344,8 @@ fn take_scoped(
 {
     let Some(front) = take_front(alloc, &mut post.symbols) else {
         post.scopes = scopes_of(alloc, Tail::Item(pre.symbols.len() as u32));
-        ask_more(alloc, symbol, Some(any_scopes(alloc)), &mut pre.symbols)?;
+        let scopes = Held::of(alloc, any_scopes(alloc))?;
+        ask_more(alloc, symbol, Some(scopes), &mut pre.symbols)?;
         return Ok(true);
     };
     let SymOut {
@@ -355,7 +358,7 @@ fn take_scoped(
     let Some(scopes) = scopes else {
         return Ok(false);
     };
-    post.scopes = scopes;
+    post.scopes = scopes.into_value();
     Ok(true)
 }
 

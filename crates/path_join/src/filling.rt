@@ -1,21 +1,33 @@
 ghost use Rattle.std.specs.Prelude.{◌≡◌, IfOk};
-ghost use Rattle.path_join.specs.Joining.{grown_symbol, put_scopes, put_symbol, longer_scopes, longer_symbol};
+ghost use Rattle.path_join.specs.Joining.{grown_scopes, grown_symbol, put_scopes, put_symbol, longer_scopes, longer_symbol};
 ghost use Rattle.path_join.specs.Tables.{bound_of};
 
-use crate::copying::{copied_fixed, copied_out, copied_pat, copied_scopes};
+use crate::copying::{copied_fixed, copied_scopes};
 use crate::joint::Joint;
 use crate::known::{Known, add};
-use stacks_vars::{NodeAt, ScopeOut, ScopePat, SymOut, SymPat};
+use stacks_vars::{Held, NodeAt, ScopeOut, ScopePat, SymOut, SymPat};
 use std::alloc::{AllocError, Global};
 
 /// A symbol of the first path's output with what is known of its variable.
 pub(crate) fn grown_symbol(alloc: Global, known: &Known, out: &SymOut) -> Result<SymOut, AllocError>
     ensures { IfOk result (λ grown. grown ≡ grown_symbol known.now out.now) }
 {
-    let mut grown = copied_out(alloc, out)?;
-    if let Some(out) = &mut grown.scopes {
-        add(&mut out.scopes, known.of_tail(out.tail))?;
-    }
+    let scopes = match &out.scopes {
+        Some(scopes) => Some(Held::of(alloc, grown_scopes(alloc, known, scopes.get())?)?),
+        None => None,
+    };
+    Ok(SymOut {
+        symbol: out.symbol.copy()?,
+        scopes,
+    })
+}
+
+/// An output of the first path with what is known of its variable.
+fn grown_scopes(alloc: Global, known: &Known, out: &ScopeOut) -> Result<ScopeOut, AllocError>
+    ensures { IfOk result (λ grown. grown ≡ grown_scopes known.now out.now) }
+{
+    let mut grown = copied_scopes(alloc, out)?;
+    add(&mut grown.scopes, known.of_tail(out.tail))?;
     Ok(grown)
 }
 
@@ -40,7 +52,7 @@ pub(crate) fn put_symbol(alloc: Global, joint: &Joint, out: &SymOut) -> Result<S
     ensures { IfOk result (λ put. put ≡ put_symbol (bound_of joint.now) out.now) }
 {
     let scopes = match &out.scopes {
-        Some(scopes) => Some(put_scopes(alloc, joint, scopes)?),
+        Some(scopes) => Some(Held::of(alloc, put_scopes(alloc, joint, scopes.get())?)?),
         None => None,
     };
     Ok(SymOut {
@@ -70,9 +82,12 @@ pub(crate) fn longer_symbol(
 ) -> Result<SymPat, AllocError>
     ensures { IfOk result (λ longer. longer ≡ longer_symbol pat.now more.now) }
 {
-    let mut longer = copied_pat(alloc, pat)?;
-    if let Some(scopes) = &mut longer.scopes {
-        add(&mut scopes.fixed, more)?;
-    }
-    Ok(longer)
+    let scopes = match &pat.scopes {
+        Some(scopes) => Some(Held::of(alloc, longer_scopes(alloc, scopes.get(), more)?)?),
+        None => None,
+    };
+    Ok(SymPat {
+        symbol: pat.symbol.copy()?,
+        scopes,
+    })
 }

@@ -99,7 +99,7 @@ impl<'a> Joint<'a> {
             return self.handed(place);
         };
         match &out.scopes {
-            Some(out) => rest_past(pat.fixed.len(), out, self.known),
+            Some(out) => rest_past(pat.get().fixed.len(), out.get(), self.known),
             None => nothing(),
         }
     }

@@ -3,7 +3,7 @@ ghost use Rattle.path_join.specs.Joining.{past};
 ghost use Rattle.path_join.specs.Tables.{kept_if, agrees};
 ghost use Rattle.std.specs.List.{list_all, zip};
 
-use stacks_vars::{Listed, NodeAt, ScopeOut, ScopePat, SymOut, SymPat, Tail};
+use stacks_vars::{Held, Listed, NodeAt, ScopeOut, ScopePat, SymOut, SymPat, Tail};
 use std::alloc::{AllocError, Global};
 use std::marker::Model;
 
@@ -111,14 +111,14 @@ impl Known {
     /// A plain symbol meets a plain one, attached scopes meet attached ones.
     fn meet_attached(
         &mut self,
-        pat: &Option<ScopePat>,
-        out: &Option<ScopeOut>,
+        pat: &Option<Held<ScopePat>>,
+        out: &Option<Held<ScopeOut>>,
     ) -> Result<bool, AllocError>
         ensures { IfOk result (λ met. meet_attached self.old pat.now out.now ≡ kept_if met self.new) }
     {
         match (pat, out) {
             (None, None) => Ok(true),
-            (Some(pat), Some(out)) => self.meet_scopes(pat.fixed.items(), out),
+            (Some(pat), Some(out)) => self.meet_scopes(pat.get().fixed.items(), out.get()),
             _ => Ok(false),
         }
     }

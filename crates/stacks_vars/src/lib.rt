@@ -3,6 +3,7 @@
 
 mod action;
 mod entering;
+mod held;
 mod items;
 mod listed;
 mod patterns;
@@ -12,6 +13,7 @@ mod symbol;
 
 pub use action::Action;
 pub use entering::{drop_scopes, enter, jump, pop, pop_scoped, push, push_scoped};
+pub use held::Held;
 pub use items::{SymbolItem, SymbolStack};
 pub use listed::Listed;
 pub use patterns::{Post, Pre, ScopeOut, ScopePat, SymOut, SymPat, Tail};

@@ -1,3 +1,4 @@
+use crate::held::Held;
 use crate::listed::Listed;
 use crate::scopes::NodeAt;
 use crate::symbol::Symbol;
@@ -9,11 +10,12 @@ pub struct ScopePat {
     pub fixed: Listed<NodeAt>,
 }
 
-/// What a rule asks of one symbol: its text, and that it is plain or has attached scopes like these.
+/// What a rule asks of one symbol: its text, and that it is plain or has attached scopes like these. Few
+/// symbols have any, so they stand behind a pointer.
 #[derive(Debug, Drop)]
 pub struct SymPat {
     pub symbol: Symbol,
-    pub scopes: Option<ScopePat>,
+    pub scopes: Option<Held<ScopePat>>,
 }
 
 /// A rule's precondition: what it asks of the first symbols, the front first, and of the scope stack.
@@ -42,11 +44,11 @@ pub struct ScopeOut {
     pub tail: Tail,
 }
 
-/// A symbol that a rule makes: plain, or with these scopes attached.
+/// A symbol that a rule makes: plain, or with these scopes attached, behind a pointer.
 #[derive(Debug, Drop)]
 pub struct SymOut {
     pub symbol: Symbol,
-    pub scopes: Option<ScopeOut>,
+    pub scopes: Option<Held<ScopeOut>>,
 }
 
 /// A rule's postcondition: the symbols that it puts before those left, the front first, and the scope

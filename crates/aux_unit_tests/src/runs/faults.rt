@@ -1,6 +1,6 @@
 //! What is wrong with parts that make no partial path.
 use partial_path::{End, PartialPath, PathFault, Spot, Start};
-use stacks_vars::{Listed, Post, Pre, ScopeOut, ScopePat, SymPat, Symbol, Tail};
+use stacks_vars::{Held, Listed, Post, Pre, ScopeOut, ScopePat, SymPat, Symbol, Tail};
 use std::alloc::Global;
 use std::test::Fail;
 
@@ -10,7 +10,7 @@ fn asking(alloc: Global, times: u32) -> Result<Pre, Fail> {
     for _ in 0..times {
         symbols.push(SymPat {
             symbol: Symbol::of(alloc, b"x")?,
-            scopes: Some(any_scopes(alloc)),
+            scopes: Some(Held::of(alloc, any_scopes(alloc))?),
         })?;
     }
     Ok(Pre {
