@@ -85,13 +85,21 @@ pub(super) fn find_whole(
     Ok(None)
 }
 
-// Lets go of the bytes before `start`.
+// Lets go of the bytes before `start`. Where they are more than those behind, as after a long line, it takes time that
+// follows the number of those behind.
 fn compact(held: &mut Vec<u8>, start: &mut usize)
     requires { start.old ≤ vec_len held.old }
     ensures items { held.new.items ≡ drop start.old held.old.items }
     ensures start { start.new ≡ 0 }
 {
-    held.drain(..*start);
+    let left = held.len() - *start;
+    if left <= *start {
+        let (front, back) = held.split_at_mut(*start);
+        front[..left].copy_from_slice(back);
+        held.truncate(left);
+    } else {
+        held.drain(..*start);
+    }
     *start = 0;
 }
 
