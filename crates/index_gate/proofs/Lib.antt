@@ -1,6 +1,6 @@
 -- Which clause rests on which file. `index_all`: files, indexed, added, steps, fewer and some on UnderWay and
--- Places, fault on Places; what one document adds, on Adding; what was done ahead of its use, on Same. Held and
--- Missing serve these.
+-- Places, fault on Places; what one document adds, on Adding. Held and Missing serve
+-- these.
 -- `read_document` on Faults, as far as graph files go. The laws: `added_documents_are_held` and
 -- `a_document_has_one_fault` on Once, which is also for `nav_session`; `a_document_has_one_graph` on Graphs.
 pub mod Held
@@ -11,4 +11,3 @@ pub mod Faults
 pub mod Adding
 pub mod Places
 pub mod Graphs
-pub mod Same

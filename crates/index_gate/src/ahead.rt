@@ -1,5 +1,5 @@
 //! Documents that are worked on ahead, several at once.
-ghost use Rattle.std.specs.Prelude.{◌≡◌, ◌<◌, IfSome, IsTrue};
+ghost use Rattle.std.specs.Prelude.{◌<◌, IfSome};
 ghost use Rattle.index_gate.specs.Ahead.{IsDone};
 
 use crate::working::{Done, work};
@@ -43,7 +43,7 @@ impl<'a> Worked<'a> {
     fn on(&self, doc: &Document) -> Option<&Done>
         ensures { IfSome result (λ done. IsDone doc.now done.now) }
     {
-        if is_same(self.doc, doc) {
+        if self.doc.is_same(doc) {
             Some(&self.done)
         } else {
             None
@@ -102,14 +102,6 @@ fn place_all(
         places.insert(*one.doc.digest(), (number, i))?;
     }
     Ok(())
-}
-
-/// Whether the two documents have one path and the same bytes.
-#[tactic(auto, using(crate::proofs::Same::same_is))]
-fn is_same(a: &Document, b: &Document) -> bool
-    ensures { IsTrue result → a.now ≡ b.now }
-{
-    a.path() == b.path() && a.bytes() == b.bytes()
 }
 
 /// The documents that the store doesn't keep, each once, by its digest; none where there is but a single one.

@@ -2,3 +2,4 @@ pub mod Documents
 pub mod Store
 pub mod Buckets
 pub mod Inside
+pub mod Signed

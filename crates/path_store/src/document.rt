@@ -33,7 +33,7 @@ impl Model for Document {
 }
 
 impl Document {
-    ghost use Rattle.std.specs.Prelude.{◌≡◌, IfOk};
+    ghost use Rattle.std.specs.Prelude.{◌≡◌, IfOk, IsTrue};
     ghost use Rattle.std.specs.String.{string_bytes};
     ghost use Rattle.path_store.specs.Documents.{doc_of, digest_of, same_doc};
 
@@ -108,8 +108,10 @@ impl Document {
     }
 
     /// Whether the other document has the same path and the same bytes.
-    pub(crate) fn is_same(&self, other: &Document) -> bool
-        ensures { result ≡ same_doc self.now other.now }
+    #[tactic(auto, using(crate::proofs::Same::same_is))]
+    pub fn is_same(&self, other: &Document) -> bool
+        ensures exact { result ≡ same_doc self.now other.now }
+        ensures same { IsTrue result → self.now ≡ other.now }
     {
         self.path() == other.path() && self.bytes() == other.bytes()
     }
