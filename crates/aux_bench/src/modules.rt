@@ -6,7 +6,7 @@ use py_subset::{Module, PyFault, parse};
 use std::alloc::Global;
 
 /// Reads the text so many times, and once at least, and gives what the last time gave.
-pub fn parsed(alloc: Global, text: &[u8], times: u32) -> Result<Module, PyFault> {
+pub fn parsed<'a>(alloc: Global, text: &'a [u8], times: u32) -> Result<Module<'a>, PyFault> {
     if text.len() > u32::MAX as usize {
         return Err(PyFault::NoMemory);
     }

@@ -206,10 +206,10 @@ fn a_module_of_65_536_tokens_is_read(rt: HostRuntime) -> Result<(), Fail> {
 }
 
 /// The module of `from a import *`, made by hand.
-fn made(alloc: Global) -> Result<Module, AllocError> {
+fn made<'a>(alloc: Global) -> Result<Module<'a>, AllocError> {
     let mut names = Vec::new(alloc);
     names.push(Word {
-        text: PyText::of(String::from_str(alloc, "a")?),
+        text: PyText::of("a"),
         line: 0,
         from_column: 5,
         to_column: 6,
@@ -222,20 +222,23 @@ fn made(alloc: Global) -> Result<Module, AllocError> {
 }
 
 /// The text of the first name of a module that begins with `from .. import *`.
-fn first_name(alloc: Global, module: Module) -> Result<String, AllocError> {
-    match module.body.into_items().as_slice() {
-        [Stmt::FromAll(names), ..] => match names.items() {
-            [name, ..] => String::from_str(alloc, name.text.as_str()),
-            [] => String::from_str(alloc, "no name"),
-        },
-        _ => String::from_str(alloc, "another module"),
+fn first_name(alloc: Global, module: &Module) -> Result<String, AllocError> {
+    let Some(first) = module.body.items().first() else {
+        return String::from_str(alloc, "no statement");
+    };
+    let Stmt::FromAll(names) = first else {
+        return String::from_str(alloc, "another statement");
+    };
+    match names.items().first() {
+        Some(name) => String::from_str(alloc, name.text.as_str()),
+        None => String::from_str(alloc, "no name"),
     }
 }
 
 #[test]
 fn a_module_can_be_made_by_hand(rt: HostRuntime) -> Result<(), Fail> {
     let alloc = rt.alloc();
-    assert_eq!(rt; first_name(alloc, made(alloc)?)?.as_str(), "a");
+    assert_eq!(rt; first_name(alloc, &made(alloc)?)?.as_str(), "a");
     Ok(())
 }
 

@@ -32,9 +32,9 @@ impl From<AllocError> for Stop {
     }
 }
 
-/// For how many nodes, and for how many edges, room is made at once: enough for a small module. A larger one
-/// takes more as they come.
-const FIRST_ROOM: usize = 256;
+/// For how many nodes, and for how many edges, room is made at once: enough for a module of five kilobytes. A
+/// larger one takes more as they come.
+const FIRST_ROOM: usize = 1_024;
 
 /// The nodes and edges made so far, and the names that many of the nodes share.
 #[derive(Drop)]

@@ -149,7 +149,7 @@ impl<'a> Frame<'a> {
     }
 
     /// The bare name that a target is a member of, where it is self's name, with self's attributes.
-    pub fn self_in<'b>(&self, t: &'b Primary) -> Option<(&'b Word, u32)>
+    pub fn self_in<'b, 'c>(&self, t: &'b Primary<'c>) -> Option<(&'b Word<'c>, u32)>
         ensures { option_map (λ z. (z.0.now, z.1)) result ≡ self_in t.now self.now.self }
     {
         if !t.posts.is_empty() {

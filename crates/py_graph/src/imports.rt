@@ -142,7 +142,7 @@ pub fn import_items(
 }
 
 /// The name that an item binds.
-fn bound(i: &FromItem) -> &Word
+fn bound<'a, 'b>(i: &'a FromItem<'b>) -> &'a Word<'b>
     ensures { result.now ≡ row.bound i.now }
 {
     match &i.alias {

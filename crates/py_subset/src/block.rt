@@ -16,12 +16,12 @@ use std::alloc::Global;
 /// The block of a statement: on its line, or on lines of its own.
 #[tactic(auto, unfolding(crate::specs::Statements::suite))]
 #[cycle(blocks)]
-fn suite(
+fn suite<'a>(
     alloc: Global,
-    tokens: &mut Tokens,
+    tokens: &mut Tokens<'a>,
     turns: usize,
     depth: usize,
-) -> Result<Items<Stmt>, Stop>
+) -> Result<Items<Stmt<'a>>, Stop>
     ensures { Gives result tokens.new (spec.suite turns (spec.block turns depth) tokens.old) }
 {
     if tokens.sees(Mark::Newline) {
@@ -38,12 +38,12 @@ fn suite(
 
 /// A colon and the block behind it.
 #[cycle(blocks)]
-fn colon_suite(
+fn colon_suite<'a>(
     alloc: Global,
-    tokens: &mut Tokens,
+    tokens: &mut Tokens<'a>,
     turns: usize,
     depth: usize,
-) -> Result<Items<Stmt>, Stop>
+) -> Result<Items<Stmt<'a>>, Stop>
     ensures { Gives result tokens.new ((Mark.Colon ▹ spec.suite turns (spec.block turns depth)) tokens.old) }
 {
     tokens.take(Mark::Colon)?;
@@ -53,12 +53,12 @@ fn colon_suite(
 /// The block behind `else`, empty where there is none.
 #[tactic(auto, unfolding(crate::specs::Statements::otherwise))]
 #[cycle(blocks)]
-fn otherwise(
+fn otherwise<'a>(
     alloc: Global,
-    tokens: &mut Tokens,
+    tokens: &mut Tokens<'a>,
     turns: usize,
     depth: usize,
-) -> Result<Items<Stmt>, Stop>
+) -> Result<Items<Stmt<'a>>, Stop>
     ensures { Gives result tokens.new (spec.otherwise turns (spec.block turns depth) tokens.old) }
 {
     if !tokens.sees(Mark::Else) {
@@ -71,12 +71,12 @@ fn otherwise(
 /// The blocks of a loop.
 #[tactic(auto, unfolding(crate::specs::Statements::bodies))]
 #[cycle(blocks)]
-fn bodies(
+fn bodies<'a>(
     alloc: Global,
-    tokens: &mut Tokens,
+    tokens: &mut Tokens<'a>,
     turns: usize,
     depth: usize,
-) -> Result<(Items<Stmt>, Items<Stmt>), Stop>
+) -> Result<(Items<Stmt<'a>>, Items<Stmt<'a>>), Stop>
     ensures { Gives result tokens.new (spec.bodies turns (spec.block turns depth) tokens.old) }
 {
     let body = colon_suite(alloc, tokens, turns, depth)?;
@@ -87,7 +87,12 @@ fn bodies(
 /// A condition and its block.
 #[tactic(auto, unfolding(crate::specs::Statements::arm))]
 #[cycle(blocks)]
-fn arm(alloc: Global, tokens: &mut Tokens, turns: usize, depth: usize) -> Result<Arm, Stop>
+fn arm<'a>(
+    alloc: Global,
+    tokens: &mut Tokens<'a>,
+    turns: usize,
+    depth: usize,
+) -> Result<Arm<'a>, Stop>
     ensures { Gives result tokens.new (spec.arm turns (spec.block turns depth) tokens.old) }
 {
     let condition = expr(alloc, tokens, turns, turns)?;
@@ -97,7 +102,12 @@ fn arm(alloc: Global, tokens: &mut Tokens, turns: usize, depth: usize) -> Result
 
 /// A further one behind `elif`.
 #[cycle(blocks)]
-fn next_arm(alloc: Global, tokens: &mut Tokens, turns: usize, depth: usize) -> Result<Arm, Stop>
+fn next_arm<'a>(
+    alloc: Global,
+    tokens: &mut Tokens<'a>,
+    turns: usize,
+    depth: usize,
+) -> Result<Arm<'a>, Stop>
     ensures { Gives result tokens.new ((Mark.Elif ▹ spec.arm turns (spec.block turns depth)) tokens.old) }
 {
     tokens.take(Mark::Elif)?;
@@ -107,7 +117,12 @@ fn next_arm(alloc: Global, tokens: &mut Tokens, turns: usize, depth: usize) -> R
 /// All arms of an `if`.
 #[tactic(auto, using(crate::proofs::Turns::turns), unfolding(crate::specs::Statements::arms))]
 #[cycle(blocks)]
-fn arms(alloc: Global, tokens: &mut Tokens, turns: usize, depth: usize) -> Result<Items<Arm>, Stop>
+fn arms<'a>(
+    alloc: Global,
+    tokens: &mut Tokens<'a>,
+    turns: usize,
+    depth: usize,
+) -> Result<Items<Arm<'a>>, Stop>
     ensures { Gives result tokens.new (spec.arms turns (spec.block turns depth) tokens.old) }
 {
     let mut list = Items::new(alloc);
@@ -124,7 +139,12 @@ fn arms(alloc: Global, tokens: &mut Tokens, turns: usize, depth: usize) -> Resul
 /// `if ..`
 #[tactic(auto, unfolding(crate::specs::Statements::if_stmt))]
 #[cycle(blocks)]
-fn if_stmt(alloc: Global, tokens: &mut Tokens, turns: usize, depth: usize) -> Result<Stmt, Stop>
+fn if_stmt<'a>(
+    alloc: Global,
+    tokens: &mut Tokens<'a>,
+    turns: usize,
+    depth: usize,
+) -> Result<Stmt<'a>, Stop>
     ensures { Gives result tokens.new (spec.if_stmt turns (spec.block turns depth) tokens.old) }
 {
     tokens.take(Mark::If)?;
@@ -136,7 +156,12 @@ fn if_stmt(alloc: Global, tokens: &mut Tokens, turns: usize, depth: usize) -> Re
 /// `while ..`
 #[tactic(auto, unfolding(crate::specs::Statements::while_stmt))]
 #[cycle(blocks)]
-fn while_stmt(alloc: Global, tokens: &mut Tokens, turns: usize, depth: usize) -> Result<Stmt, Stop>
+fn while_stmt<'a>(
+    alloc: Global,
+    tokens: &mut Tokens<'a>,
+    turns: usize,
+    depth: usize,
+) -> Result<Stmt<'a>, Stop>
     ensures { Gives result tokens.new (spec.while_stmt turns (spec.block turns depth) tokens.old) }
 {
     tokens.take(Mark::While)?;
@@ -152,7 +177,12 @@ fn while_stmt(alloc: Global, tokens: &mut Tokens, turns: usize, depth: usize) ->
 /// `for ..`
 #[tactic(auto, unfolding(crate::specs::Statements::for_stmt))]
 #[cycle(blocks)]
-fn for_stmt(alloc: Global, tokens: &mut Tokens, turns: usize, depth: usize) -> Result<Stmt, Stop>
+fn for_stmt<'a>(
+    alloc: Global,
+    tokens: &mut Tokens<'a>,
+    turns: usize,
+    depth: usize,
+) -> Result<Stmt<'a>, Stop>
     ensures { Gives result tokens.new (spec.for_stmt turns (spec.block turns depth) tokens.old) }
 {
     tokens.take(Mark::For)?;
@@ -171,7 +201,12 @@ fn for_stmt(alloc: Global, tokens: &mut Tokens, turns: usize, depth: usize) -> R
 /// `def ..`
 #[tactic(auto, unfolding(crate::specs::Statements::def_stmt))]
 #[cycle(blocks)]
-fn def_stmt(alloc: Global, tokens: &mut Tokens, turns: usize, depth: usize) -> Result<Stmt, Stop>
+fn def_stmt<'a>(
+    alloc: Global,
+    tokens: &mut Tokens<'a>,
+    turns: usize,
+    depth: usize,
+) -> Result<Stmt<'a>, Stop>
     ensures { Gives result tokens.new (spec.def_stmt turns (spec.block turns depth) tokens.old) }
 {
     tokens.take(Mark::Def)?;
@@ -188,7 +223,12 @@ fn def_stmt(alloc: Global, tokens: &mut Tokens, turns: usize, depth: usize) -> R
 /// `class ..`
 #[tactic(auto, unfolding(crate::specs::Statements::class_stmt))]
 #[cycle(blocks)]
-fn class_stmt(alloc: Global, tokens: &mut Tokens, turns: usize, depth: usize) -> Result<Stmt, Stop>
+fn class_stmt<'a>(
+    alloc: Global,
+    tokens: &mut Tokens<'a>,
+    turns: usize,
+    depth: usize,
+) -> Result<Stmt<'a>, Stop>
     ensures { Gives result tokens.new (spec.class_stmt turns (spec.block turns depth) tokens.old) }
 {
     tokens.take(Mark::Class)?;
@@ -201,7 +241,12 @@ fn class_stmt(alloc: Global, tokens: &mut Tokens, turns: usize, depth: usize) ->
 /// A statement with its blocks.
 #[tactic(auto, unfolding(crate::specs::Statements::stmt))]
 #[cycle(blocks)]
-fn stmt(alloc: Global, tokens: &mut Tokens, turns: usize, depth: usize) -> Result<Stmt, Stop>
+fn stmt<'a>(
+    alloc: Global,
+    tokens: &mut Tokens<'a>,
+    turns: usize,
+    depth: usize,
+) -> Result<Stmt<'a>, Stop>
     ensures { Gives result tokens.new (spec.stmt turns (spec.block turns depth) tokens.old) }
 {
     if tokens.sees(Mark::If) {
@@ -225,12 +270,12 @@ fn stmt(alloc: Global, tokens: &mut Tokens, turns: usize, depth: usize) -> Resul
 /// At least one statement.
 #[tactic(auto, using(crate::proofs::Turns::turns), unfolding(crate::specs::Statements::stmts))]
 #[cycle(blocks)]
-fn stmts(
+fn stmts<'a>(
     alloc: Global,
-    tokens: &mut Tokens,
+    tokens: &mut Tokens<'a>,
     turns: usize,
     depth: usize,
-) -> Result<Items<Stmt>, Stop>
+) -> Result<Items<Stmt<'a>>, Stop>
     ensures { Gives result tokens.new (spec.stmts turns (spec.block turns depth) tokens.old) }
 {
     let mut list = Items::new(alloc);
@@ -246,12 +291,12 @@ fn stmts(
 
 /// Statements with blocks nested no deeper than `depth`.
 #[cycle(blocks)]
-fn block(
+fn block<'a>(
     alloc: Global,
-    tokens: &mut Tokens,
+    tokens: &mut Tokens<'a>,
     turns: usize,
     depth: usize,
-) -> Result<Items<Stmt>, Stop>
+) -> Result<Items<Stmt<'a>>, Stop>
     ensures { Gives result tokens.new (spec.block turns depth tokens.old) }
 {
     let Some(inner) = depth.checked_sub(1) else {
@@ -262,12 +307,12 @@ fn block(
 
 /// The statements of a module, up to a token with which none begins.
 #[tactic(auto, using(crate::proofs::Turns::turns))]
-pub fn module_body(
+pub fn module_body<'a>(
     alloc: Global,
-    tokens: &mut Tokens,
+    tokens: &mut Tokens<'a>,
     turns: usize,
     depth: usize,
-) -> Result<Items<Stmt>, Stop>
+) -> Result<Items<Stmt<'a>>, Stop>
     ensures { Gives result tokens.new (spec.module_of turns depth tokens.old) }
 {
     let mut list = Items::new(alloc);

@@ -17,12 +17,12 @@ use std::alloc::Global;
 /// What stands in round brackets.
 #[tactic(auto, unfolding(crate::specs::Parsing::in_round))]
 #[cycle(nested)]
-pub fn in_round(
+pub fn in_round<'a>(
     alloc: Global,
-    tokens: &mut Tokens,
+    tokens: &mut Tokens<'a>,
     turns: usize,
     depth: usize,
-) -> Result<Option<Exprs>, Stop>
+) -> Result<Option<Exprs<'a>>, Stop>
     ensures { Gives result tokens.new (spec.in_round turns (spec.exprs turns depth) tokens.old) }
 {
     tokens.take(Mark::OpenRound)?;
@@ -38,12 +38,12 @@ pub fn in_round(
 /// What stands in square brackets.
 #[tactic(auto, unfolding(crate::specs::Parsing::in_square))]
 #[cycle(nested)]
-fn in_square(
+fn in_square<'a>(
     alloc: Global,
-    tokens: &mut Tokens,
+    tokens: &mut Tokens<'a>,
     turns: usize,
     depth: usize,
-) -> Result<Option<Exprs>, Stop>
+) -> Result<Option<Exprs<'a>>, Stop>
     ensures { Gives result tokens.new (spec.in_square turns (spec.exprs turns depth) tokens.old) }
 {
     tokens.take(Mark::OpenSquare)?;
@@ -59,7 +59,12 @@ fn in_square(
 /// The innermost part of an expression.
 #[tactic(auto, unfolding(crate::specs::Parsing::atom))]
 #[cycle(nested)]
-fn atom(alloc: Global, tokens: &mut Tokens, turns: usize, depth: usize) -> Result<Atom, Stop>
+fn atom<'a>(
+    alloc: Global,
+    tokens: &mut Tokens<'a>,
+    turns: usize,
+    depth: usize,
+) -> Result<Atom<'a>, Stop>
     ensures { Gives result tokens.new (spec.atom turns (spec.exprs turns depth) tokens.old) }
 {
     if tokens.sees(Mark::Name) {
@@ -77,7 +82,12 @@ fn atom(alloc: Global, tokens: &mut Tokens, turns: usize, depth: usize) -> Resul
 /// A member or a call.
 #[tactic(auto, unfolding(crate::specs::Parsing::postfix))]
 #[cycle(nested)]
-fn postfix(alloc: Global, tokens: &mut Tokens, turns: usize, depth: usize) -> Result<Postfix, Stop>
+fn postfix<'a>(
+    alloc: Global,
+    tokens: &mut Tokens<'a>,
+    turns: usize,
+    depth: usize,
+) -> Result<Postfix<'a>, Stop>
     ensures { Gives result tokens.new (spec.postfix turns (spec.exprs turns depth) tokens.old) }
 {
     if tokens.sees(Mark::Dot) {
@@ -91,12 +101,12 @@ fn postfix(alloc: Global, tokens: &mut Tokens, turns: usize, depth: usize) -> Re
 /// Members and calls after an atom.
 #[tactic(auto, using(crate::proofs::Turns::turns))]
 #[cycle(nested)]
-fn postfixes(
+fn postfixes<'a>(
     alloc: Global,
-    tokens: &mut Tokens,
+    tokens: &mut Tokens<'a>,
     turns: usize,
     depth: usize,
-) -> Result<Items<Postfix>, Stop>
+) -> Result<Items<Postfix<'a>>, Stop>
     ensures { Gives result tokens.new (star spec.begins_postfix (spec.postfix turns (spec.exprs turns depth)) turns tokens.old) }
 {
     let mut posts = Items::new(alloc);
@@ -112,7 +122,12 @@ fn postfixes(
 /// An atom with the members and calls after it.
 #[tactic(auto, unfolding(crate::specs::Parsing::primary))]
 #[cycle(nested)]
-fn primary(alloc: Global, tokens: &mut Tokens, turns: usize, depth: usize) -> Result<Primary, Stop>
+fn primary<'a>(
+    alloc: Global,
+    tokens: &mut Tokens<'a>,
+    turns: usize,
+    depth: usize,
+) -> Result<Primary<'a>, Stop>
     ensures { Gives result tokens.new (spec.primary turns (spec.exprs turns depth) tokens.old) }
 {
     let atom = atom(alloc, tokens, turns, depth)?;
@@ -123,7 +138,12 @@ fn primary(alloc: Global, tokens: &mut Tokens, turns: usize, depth: usize) -> Re
 /// A primary with the signs before it.
 #[tactic(auto, unfolding(crate::specs::Parsing::operand))]
 #[cycle(nested)]
-fn operand(alloc: Global, tokens: &mut Tokens, turns: usize, depth: usize) -> Result<Operand, Stop>
+fn operand<'a>(
+    alloc: Global,
+    tokens: &mut Tokens<'a>,
+    turns: usize,
+    depth: usize,
+) -> Result<Operand<'a>, Stop>
     ensures { Gives result tokens.new (spec.operand turns (spec.exprs turns depth) tokens.old) }
 {
     let signs = signs(alloc, tokens, turns)?;
@@ -134,7 +154,12 @@ fn operand(alloc: Global, tokens: &mut Tokens, turns: usize, depth: usize) -> Re
 /// `not in` and its operand.
 #[tactic(auto, unfolding(crate::specs::Parsing::negated))]
 #[cycle(nested)]
-fn negated(alloc: Global, tokens: &mut Tokens, turns: usize, depth: usize) -> Result<Joined, Stop>
+fn negated<'a>(
+    alloc: Global,
+    tokens: &mut Tokens<'a>,
+    turns: usize,
+    depth: usize,
+) -> Result<Joined<'a>, Stop>
     ensures { Gives result tokens.new (spec.negated turns (spec.exprs turns depth) tokens.old) }
 {
     tokens.take(Mark::Not)?;
@@ -149,7 +174,12 @@ fn negated(alloc: Global, tokens: &mut Tokens, turns: usize, depth: usize) -> Re
 /// `is` or `is not`, and its operand.
 #[tactic(auto, unfolding(crate::specs::Parsing::compared))]
 #[cycle(nested)]
-fn compared(alloc: Global, tokens: &mut Tokens, turns: usize, depth: usize) -> Result<Joined, Stop>
+fn compared<'a>(
+    alloc: Global,
+    tokens: &mut Tokens<'a>,
+    turns: usize,
+    depth: usize,
+) -> Result<Joined<'a>, Stop>
     ensures { Gives result tokens.new (spec.compared turns (spec.exprs turns depth) tokens.old) }
 {
     tokens.take(Mark::Is)?;
@@ -171,7 +201,12 @@ fn compared(alloc: Global, tokens: &mut Tokens, turns: usize, depth: usize) -> R
 /// An operator and its operand.
 #[tactic(auto, unfolding(crate::specs::Parsing::joined))]
 #[cycle(nested)]
-fn joined(alloc: Global, tokens: &mut Tokens, turns: usize, depth: usize) -> Result<Joined, Stop>
+fn joined<'a>(
+    alloc: Global,
+    tokens: &mut Tokens<'a>,
+    turns: usize,
+    depth: usize,
+) -> Result<Joined<'a>, Stop>
     ensures { Gives result tokens.new (spec.joined turns (spec.exprs turns depth) tokens.old) }
 {
     if tokens.sees(Mark::Not) {
@@ -188,12 +223,12 @@ fn joined(alloc: Global, tokens: &mut Tokens, turns: usize, depth: usize) -> Res
 /// Operators with their operands.
 #[tactic(auto, using(crate::proofs::Turns::turns))]
 #[cycle(nested)]
-fn joins(
+fn joins<'a>(
     alloc: Global,
-    tokens: &mut Tokens,
+    tokens: &mut Tokens<'a>,
     turns: usize,
     depth: usize,
-) -> Result<Items<Joined>, Stop>
+) -> Result<Items<Joined<'a>>, Stop>
     ensures { Gives result tokens.new (star spec.begins_joined (spec.joined turns (spec.exprs turns depth)) turns tokens.old) }
 {
     let mut rest = Items::new(alloc);
@@ -209,7 +244,12 @@ fn joins(
 /// Operands with operators between.
 #[tactic(auto, unfolding(crate::specs::Parsing::expr))]
 #[cycle(nested)]
-pub fn expr(alloc: Global, tokens: &mut Tokens, turns: usize, depth: usize) -> Result<Expr, Stop>
+pub fn expr<'a>(
+    alloc: Global,
+    tokens: &mut Tokens<'a>,
+    turns: usize,
+    depth: usize,
+) -> Result<Expr<'a>, Stop>
     ensures { Gives result tokens.new (spec.expr turns (spec.exprs turns depth) tokens.old) }
 {
     let first = operand(alloc, tokens, turns, depth)?;
@@ -220,12 +260,12 @@ pub fn expr(alloc: Global, tokens: &mut Tokens, turns: usize, depth: usize) -> R
 /// Expressions with commas between, and whether a comma stands at the end.
 #[tactic(auto, using(crate::proofs::Turns::turns))]
 #[cycle(nested)]
-fn listed(
+fn listed<'a>(
     alloc: Global,
-    tokens: &mut Tokens,
+    tokens: &mut Tokens<'a>,
     turns: usize,
     depth: usize,
-) -> Result<(Items<Expr>, bool), Stop>
+) -> Result<(Items<Expr<'a>>, bool), Stop>
     ensures { Gives result tokens.new (several spec.begins_expr (spec.expr turns (spec.exprs turns depth)) turns tokens.old) }
 {
     let mut items = Items::new(alloc);
@@ -246,7 +286,12 @@ fn listed(
 /// Expressions with brackets nested no deeper than `depth`.
 #[tactic(auto, unfolding(crate::specs::Parsing::exprs_with))]
 #[cycle(nested)]
-pub fn exprs(alloc: Global, tokens: &mut Tokens, turns: usize, depth: usize) -> Result<Exprs, Stop>
+pub fn exprs<'a>(
+    alloc: Global,
+    tokens: &mut Tokens<'a>,
+    turns: usize,
+    depth: usize,
+) -> Result<Exprs<'a>, Stop>
     ensures { Gives result tokens.new (spec.exprs turns depth tokens.old) }
 {
     let Some(inner) = depth.checked_sub(1) else {

@@ -49,7 +49,11 @@ pub fn begins_stmt(mark: Mark) -> bool
 
 /// Names with commas between, and whether a comma stands at the end.
 #[tactic(auto, using(crate::proofs::Turns::turns))]
-fn names(alloc: Global, tokens: &mut Tokens, turns: usize) -> Result<(Items<Word>, bool), Stop>
+fn names<'a>(
+    alloc: Global,
+    tokens: &mut Tokens<'a>,
+    turns: usize,
+) -> Result<(Items<Word<'a>>, bool), Stop>
     ensures { Gives result tokens.new (several (is Mark.Name) name turns tokens.old) }
 {
     let mut list = Items::new(alloc);
@@ -69,7 +73,11 @@ fn names(alloc: Global, tokens: &mut Tokens, turns: usize) -> Result<(Items<Word
 
 /// The parameters of a function.
 #[tactic(auto, unfolding(crate::specs::Statements::parameters))]
-pub fn parameters(alloc: Global, tokens: &mut Tokens, turns: usize) -> Result<Items<Word>, Stop>
+pub fn parameters<'a>(
+    alloc: Global,
+    tokens: &mut Tokens<'a>,
+    turns: usize,
+) -> Result<Items<Word<'a>>, Stop>
     ensures { Gives result tokens.new (spec.parameters turns tokens.old) }
 {
     tokens.take(Mark::OpenRound)?;
@@ -84,7 +92,11 @@ pub fn parameters(alloc: Global, tokens: &mut Tokens, turns: usize) -> Result<It
 
 /// The bases of a class.
 #[tactic(auto, unfolding(crate::specs::Statements::bases))]
-pub fn bases(alloc: Global, tokens: &mut Tokens, turns: usize) -> Result<Items<Expr>, Stop>
+pub fn bases<'a>(
+    alloc: Global,
+    tokens: &mut Tokens<'a>,
+    turns: usize,
+) -> Result<Items<Expr<'a>>, Stop>
     ensures { Gives result tokens.new (spec.bases turns tokens.old) }
 {
     if !tokens.sees(Mark::OpenRound) {

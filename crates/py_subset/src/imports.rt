@@ -13,7 +13,7 @@ use crate::tree::{FromItem, ImportItem, Stmt, Word};
 use std::alloc::Global;
 
 /// A dot and a name.
-fn member(tokens: &mut Tokens) -> Result<Word, Stop>
+fn member<'a>(tokens: &mut Tokens<'a>) -> Result<Word<'a>, Stop>
     ensures { Gives result tokens.new ((Mark.Dot ▹ parsers.name) tokens.old) }
 {
     tokens.take(Mark::Dot)?;
@@ -22,7 +22,7 @@ fn member(tokens: &mut Tokens) -> Result<Word, Stop>
 
 /// Names with dots between.
 #[tactic(auto, using(crate::proofs::Turns::turns), unfolding(crate::specs::Statements::dotted))]
-fn dotted(alloc: Global, tokens: &mut Tokens, turns: usize) -> Result<Items<Word>, Stop>
+fn dotted<'a>(alloc: Global, tokens: &mut Tokens<'a>, turns: usize) -> Result<Items<Word<'a>>, Stop>
     ensures { Gives result tokens.new (spec.dotted turns tokens.old) }
 {
     let mut words = Items::new(alloc);
@@ -38,7 +38,7 @@ fn dotted(alloc: Global, tokens: &mut Tokens, turns: usize) -> Result<Items<Word
 
 /// The name behind `as`, if there is one.
 #[tactic(auto, unfolding(crate::specs::Statements::alias))]
-fn alias(tokens: &mut Tokens, turns: usize) -> Result<Option<Word>, Stop>
+fn alias<'a>(tokens: &mut Tokens<'a>, turns: usize) -> Result<Option<Word<'a>>, Stop>
     ensures { Gives result tokens.new (spec.alias turns tokens.old) }
 {
     if !tokens.sees(Mark::As) {
@@ -50,7 +50,7 @@ fn alias(tokens: &mut Tokens, turns: usize) -> Result<Option<Word>, Stop>
 
 /// An imported module and its name behind `as`.
 #[tactic(auto, unfolding(crate::specs::Statements::modas))]
-fn modas(alloc: Global, tokens: &mut Tokens, turns: usize) -> Result<ImportItem, Stop>
+fn modas<'a>(alloc: Global, tokens: &mut Tokens<'a>, turns: usize) -> Result<ImportItem<'a>, Stop>
     ensures { Gives result tokens.new (spec.modas turns tokens.old) }
 {
     let dotted = dotted(alloc, tokens, turns)?;
@@ -59,7 +59,11 @@ fn modas(alloc: Global, tokens: &mut Tokens, turns: usize) -> Result<ImportItem,
 }
 
 /// A further one behind a comma.
-fn next_modas(alloc: Global, tokens: &mut Tokens, turns: usize) -> Result<ImportItem, Stop>
+fn next_modas<'a>(
+    alloc: Global,
+    tokens: &mut Tokens<'a>,
+    turns: usize,
+) -> Result<ImportItem<'a>, Stop>
     ensures { Gives result tokens.new ((Mark.Comma ▹ spec.modas turns) tokens.old) }
 {
     tokens.take(Mark::Comma)?;
@@ -68,7 +72,11 @@ fn next_modas(alloc: Global, tokens: &mut Tokens, turns: usize) -> Result<Import
 
 /// Imported modules with commas between.
 #[tactic(auto, using(crate::proofs::Turns::turns), unfolding(crate::specs::Statements::modas_list))]
-fn modas_list(alloc: Global, tokens: &mut Tokens, turns: usize) -> Result<Items<ImportItem>, Stop>
+fn modas_list<'a>(
+    alloc: Global,
+    tokens: &mut Tokens<'a>,
+    turns: usize,
+) -> Result<Items<ImportItem<'a>>, Stop>
     ensures { Gives result tokens.new (spec.modas_list turns tokens.old) }
 {
     let mut list = Items::new(alloc);
@@ -84,7 +92,11 @@ fn modas_list(alloc: Global, tokens: &mut Tokens, turns: usize) -> Result<Items<
 
 /// `import ..`
 #[tactic(auto, unfolding(crate::specs::Statements::import_stmt))]
-pub fn import_stmt(alloc: Global, tokens: &mut Tokens, turns: usize) -> Result<Stmt, Stop>
+pub fn import_stmt<'a>(
+    alloc: Global,
+    tokens: &mut Tokens<'a>,
+    turns: usize,
+) -> Result<Stmt<'a>, Stop>
     ensures { Gives result tokens.new (spec.import_stmt turns tokens.old) }
 {
     tokens.take(Mark::Import)?;
@@ -93,7 +105,7 @@ pub fn import_stmt(alloc: Global, tokens: &mut Tokens, turns: usize) -> Result<S
 
 /// An imported name and its name behind `as`.
 #[tactic(auto, unfolding(crate::specs::Statements::item))]
-fn item(tokens: &mut Tokens, turns: usize) -> Result<FromItem, Stop>
+fn item<'a>(tokens: &mut Tokens<'a>, turns: usize) -> Result<FromItem<'a>, Stop>
     ensures { Gives result tokens.new (spec.item turns tokens.old) }
 {
     let name = tokens.name()?;
@@ -102,7 +114,7 @@ fn item(tokens: &mut Tokens, turns: usize) -> Result<FromItem, Stop>
 }
 
 /// A further one behind a comma.
-fn next_item(tokens: &mut Tokens, turns: usize) -> Result<FromItem, Stop>
+fn next_item<'a>(tokens: &mut Tokens<'a>, turns: usize) -> Result<FromItem<'a>, Stop>
     ensures { Gives result tokens.new ((Mark.Comma ▹ spec.item turns) tokens.old) }
 {
     tokens.take(Mark::Comma)?;
@@ -111,7 +123,11 @@ fn next_item(tokens: &mut Tokens, turns: usize) -> Result<FromItem, Stop>
 
 /// Imported names with commas between.
 #[tactic(auto, using(crate::proofs::Turns::turns), unfolding(crate::specs::Statements::items))]
-fn items(alloc: Global, tokens: &mut Tokens, turns: usize) -> Result<Items<FromItem>, Stop>
+fn items<'a>(
+    alloc: Global,
+    tokens: &mut Tokens<'a>,
+    turns: usize,
+) -> Result<Items<FromItem<'a>>, Stop>
     ensures { Gives result tokens.new (spec.items turns tokens.old) }
 {
     let mut list = Items::new(alloc);
@@ -127,7 +143,11 @@ fn items(alloc: Global, tokens: &mut Tokens, turns: usize) -> Result<Items<FromI
 
 /// Imported names with commas between, and whether a comma stands at the end.
 #[tactic(auto, using(crate::proofs::Turns::turns))]
-fn listed(alloc: Global, tokens: &mut Tokens, turns: usize) -> Result<(Items<FromItem>, bool), Stop>
+fn listed<'a>(
+    alloc: Global,
+    tokens: &mut Tokens<'a>,
+    turns: usize,
+) -> Result<(Items<FromItem<'a>>, bool), Stop>
     ensures { Gives result tokens.new (several (is Mark.Name) (spec.item turns) turns tokens.old) }
 {
     let mut list = Items::new(alloc);
@@ -147,11 +167,11 @@ fn listed(alloc: Global, tokens: &mut Tokens, turns: usize) -> Result<(Items<Fro
 
 /// Imported names in brackets.
 #[tactic(auto, unfolding(crate::specs::Statements::enclosed))]
-fn enclosed(
+fn enclosed<'a>(
     alloc: Global,
-    tokens: &mut Tokens,
+    tokens: &mut Tokens<'a>,
     turns: usize,
-) -> Result<Option<Items<FromItem>>, Stop>
+) -> Result<Option<Items<FromItem<'a>>>, Stop>
     ensures { Gives result tokens.new (spec.enclosed turns tokens.old) }
 {
     tokens.take(Mark::OpenRound)?;
@@ -162,11 +182,11 @@ fn enclosed(
 
 /// What is imported: these names, or all.
 #[tactic(auto, unfolding(crate::specs::Statements::imported))]
-fn imported(
+fn imported<'a>(
     alloc: Global,
-    tokens: &mut Tokens,
+    tokens: &mut Tokens<'a>,
     turns: usize,
-) -> Result<Option<Items<FromItem>>, Stop>
+) -> Result<Option<Items<FromItem<'a>>>, Stop>
     ensures { Gives result tokens.new (spec.imported turns tokens.old) }
 {
     if tokens.sees(Mark::Star) {
@@ -181,7 +201,7 @@ fn imported(
 
 /// `from .. import ..`
 #[tactic(auto, unfolding(crate::specs::Statements::from_stmt))]
-pub fn from_stmt(alloc: Global, tokens: &mut Tokens, turns: usize) -> Result<Stmt, Stop>
+pub fn from_stmt<'a>(alloc: Global, tokens: &mut Tokens<'a>, turns: usize) -> Result<Stmt<'a>, Stop>
     ensures { Gives result tokens.new (spec.from_stmt turns tokens.old) }
 {
     tokens.take(Mark::From)?;

@@ -11,7 +11,6 @@ use crate::making::{dedents, name_token, token};
 use crate::piece::{Bracket, Flaw, PieceKind};
 use crate::reading::{Place, Reading};
 use crate::token::{Mark, PyFault};
-use std::alloc::Global;
 
 /// How many brackets and blocks may be open at once.
 const MOST_OPEN: usize = 64;
@@ -50,7 +49,7 @@ fn fault_of(flaw: Flaw, line: u32) -> PyFault
     }
 }
 
-impl Reading {
+impl<'a> Reading<'a> {
     /// Whether one more bracket or block is too many.
     fn is_full(&self) -> bool
         ensures { result ≡ spec.is_full self.now }
@@ -60,14 +59,14 @@ impl Reading {
     }
 
     /// A line begins at this place.
-    fn indent(&mut self, alloc: Global, place: Place) -> Result<(), PyFault>
+    fn indent(&mut self, place: Place) -> Result<(), PyFault>
         ensures { spec.Does result (spec.indented place self.old) self.new }
     {
         let blocks = self.blocks.items();
         let len = blocks.len();
         let n = kept(place.column, blocks);
         if innermost(&blocks[..n]) == place.column {
-            dedents(alloc, &mut self.tokens, len - n, place.line)?;
+            dedents(&mut self.tokens, len - n, place.line)?;
             self.blocks.truncate(n);
             self.fresh = false;
             return Ok(());
@@ -78,70 +77,70 @@ impl Reading {
         if self.is_full() {
             return Err(PyFault::TooDeep(place.line));
         }
-        self.tokens.push(token(alloc, Mark::Indent, place.line))?;
+        self.tokens.push(token(Mark::Indent, place.line))?;
         self.blocks.push(place.column)?;
         self.fresh = false;
         Ok(())
     }
 
     /// The first token of a line begins it.
-    fn begin(&mut self, alloc: Global, place: Place) -> Result<(), PyFault>
+    fn begin(&mut self, place: Place) -> Result<(), PyFault>
         ensures { spec.Does result (spec.begin place self.old) self.new }
     {
         if self.fresh {
-            self.indent(alloc, place)
+            self.indent(place)
         } else {
             Ok(())
         }
     }
 
     /// Adds a name.
-    fn name(&mut self, alloc: Global, bytes: &[u8], place: Place) -> Result<(), PyFault>
+    fn name(&mut self, bytes: &'a [u8], place: Place) -> Result<(), PyFault>
         requires ascii { IsAscii bytes.now }
         requires short { place.column + length bytes.now < 2 ^ 32 }
         ensures { spec.Does result (spec.name bytes.now place self.old) self.new }
     {
-        self.begin(alloc, place)?;
-        self.tokens.push(name_token(alloc, bytes, place)?)?;
+        self.begin(place)?;
+        self.tokens.push(name_token(bytes, place))?;
         Ok(())
     }
 
     /// Adds a token other than a name, a string or a bracket.
-    fn plain(&mut self, alloc: Global, mark: Mark, place: Place) -> Result<(), PyFault>
+    fn plain(&mut self, mark: Mark, place: Place) -> Result<(), PyFault>
         ensures { spec.Does result (spec.plain mark place self.old) self.new }
     {
-        self.begin(alloc, place)?;
-        self.tokens.push(token(alloc, mark, place.line))?;
+        self.begin(place)?;
+        self.tokens.push(token(mark, place.line))?;
         Ok(())
     }
 
     /// Adds a string, which holds no carriage return.
-    fn text(&mut self, alloc: Global, has_return: bool, place: Place) -> Result<(), PyFault>
+    fn text(&mut self, has_return: bool, place: Place) -> Result<(), PyFault>
         ensures { spec.Does result (spec.text has_return place self.old) self.new }
     {
-        self.begin(alloc, place)?;
+        self.begin(place)?;
         if has_return {
             return Err(PyFault::BadToken(place.line));
         }
-        self.tokens.push(token(alloc, Mark::Text, place.line))?;
+        self.tokens.push(token(Mark::Text, place.line))?;
         Ok(())
     }
 
     /// Adds an opening bracket.
-    fn opened(&mut self, alloc: Global, b: Bracket, place: Place) -> Result<(), PyFault>
+    fn opened(&mut self, b: Bracket, place: Place) -> Result<(), PyFault>
         ensures { spec.Does result (spec.opened b place self.old) self.new }
     {
-        self.begin(alloc, place)?;
+        self.begin(place)?;
         if self.is_full() {
             return Err(PyFault::TooDeep(place.line));
         }
         self.brackets.push(b)?;
-        self.tokens.push(token(alloc, open_mark(b), place.line))?;
+        self.tokens.push(token(open_mark(b), place.line))?;
         Ok(())
     }
 
     /// Adds a closing bracket, which closes the innermost one.
-    fn closed(&mut self, alloc: Global, b: Bracket, place: Place) -> Result<(), PyFault>
+    fn closed(&mut self, b: Bracket, place: Place) -> Result<(), PyFault>
         ensures { spec.Does result (spec.closed b place self.old) self.new }
     {
         let brackets = self.brackets.items();
@@ -150,16 +149,16 @@ impl Reading {
             return Err(PyFault::BadToken(place.line));
         }
         self.brackets.truncate(len.saturating_sub(1));
-        self.tokens.push(token(alloc, close_mark(b), place.line))?;
+        self.tokens.push(token(close_mark(b), place.line))?;
         Ok(())
     }
 
     /// Ends a line: with `Newline` where the line counts and no bracket is open.
-    fn line_end(&mut self, alloc: Global, place: Place) -> Result<(), PyFault>
+    fn line_end(&mut self, place: Place) -> Result<(), PyFault>
         ensures { spec.Does result (spec.line_end place self.old) self.new }
     {
         if !self.fresh && self.brackets.len() == 0 {
-            self.tokens.push(token(alloc, Mark::Newline, place.line))?;
+            self.tokens.push(token(Mark::Newline, place.line))?;
             self.fresh = true;
         }
         self.tab = false;
@@ -167,24 +166,18 @@ impl Reading {
     }
 
     /// Adds what a piece adds that makes a line count.
-    fn counted(
-        &mut self,
-        alloc: Global,
-        kind: PieceKind,
-        bytes: &[u8],
-        place: Place,
-    ) -> Result<(), PyFault>
+    fn counted(&mut self, kind: PieceKind, bytes: &'a [u8], place: Place) -> Result<(), PyFault>
         requires spelled { pieces.IsSpelled kind bytes.now }
         requires short { place.column + length bytes.now < 2 ^ 32 }
         ensures { spec.Does result (spec.counted kind bytes.now place self.old) self.new }
     {
         match kind {
             PieceKind::Blanks(_) | PieceKind::Comment | PieceKind::LineEnd => Ok(()),
-            PieceKind::Name => self.name(alloc, bytes, place),
-            PieceKind::Plain(mark) => self.plain(alloc, mark, place),
-            PieceKind::Text(has_return) => self.text(alloc, has_return, place),
-            PieceKind::Open(b) => self.opened(alloc, b, place),
-            PieceKind::Close(b) => self.closed(alloc, b, place),
+            PieceKind::Name => self.name(bytes, place),
+            PieceKind::Plain(mark) => self.plain(mark, place),
+            PieceKind::Text(has_return) => self.text(has_return, place),
+            PieceKind::Open(b) => self.opened(b, place),
+            PieceKind::Close(b) => self.closed(b, place),
             PieceKind::Broken(flaw) => Err(fault_of(flaw, place.line)),
         }
     }
@@ -192,9 +185,8 @@ impl Reading {
     /// Takes the next piece, with its bytes and its place. After an `Err` the reading is over.
     pub(crate) fn take(
         &mut self,
-        alloc: Global,
         kind: PieceKind,
-        bytes: &[u8],
+        bytes: &'a [u8],
         place: Place,
     ) -> Result<(), PyFault>
         requires spelled { pieces.IsSpelled kind bytes.now }
@@ -210,7 +202,7 @@ impl Reading {
                 self.tab = false;
                 Ok(())
             }
-            PieceKind::LineEnd => self.line_end(alloc, place),
+            PieceKind::LineEnd => self.line_end(place),
             PieceKind::Name
             | PieceKind::Plain(_)
             | PieceKind::Text(_)
@@ -220,22 +212,22 @@ impl Reading {
                 if self.tab {
                     return Err(PyFault::Unsupported(place.line));
                 }
-                self.counted(alloc, kind, bytes, place)
+                self.counted(kind, bytes, place)
             }
         }
     }
 
     /// Ends the reading, at the line of the text's end.
-    pub(crate) fn finish(&mut self, alloc: Global, line: u32) -> Result<(), PyFault>
+    pub(crate) fn finish(&mut self, line: u32) -> Result<(), PyFault>
         ensures { spec.Does result (spec.finish line self.old) self.new.tokens }
     {
         if self.brackets.len() > 0 {
             return Err(PyFault::BadToken(line));
         }
         if !self.fresh {
-            self.tokens.push(token(alloc, Mark::Newline, line))?;
+            self.tokens.push(token(Mark::Newline, line))?;
         }
-        dedents(alloc, &mut self.tokens, self.blocks.len(), line)?;
+        dedents(&mut self.tokens, self.blocks.len(), line)?;
         Ok(())
     }
 }

@@ -13,10 +13,10 @@ use std::alloc::{AllocError, Global};
 
 /// For how many bytes of a text room for one token is made at once. A text with more tokens than that takes
 /// more room as they come.
-const BYTES_A_TOKEN: usize = 4;
+const BYTES_A_TOKEN: usize = 3;
 
 /// Before the first line of a text of this many bytes; the one error is want of memory.
-fn start(alloc: Global, bytes: usize) -> Result<Reading, AllocError>
+fn start<'a>(alloc: Global, bytes: usize) -> Result<Reading<'a>, AllocError>
     ensures { IfOk result (λ r. r ≡ spec.start) }
 {
     Ok(Reading {
@@ -80,7 +80,7 @@ pub fn end_line(text: &[u8]) -> u32
 
 /// The tokens of a text of fewer than 2^32 bytes, without the end of the text, or its first fault. It takes time
 /// and memory that follow the length of the text.
-pub fn tokens(alloc: Global, text: &[u8]) -> Result<Tokens, PyFault>
+pub fn tokens<'a>(alloc: Global, text: &'a [u8]) -> Result<Tokens<'a>, PyFault>
     requires { length text.now < 2 ^ 32 }
     ensures { spec.Reads result (spec.tokens_of text.now) }
 {
@@ -90,10 +90,10 @@ pub fn tokens(alloc: Global, text: &[u8]) -> Result<Tokens, PyFault>
     while at < text.len() {
         let rest = rest_from(text, at);
         let piece = piece_at(rest);
-        reading.take(alloc, piece.kind, front(rest, piece.len), place)?;
+        reading.take(piece.kind, front(rest, piece.len), place)?;
         place = past(piece.kind, piece.len as u32, place);
         at += piece.len;
     }
-    reading.finish(alloc, end_line(text))?;
+    reading.finish(end_line(text))?;
     Ok(Tokens::of(reading.tokens))
 }

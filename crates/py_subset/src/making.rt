@@ -1,6 +1,6 @@
 //! Tokens that are made of pieces.
 
-ghost use Rattle.std.specs.Prelude.{◌≡◌, ◌+◌, ◌^◌, ◌<◌, ◌++◌, length, replicate, IfOk, OnOk};
+ghost use Rattle.std.specs.Prelude.{◌≡◌, ◌+◌, ◌^◌, ◌<◌, ◌++◌, length, replicate, OnOk};
 ghost use Rattle.std.specs.Str.{IsAscii};
 ghost use Rattle.py_subset.specs.Layout as spec;
 
@@ -8,16 +8,17 @@ use crate::items::Items;
 use crate::reading::Place;
 use crate::token::{Mark, Token};
 use crate::tree::{PyText, Word};
-use std::alloc::{AllocError, Global};
+use std::alloc::AllocError;
+use std::str;
 
 /// A token other than a name.
-pub fn token(alloc: Global, mark: Mark, line: u32) -> Token
+pub fn token<'a>(mark: Mark, line: u32) -> Token<'a>
     ensures { result ≡ spec.token mark line }
 {
     Token {
         mark,
         word: Word {
-            text: PyText::of(String::new(alloc)),
+            text: PyText::of(""),
             line,
             from_column: 0,
             to_column: 0,
@@ -25,35 +26,38 @@ pub fn token(alloc: Global, mark: Mark, line: u32) -> Token
     }
 }
 
-/// A name with its text and its columns.
+/// The characters of bytes that are ASCII.
 #[tactic(auto, using(crate::proofs::Pieces::texts))]
-pub fn name_token(alloc: Global, name: &[u8], place: Place) -> Result<Token, AllocError>
+fn characters(name: &[u8]) -> &str
+    requires { IsAscii name.now }
+    ensures { result.now ≡ name.now }
+{
+    str::from_utf8(name).unwrap()
+}
+
+/// A name with its text and its columns.
+pub fn name_token<'a>(name: &'a [u8], place: Place) -> Token<'a>
     requires ascii { IsAscii name.now }
     requires short { place.column + length name.now < 2 ^ 32 }
-    ensures { IfOk result (λ t. t ≡ spec.name_token name.now place) }
+    ensures { result ≡ spec.name_token name.now place }
 {
-    Ok(Token {
+    Token {
         mark: Mark::Name,
         word: Word {
-            text: PyText::of(String::from_utf8_lossy(alloc, name)?),
+            text: PyText::of(characters(name)),
             line: place.line,
             from_column: place.column,
             to_column: place.column + name.len() as u32,
         },
-    })
+    }
 }
 
 /// Adds this many `Dedent`.
-pub fn dedents(
-    alloc: Global,
-    tokens: &mut Items<Token>,
-    n: usize,
-    line: u32,
-) -> Result<(), AllocError>
+pub fn dedents<'a>(tokens: &mut Items<Token<'a>>, n: usize, line: u32) -> Result<(), AllocError>
     ensures { OnOk result (tokens.new ≡ tokens.old ++ replicate n (spec.token Mark.Dedent line)) }
 {
     for i in 0..n {
-        tokens.push(token(alloc, Mark::Dedent, line))?;
+        tokens.push(token(Mark::Dedent, line))?;
     }
     Ok(())
 }

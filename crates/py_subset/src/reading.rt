@@ -18,9 +18,9 @@ pub struct Place {
 
 /// What has been read of a text: the tokens so far, and what the next line and bracket depend on.
 #[derive(Drop)]
-pub struct Reading {
+pub struct Reading<'a> {
     /// The tokens so far.
-    pub tokens: Items<Token>,
+    pub tokens: Items<Token<'a>>,
     /// The columns of the open blocks, the innermost last.
     pub blocks: Items<u32>,
     /// The open brackets, the innermost last.

@@ -14,7 +14,7 @@ use crate::tree::{Atom, Expr, Exprs, Operand, Postfix, Primary, Stmt, Target};
 use std::alloc::Global;
 
 /// The statement that one token is.
-fn jump_of(mark: Mark) -> Option<Stmt>
+fn jump_of<'a>(mark: Mark) -> Option<Stmt<'a>>
     ensures { result ≡ tree.jump_of mark }
 {
     match mark {
@@ -28,25 +28,27 @@ fn jump_of(mark: Mark) -> Option<Stmt>
 
 /// The target that a primary is.
 #[tactic(auto, unfolding(crate::specs::Trees::primary_target))]
-fn primary_target(primary: Primary) -> Option<Target>
-    ensures { result ≡ tree.primary_target primary }
+fn primary_target<'a>(primary: Primary<'a>) -> Option<Target<'a>>
+    ensures { result ≡ tree.primary_target primary.entry }
 {
     let Primary { atom, mut posts } = primary;
     match posts.pop() {
-        Some(Postfix::Member(word)) => Some(Target::Member(Primary { atom, posts }, word)),
-        Some(Postfix::Call(_)) => None,
+        Some(post) => match post {
+            Postfix::Member(word) => Some(Target::Member(Primary { atom, posts }, word)),
+            Postfix::Call(_arguments) => None,
+        },
         None => match atom {
             Atom::Name(word) => Some(Target::Name(word)),
             Atom::Number | Atom::Text | Atom::TrueWord | Atom::FalseWord | Atom::NoneWord => None,
-            Atom::Round(_) | Atom::Square(_) => None,
+            Atom::Round(_inner) | Atom::Square(_inner) => None,
         },
     }
 }
 
 /// The target that these expressions are.
 #[tactic(auto, unfolding(crate::specs::Trees::target_of))]
-fn target_of(exprs: Exprs) -> Option<Target>
-    ensures { result ≡ tree.target_of exprs }
+fn target_of<'a>(exprs: Exprs<'a>) -> Option<Target<'a>>
+    ensures { result ≡ tree.target_of exprs.entry }
 {
     let Exprs {
         mut items,
@@ -70,7 +72,7 @@ fn target_of(exprs: Exprs) -> Option<Target>
 
 /// An assignment, or expressions alone.
 #[tactic(auto, unfolding(crate::specs::Statements::assign))]
-fn assign(alloc: Global, tokens: &mut Tokens, turns: usize) -> Result<Stmt, Stop>
+fn assign<'a>(alloc: Global, tokens: &mut Tokens<'a>, turns: usize) -> Result<Stmt<'a>, Stop>
     ensures { Gives result tokens.new (spec.assign turns tokens.old) }
 {
     let left = exprs(alloc, tokens, turns, turns)?;
@@ -88,7 +90,7 @@ fn assign(alloc: Global, tokens: &mut Tokens, turns: usize) -> Result<Stmt, Stop
 
 /// `return ..`
 #[tactic(auto, unfolding(crate::specs::Statements::return_stmt))]
-fn return_stmt(alloc: Global, tokens: &mut Tokens, turns: usize) -> Result<Stmt, Stop>
+fn return_stmt<'a>(alloc: Global, tokens: &mut Tokens<'a>, turns: usize) -> Result<Stmt<'a>, Stop>
     ensures { Gives result tokens.new (spec.return_stmt turns tokens.old) }
 {
     tokens.take(Mark::Return)?;
@@ -100,7 +102,7 @@ fn return_stmt(alloc: Global, tokens: &mut Tokens, turns: usize) -> Result<Stmt,
 
 /// A statement of one line, but for the line's end.
 #[tactic(auto, unfolding(crate::specs::Statements::simple, crate::specs::Statements::is_jump))]
-fn simple(alloc: Global, tokens: &mut Tokens, turns: usize) -> Result<Stmt, Stop>
+fn simple<'a>(alloc: Global, tokens: &mut Tokens<'a>, turns: usize) -> Result<Stmt<'a>, Stop>
     ensures { Gives result tokens.new (spec.simple turns tokens.old) }
 {
     if tokens.sees(Mark::Import) {
@@ -123,7 +125,11 @@ fn simple(alloc: Global, tokens: &mut Tokens, turns: usize) -> Result<Stmt, Stop
 
 /// A statement of one line.
 #[tactic(auto, unfolding(crate::specs::Statements::simple_line))]
-pub fn simple_line(alloc: Global, tokens: &mut Tokens, turns: usize) -> Result<Stmt, Stop>
+pub fn simple_line<'a>(
+    alloc: Global,
+    tokens: &mut Tokens<'a>,
+    turns: usize,
+) -> Result<Stmt<'a>, Stop>
     ensures { Gives result tokens.new (spec.simple_line turns tokens.old) }
 {
     let stmt = simple(alloc, tokens, turns)?;

@@ -81,7 +81,7 @@ fn op_of(mark: Mark) -> Option<BinOp>
 }
 
 /// The atoms of one token but a name.
-fn constant_of(mark: Mark) -> Option<Atom>
+fn constant_of<'a>(mark: Mark) -> Option<Atom<'a>>
     ensures { result ≡ tree.constant_of mark }
 {
     match mark {
@@ -113,7 +113,7 @@ pub fn begins_postfix(mark: Mark) -> bool
 
 /// The signs before an operand.
 #[tactic(auto, using(crate::proofs::Turns::turns))]
-pub fn signs(alloc: Global, tokens: &mut Tokens, turns: usize) -> Result<Items<Sign>, Stop>
+pub fn signs<'a>(alloc: Global, tokens: &mut Tokens<'a>, turns: usize) -> Result<Items<Sign>, Stop>
     ensures { Gives result tokens.new (star spec.begins_sign (marked tree.sign_of) turns tokens.old) }
 {
     let mut signs = Items::new(alloc);
@@ -128,7 +128,7 @@ pub fn signs(alloc: Global, tokens: &mut Tokens, turns: usize) -> Result<Items<S
 }
 
 /// An atom of one token.
-pub fn constant(tokens: &mut Tokens) -> Result<Atom, Stop>
+pub fn constant<'a>(tokens: &mut Tokens<'a>) -> Result<Atom<'a>, Stop>
     ensures { Gives result tokens.new (marked tree.constant_of tokens.old) }
 {
     match constant_of(tokens.peek()) {
@@ -141,7 +141,7 @@ pub fn constant(tokens: &mut Tokens) -> Result<Atom, Stop>
 }
 
 /// An operator of one token.
-pub fn operator(tokens: &mut Tokens) -> Result<BinOp, Stop>
+pub fn operator<'a>(tokens: &mut Tokens<'a>) -> Result<BinOp, Stop>
     ensures { Gives result tokens.new (marked tree.op_of tokens.old) }
 {
     match op_of(tokens.peek()) {
@@ -154,8 +154,8 @@ pub fn operator(tokens: &mut Tokens) -> Result<BinOp, Stop>
 }
 
 /// The expressions of an argument list.
-pub fn arguments(alloc: Global, inside: Option<Exprs>) -> Items<Expr>
-    ensures { result ≡ tree.items_of inside }
+pub fn arguments<'a>(alloc: Global, inside: Option<Exprs<'a>>) -> Items<Expr<'a>>
+    ensures { result ≡ tree.items_of inside.entry }
 {
     match inside {
         Some(

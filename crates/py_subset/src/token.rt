@@ -115,10 +115,10 @@ pub enum Mark {
 /// A token, of which definitions say what a text is made of. A word other than a name has its line alone:
 /// its text is empty and its columns are 0.
 #[derive(Debug, Drop)]
-pub struct Token {
+pub struct Token<'a> {
     pub mark: Mark,
     /// Where it stands, and a name's text.
-    pub word: Word,
+    pub word: Word<'a>,
 }
 
 impl From<AllocError> for PyFault {

@@ -29,12 +29,12 @@ impl From<AllocError> for Stop {
 
 /// Tokens in order, taken from the front. Contracts see them as a list.
 #[derive(Drop)]
-pub struct Tokens {
+pub struct Tokens<'a> {
     /// The tokens that are left, the next one last.
-    turned: Vec<Token>,
+    turned: Vec<Token<'a>>,
 }
 
-impl Model for Tokens {
+impl<'a> Model for Tokens<'a> {
     ghost use Rattle.std.specs.Prelude.{List, reverse};
     ghost use Rattle.py_subset.specs.declared.token.Token.{Token};
 
@@ -43,7 +43,7 @@ impl Model for Tokens {
     ghost view = { λ t. reverse t.turned.items };
 }
 
-impl Tokens {
+impl<'a> Tokens<'a> {
     ghost use Rattle.std.specs.Prelude.{◌≡◌, length};
     ghost use Rattle.py_subset.specs.Marks as marks;
     ghost use Rattle.py_subset.specs.Language as language;
@@ -51,8 +51,8 @@ impl Tokens {
     ghost use Rattle.py_subset.specs.Refusals as refusals;
 
     /// The tokens of this list, in its order. It takes time that follows their number, and no memory.
-    pub(crate) fn of(tokens: Items<Token>) -> Tokens
-        ensures { result ≡ tokens }
+    pub(crate) fn of(tokens: Items<Token<'a>>) -> Tokens<'a>
+        ensures { result ≡ tokens.entry }
     {
         let mut turned = tokens.into_items();
         turned.reverse();
@@ -113,7 +113,7 @@ impl Tokens {
     }
 
     /// Takes a name.
-    pub(crate) fn name(&mut self) -> Result<Word, Stop>
+    pub(crate) fn name(&mut self) -> Result<Word<'a>, Stop>
         ensures { parsers.Gives result self.new (parsers.name self.old) }
     {
         if !self.sees(Mark::Name) {

@@ -4,30 +4,28 @@
 //! places of tokens other than names, and the texts of numbers and strings.
 
 ghost use Rattle.std.specs.Prelude.{◌≡◌};
-ghost use Rattle.std.specs.String.{string_bytes};
 
 use crate::items::Items;
 use std::marker::Model;
 
-/// The text of a name, seen as its bytes.
+/// The text of a name, seen as its bytes. It stands in the text that was read.
 #[derive(Debug, Drop)]
-pub struct PyText {
-    text: String,
+pub struct PyText<'a> {
+    text: &'a str,
 }
 
-impl Model for PyText {
+impl<'a> Model for PyText<'a> {
     ghost use Rattle.std.specs.Prelude.{List, ℕ};
-    ghost use Rattle.std.specs.String.{string_bytes};
 
     ghost Value = { List ℕ };
 
-    ghost view = { λ t. string_bytes t.text };
+    ghost view = { λ t. t.text.now };
 }
 
-impl PyText {
+impl<'a> PyText<'a> {
     /// A text of these characters. It takes no memory.
-    pub fn of(text: String) -> PyText
-        ensures { result ≡ string_bytes text }
+    pub fn of(text: &'a str) -> PyText<'a>
+        ensures { result ≡ text.now }
     {
         PyText { text }
     }
@@ -36,14 +34,14 @@ impl PyText {
     pub fn as_str(&self) -> &str
         ensures { result.now ≡ self.now }
     {
-        self.text.as_str()
+        self.text
     }
 }
 
 /// A name where it stands. Lines are counted from 0, columns in bytes from 0.
 #[derive(Debug, Drop)]
-pub struct Word {
-    pub text: PyText,
+pub struct Word<'a> {
+    pub text: PyText<'a>,
     pub line: u32,
     pub from_column: u32,
     /// The column after the name.
@@ -52,111 +50,111 @@ pub struct Word {
 
 /// A whole module.
 #[derive(Drop)]
-pub struct Module {
-    pub body: Items<Stmt>,
+pub struct Module<'a> {
+    pub body: Items<Stmt<'a>>,
 }
 
 /// A statement. An `otherwise` is empty where there is no `else`.
 #[cycle(stmt)]
 #[derive(Drop)]
-pub enum Stmt {
-    Import(Items<ImportItem>),
-    From(Items<Word>, Items<FromItem>),
+pub enum Stmt<'a> {
+    Import(Items<ImportItem<'a>>),
+    From(Items<Word<'a>>, Items<FromItem<'a>>),
     /// `from .. import *`
-    FromAll(Items<Word>),
-    Assign(Target, Exprs),
-    Evaluate(Exprs),
-    Return(Option<Exprs>),
+    FromAll(Items<Word<'a>>),
+    Assign(Target<'a>, Exprs<'a>),
+    Evaluate(Exprs<'a>),
+    Return(Option<Exprs<'a>>),
     Pass,
     Break,
     Continue,
     If {
         /// The `if`, then its `elif` parts in order.
-        arms: Items<Arm>,
-        otherwise: Items<Stmt>,
+        arms: Items<Arm<'a>>,
+        otherwise: Items<Stmt<'a>>,
     },
     While {
-        condition: Expr,
-        body: Items<Stmt>,
-        otherwise: Items<Stmt>,
+        condition: Expr<'a>,
+        body: Items<Stmt<'a>>,
+        otherwise: Items<Stmt<'a>>,
     },
     For {
-        name: Word,
-        items: Exprs,
-        body: Items<Stmt>,
-        otherwise: Items<Stmt>,
+        name: Word<'a>,
+        items: Exprs<'a>,
+        body: Items<Stmt<'a>>,
+        otherwise: Items<Stmt<'a>>,
     },
     Def {
-        name: Word,
-        parameters: Items<Word>,
-        body: Items<Stmt>,
+        name: Word<'a>,
+        parameters: Items<Word<'a>>,
+        body: Items<Stmt<'a>>,
     },
     Class {
-        name: Word,
-        bases: Items<Expr>,
-        body: Items<Stmt>,
+        name: Word<'a>,
+        bases: Items<Expr<'a>>,
+        body: Items<Stmt<'a>>,
     },
 }
 
 /// A condition and its block.
 #[cycle(stmt)]
 #[derive(Drop)]
-pub struct Arm {
-    pub condition: Expr,
-    pub body: Items<Stmt>,
+pub struct Arm<'a> {
+    pub condition: Expr<'a>,
+    pub body: Items<Stmt<'a>>,
 }
 
 /// `a.b as c`
 #[derive(Drop)]
-pub struct ImportItem {
-    pub dotted: Items<Word>,
-    pub alias: Option<Word>,
+pub struct ImportItem<'a> {
+    pub dotted: Items<Word<'a>>,
+    pub alias: Option<Word<'a>>,
 }
 
 /// `a as b`
 #[derive(Drop)]
-pub struct FromItem {
-    pub name: Word,
-    pub alias: Option<Word>,
+pub struct FromItem<'a> {
+    pub name: Word<'a>,
+    pub alias: Option<Word<'a>>,
 }
 
 /// What stands before the `=` of an assignment.
 #[derive(Drop)]
-pub enum Target {
-    Name(Word),
-    Member(Primary, Word),
+pub enum Target<'a> {
+    Name(Word<'a>),
+    Member(Primary<'a>, Word<'a>),
 }
 
 /// Expressions with commas between.
 #[cycle(expr)]
 #[derive(Drop)]
-pub struct Exprs {
-    pub items: Items<Expr>,
+pub struct Exprs<'a> {
+    pub items: Items<Expr<'a>>,
     pub last_comma: bool,
 }
 
 /// Operands with operators between. How strongly an operator binds isn't kept.
 #[cycle(expr)]
 #[derive(Drop)]
-pub struct Expr {
-    pub first: Operand,
-    pub rest: Items<Joined>,
+pub struct Expr<'a> {
+    pub first: Operand<'a>,
+    pub rest: Items<Joined<'a>>,
 }
 
 /// An operator and the operand after it.
 #[cycle(expr)]
 #[derive(Drop)]
-pub struct Joined {
+pub struct Joined<'a> {
     pub op: BinOp,
-    pub operand: Operand,
+    pub operand: Operand<'a>,
 }
 
 /// A primary with the signs before it.
 #[cycle(expr)]
 #[derive(Drop)]
-pub struct Operand {
+pub struct Operand<'a> {
     pub signs: Items<Sign>,
-    pub primary: Primary,
+    pub primary: Primary<'a>,
 }
 
 /// What stands before an operand.
@@ -200,29 +198,29 @@ pub enum BinOp {
 /// An atom with the members and calls after it.
 #[cycle(expr)]
 #[derive(Drop)]
-pub struct Primary {
-    pub atom: Atom,
-    pub posts: Items<Postfix>,
+pub struct Primary<'a> {
+    pub atom: Atom<'a>,
+    pub posts: Items<Postfix<'a>>,
 }
 
 /// The innermost part of an expression.
 #[cycle(expr)]
 #[derive(Drop)]
-pub enum Atom {
-    Name(Word),
+pub enum Atom<'a> {
+    Name(Word<'a>),
     Number,
     Text,
     TrueWord,
     FalseWord,
     NoneWord,
-    Round(Option<Exprs>),
-    Square(Option<Exprs>),
+    Round(Option<Exprs<'a>>),
+    Square(Option<Exprs<'a>>),
 }
 
 /// What stands after a primary.
 #[cycle(expr)]
 #[derive(Drop)]
-pub enum Postfix {
-    Member(Word),
-    Call(Items<Expr>),
+pub enum Postfix<'a> {
+    Member(Word<'a>),
+    Call(Items<Expr<'a>>),
 }

@@ -51,7 +51,7 @@ fn refusal(end: u32, left: &Tokens) -> PyFault
 
 /// The module or the first fault, by the reading with one token of lookahead.
 #[tactic(auto, unfolding(crate::specs::Whole::parse_of))]
-fn read(alloc: Global, text: &[u8]) -> Result<Module, PyFault>
+fn read<'a>(alloc: Global, text: &'a [u8]) -> Result<Module<'a>, PyFault>
     requires { length text.now < 2 ^ 32 }
     ensures { Reads result (spec.parse_of text.now) }
 {
@@ -70,7 +70,7 @@ fn read(alloc: Global, text: &[u8]) -> Result<Module, PyFault>
 /// with the tokens up to and including it. `NoMemory` comes where memory runs out, and may come on any
 /// text. Time and memory are linear in the text.
 #[tactic(auto, using(crate::proofs::Correct::whole_texts, crate::proofs::Texts::read_texts))]
-pub fn parse(alloc: Global, text: &[u8]) -> Result<Module, PyFault>
+pub fn parse<'a>(alloc: Global, text: &'a [u8]) -> Result<Module<'a>, PyFault>
     requires { length text.now < 2 ^ 32 }
     ensures read { Answers text.now result }
     ensures exact { Reads result (spec.parse_of text.now) }
