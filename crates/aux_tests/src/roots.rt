@@ -263,6 +263,46 @@ fn fifty_steps_of_many_files_stay_right(rt: HostRuntime) -> Result<(), Fail> {
     Ok(())
 }
 
+/// A commit of 110 edits of a version of the first 200 files: 100 files are put, of which ten are there, and ten
+/// others are removed.
+fn large(alloc: Global) -> Result<Vec<Edit>, Fail> {
+    let mut edits = Vec::new(alloc);
+    for number in 190..290 {
+        let paths = paths_of(alloc, GRAPHS[number as usize % 4 + 1])?;
+        let path = path_of(alloc, number)?;
+        edits.push(Edit::Put { path, paths })?;
+    }
+    for number in 0..10 {
+        let path = path_of(alloc, number * 10)?;
+        edits.push(Edit::Remove { path })?;
+    }
+    Ok(edits)
+}
+
+/// How many of three large commits, from a version of 200 files on, are followed by indexes that offer what they
+/// have to: one that names few of the files that are there, one that names many, and one of more edits than are
+/// sorted behind the old paths.
+fn right_of_large(alloc: Global) -> Result<u32, Fail> {
+    let first = many(alloc, 200, None)?;
+    let kept = Kept::new(alloc).amended(alloc, first.as_slice())?;
+    let edits = large(alloc)?;
+    let kept = kept.amended(alloc, edits.as_slice())?;
+    let few = kept.is_right(alloc)?;
+    let edits = many(alloc, 100, Some(GRAPHS[3]))?;
+    let kept = kept.amended(alloc, edits.as_slice())?;
+    let known = kept.is_right(alloc)?;
+    let edits = many(alloc, 600, None)?;
+    let kept = kept.amended(alloc, edits.as_slice())?;
+    let right = kept.is_right(alloc)?;
+    Ok(few as u32 + known as u32 + right as u32)
+}
+
+#[test]
+fn large_commits_stay_right(rt: HostRuntime) -> Result<(), Fail> {
+    assert_eq!(rt; right_of_large(rt.alloc())?, 3);
+    Ok(())
+}
+
 /// How many paths a look at those that ask for `a` first gives, where they come in the order of their files.
 fn looked(alloc: Global, kept: &Kept) -> Result<u32, Fail> {
     let view = kept.version.view(alloc, "operator")?;

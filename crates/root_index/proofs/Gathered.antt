@@ -1,5 +1,5 @@
 -- Gathering the paths from the root, file by file and path by path: what was gathered, then what is left, is the whole.
-use Rattle.std.proofs.Common.{◌≡◌, refl, sym, ◌∙◌, ap, ℕ, zero, suc, ◌+◌, ◌<◌, List, [], ◌∷◌, ◌++◌, length, get_or, drop, true, false, cond, Some, None, arith, slice_get}
+use Rattle.std.proofs.Common.{◌≡◌, refl, sym, ◌∙◌, ap, ℕ, zero, suc, ◌+◌, ◌<◌, List, [], ◌∷◌, ◌++◌, length, get_or, drop, true, cond, Some, None, arith, slice_get}
 use Rattle.std.proofs.lemmas.List.{drop_more, append_assoc}
 use Rattle.std.specs.Option.{unwrap_or}
 use Rattle.std.proofs.lemmas.Option.{none-some}
@@ -28,15 +28,6 @@ one_added path place rules d done whole h from e =
     ∙ ap (λ found. done ++ root_path path place found ∷ roots_from path (place + 1) (drop (place + 1) rules)) (got rules place d h)
     ∙ sym (ap (λ ps. done ++ ps) (first_apart path place rules d h
     ∙ ap (λ b. cond b (root_path path place (Some (get_or rules place d)) ∷ []) [] ++ roots_from path (place + 1) (drop (place + 1) rules)) from))
-    ∙ e
-
--- another is passed over
-pub one_passed : (path : List ℕ) (place : ℕ) (rules : List Rule) (d : Rule) (done whole : List RootPath) → place < length rules
-    → begins_at root (get_or rules place d) ≡ false → done ++ roots_from path place (drop place rules) ≡ whole
-    → done ++ roots_from path (place + 1) (drop (place + 1) rules) ≡ whole
-one_passed path place rules d done whole h other e =
-    sym (ap (λ ps. done ++ ps) (first_apart path place rules d h
-    ∙ ap (λ b. cond b (root_path path place (Some (get_or rules place d)) ∷ []) [] ++ roots_from path (place + 1) (drop (place + 1) rules)) other))
     ∙ e
 
 row_apart : {X : Type 0} (xs : List X) (i : ℕ) (x : X) → slice_get xs i ≡ Some x → drop i xs ≡ x ∷ drop (i + 1) xs

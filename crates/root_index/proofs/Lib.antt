@@ -1,4 +1,4 @@
--- Which clause rests on which file. `RootIndex::afresh` on Gathered and KeyOrders; `amended` on WithFile and
+-- Which clause rests on which file. `RootIndex::afresh` on Gathered, RootRuns and KeyOrders; `amended` on WithFile and
 -- WithoutFile, which Amended, Ranked and Seen serve; `look` and `next_path` on Looked; `offers` on Seen;
 -- `next_offer` on Runs and KeyRuns, and on Seen for a file's number. `rows_have_one_index` on Unique.
 -- How paths stand in blocks, and blocks in groups: InBlocks, Sized and Starts find the place of a path, Placed and
@@ -12,6 +12,7 @@ mod KeyRuns
 mod Looked
 mod Placed
 mod Ranked
+mod RootRuns
 mod Runs
 mod Seen
 mod Sized

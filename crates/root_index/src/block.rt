@@ -27,7 +27,7 @@ impl Model for Block {
 }
 
 impl Block {
-    ghost use Rattle.std.specs.Prelude.{◌≡◌, Some, IfOk, slice_get};
+    ghost use Rattle.std.specs.Prelude.{◌≡◌, ◌++◌, Some, IfOk, OnOk, slice_get};
     ghost use Rattle.root_index.specs.Blocks.{IsBlock};
 
     /// The block of these paths. The one error is want of memory.
@@ -74,5 +74,15 @@ impl Block {
             slots.push(slot.share()?)?;
         }
         Ok(slots)
+    }
+
+    /// Adds handles of the block's paths. The one error is want of memory.
+    pub(crate) fn add_to(&self, slots: &mut Vec<Slot>) -> Result<(), AllocError>
+        ensures { OnOk result (slots.new.items ≡ slots.old.items ++ self.now) }
+    {
+        for slot in self.slots() {
+            slots.push(slot.share()?)?;
+        }
+        Ok(())
     }
 }

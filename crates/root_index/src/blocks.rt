@@ -107,6 +107,16 @@ impl Blocks {
         self.blocks.as_slice()
     }
 
+    /// Adds handles of all paths. The one error is want of memory.
+    pub(crate) fn add_to(&self, slots: &mut Vec<Slot>) -> Result<(), AllocError>
+        ensures { OnOk result (slots.new.items ≡ slots.old.items ++ all_paths self.now) }
+    {
+        for block in &self.blocks {
+            block.add_to(slots)?;
+        }
+        Ok(())
+    }
+
     /// At which place among all paths each block begins, and how many paths there are. The one error is
     /// want of memory; more paths than 64 bits can count are told as such.
     pub(crate) fn starts(&self, alloc: Global) -> Result<(Vec<usize>, usize), AllocError>

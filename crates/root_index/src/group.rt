@@ -26,7 +26,7 @@ impl Model for Group {
 }
 
 impl Group {
-    ghost use Rattle.std.specs.Prelude.{◌≡◌, Some, IfOk, slice_get};
+    ghost use Rattle.std.specs.Prelude.{◌≡◌, ◌++◌, Some, IfOk, OnOk, slice_get};
     ghost use Rattle.root_index.specs.Blocks.{all_paths};
     ghost use Rattle.root_index.specs.Groups.{IsGroup};
 
@@ -63,6 +63,13 @@ impl Group {
         ensures { slice_get self.now 0 ≡ Some result.now }
     {
         self.slots().first()
+    }
+
+    /// Adds handles of the group's paths. The one error is want of memory.
+    pub(crate) fn add_to(&self, slots: &mut Vec<Slot>) -> Result<(), AllocError>
+        ensures { OnOk result (slots.new.items ≡ slots.old.items ++ self.now) }
+    {
+        self.slots.blocks().add_to(slots)
     }
 
     /// The group's blocks, for another group: its own where nothing else holds it, else handles of them. The one

@@ -68,6 +68,17 @@ impl Groups {
         Ok(Groups { groups })
     }
 
+    /// Handles of all paths, in their order. The one error is want of memory.
+    pub(crate) fn slots(&self, alloc: Global) -> Result<Vec<Slot>, AllocError>
+        ensures { IfOk result (λ slots. slots.items ≡ all_paths self.now) }
+    {
+        let mut slots = Vec::new(alloc);
+        for group in &self.groups {
+            group.add_to(&mut slots)?;
+        }
+        Ok(slots)
+    }
+
     /// The groups.
     pub(crate) fn groups(&self) -> &[Group]
         ensures groups { result.now ≡ self.now }

@@ -13,6 +13,9 @@ use version_tree::{Edit, Version, View};
 /// Of up to how many edits an index is amended path by path.
 const FEW_EDITS: usize = 64;
 
+/// Up to how many edits an index is amended by one sort of the edited files' paths behind the others.
+const MANY_EDITS: usize = 512;
+
 /// All paths of a version's files that begin at the root, in the order of their keys, those of one key in
 /// the order of their files. It holds them without a copy. A contract sees them as a list.
 #[derive(Drop)]
@@ -60,11 +63,14 @@ impl RootIndex {
         })
     }
 
-    /// The index of the version that the edits make of the old one, of which this is the index. It shares
-    /// with this index all blocks of up to 64 paths in which the edited files have no paths, before or
-    /// after. The one error is want of memory. Of few edits it takes time that follows the number of paths
-    /// from the root that the edited files have, before and after, and of groups of up to 16 blocks; of more
-    /// than 64 it makes the index afresh.
+    /// The index of the version that the edits make of the old one, of which this is the index. The one
+    /// error is want of memory. Of up to 64 edits it takes time that follows the number of paths from the
+    /// root that the edited files have, before and after, and of groups of up to 16 blocks, and it shares
+    /// with this index all blocks of up to 64 paths in which the edited files have no paths, before or after;
+    /// of more than 64 and up to 512 of which up to 64 name a file of the old version it takes time that
+    /// follows the number of all paths from the root, and sorts only those of the edited files; else it makes
+    /// the index afresh. Each edit's path is compared with those of the edits before it, where it isn't made
+    /// afresh.
     pub fn amended(
         &self,
         alloc: Global,
@@ -76,12 +82,16 @@ impl RootIndex {
         requires rows { new.now.content.rows ≡ (edited_all edits.now old.now.content).rows }
         ensures { IfOk result (IsIndexOf new.now.content.rows) }
     {
-        if edits.len() > FEW_EDITS {
+        if are_many(old, edits) {
             return RootIndex::afresh(alloc, new);
         }
         let groups = self.slots.groups().share(alloc)?;
         let groups = without_edited(alloc, groups, old, edits)?;
-        let groups = with_edited(alloc, groups, new, edits)?;
+        let groups = if edits.len() > FEW_EDITS {
+            with_many(alloc, groups, new, edits)?
+        } else {
+            with_edited(alloc, groups, new, edits)?
+        };
         Ok(RootIndex {
             slots: GroupList::of(alloc, groups)?,
         })
@@ -174,7 +184,8 @@ ghost use Rattle.root_index.specs.Roots.{AreByRank, IsIndexOf, all_roots, roots_
 ghost use Rattle.root_index.specs.Offers.{number_in};
 ghost use Rattle.root_index.specs.Amended.{AreFrom, AreOf, edit_path, names, is_touched, other_paths, rows_at, touched_rows, without_file};
 ghost use Rattle.root_index.specs.Blocks.{IsStrict, all_paths};
-ghost use Rattle.partial_path.specs.Starts.{begins_at};
+ghost use Rattle.std.specs.List.{prefix_len};
+ghost use Rattle.partial_path.specs.Starts.{IsByStart, begins_at, is_before};
 
 /// The number of the file at the path in the view, by halving; None where it isn't seen.
 fn number_in(view: &View, path: &str) -> Option<u32>
@@ -196,6 +207,25 @@ fn slots_of(alloc: Global, version: &Version) -> Result<Vec<Slot>, AllocError>
         }
     }
     Ok(slots)
+}
+
+/// Whether the edits are more than an index is amended of, or more than a few of them name a file that the
+/// old version has, whose paths would be taken out one by one.
+fn are_many(old: &Version, edits: &[Edit]) -> bool {
+    edits.len() > MANY_EDITS || edits.len() > FEW_EDITS && known_among(old, edits) > FEW_EDITS
+}
+
+/// How many of the edits name a file that the version has.
+fn known_among(old: &Version, edits: &[Edit]) -> usize {
+    edits.iter().filter(|edit| is_known(old, edit)).count()
+}
+
+/// Whether the edit puts or removes a file that the version has.
+fn is_known(old: &Version, edit: &Edit) -> bool {
+    match path_of(edit) {
+        Some(path) => old.paths_at(path).is_some(),
+        None => false,
+    }
 }
 
 /// These paths without those of files that an edit puts or removes, of the index of a version's files. The
@@ -313,6 +343,63 @@ fn with_file(alloc: Global, groups: Groups, file: &FileHandle) -> Result<Groups,
     Ok(more)
 }
 
+/// These paths with those of the version's files that an edit puts, sorted behind them at once: what is in
+/// order already costs one pass. The one error is want of memory.
+fn with_many(
+    alloc: Global,
+    groups: Groups,
+    new: &Version,
+    edits: &[Edit],
+) -> Result<Groups, AllocError>
+    requires { AreByRank (all_paths groups) }
+    ensures order { IfOk result (λ more. AreByRank (all_paths more)) }
+    ensures all { IfOk result (λ more. IsPermutation (all_roots (touched_rows edits.now new.now.content.rows) ++ all_paths groups) (all_paths more)) }
+{
+    let mut slots = groups.slots(alloc)?;
+    add_edited(alloc, &mut slots, new, edits)?;
+    slots.sort_by(|a, b| a.order(b))?;
+    Groups::of(alloc, slots)
+}
+
+/// Adds the paths of the version's files that an edit puts. The one error is want of memory.
+fn add_edited(
+    alloc: Global,
+    slots: &mut Vec<Slot>,
+    new: &Version,
+    edits: &[Edit],
+) -> Result<(), AllocError>
+    ensures { OnOk result (IsPermutation (all_roots (touched_rows edits.now new.now.content.rows) ++ slots.old.items) slots.new.items) }
+{
+    let _count = new.row_count();
+    for i in 0..edits.len() {
+        if let Some(path) = path_of(&edits[i]) {
+            if !is_touched(&edits[..i], path) {
+                add_path(alloc, slots, new, path)?;
+            }
+        }
+    }
+    Ok(())
+}
+
+/// Adds the paths of the version's file at that path. The one error is want of memory.
+fn add_path(
+    alloc: Global,
+    slots: &mut Vec<Slot>,
+    new: &Version,
+    path: &str,
+) -> Result<(), AllocError>
+    ensures { OnOk result (IsPermutation (all_roots (rows_at path.now new.now.content.rows) ++ slots.old.items) slots.new.items) }
+{
+    let _count = new.row_count();
+    match new.paths_at(path) {
+        Some(paths) => {
+            let file = FileHandle::of(alloc, path, paths)?;
+            add_slots(&file, slots)
+        }
+        None => Ok(()),
+    }
+}
+
 /// Whether one of the edits puts or removes the file at the path.
 fn is_touched(edits: &[Edit], path: &str) -> bool
     ensures { result ≡ is_touched edits.now path.now }
@@ -344,17 +431,35 @@ fn path_of(edit: &Edit) -> Option<&str>
     }
 }
 
-/// Adds the file's paths from the root. The one error is want of memory.
+/// Adds the file's paths from the root, which stand together: the first is found by halving. The one error is want of
+/// memory.
 fn add_slots(file: &FileHandle, slots: &mut Vec<Slot>) -> Result<(), AllocError>
     ensures { OnOk result (slots.new.items ≡ slots.old.items ++ roots_of file.now) }
 {
     let paths = file.paths().get().paths();
-    for place in 0..paths.len() {
-        if is_from_root(&paths[place]) {
-            slots.push(Slot::of(file.share()?, place))?;
+    for place in count_before_root(paths)..paths.len() {
+        if !is_from_root(&paths[place]) {
+            return Ok(());
         }
+        slots.push(Slot::of(file.share()?, place))?;
     }
     Ok(())
+}
+
+/// How many of the paths, which are in the order of their starts, begin before the root.
+fn count_before_root(paths: &[PartialPath]) -> usize
+    requires { IsByStart paths.now }
+    ensures value { result ≡ prefix_len (is_before root) paths.now }
+    ensures bound { result ≤ length paths.now }
+{
+    paths.partition_point(begins_before_root)
+}
+
+/// Whether the path begins before the root, in the order of starts.
+fn begins_before_root(path: &PartialPath) -> bool
+    ensures { result ≡ is_before root path.now }
+{
+    path.start() < Start::After(Spot::Root)
 }
 
 /// Whether the path begins at the root.

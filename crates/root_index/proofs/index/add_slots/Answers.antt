@@ -1,29 +1,48 @@
-use Rattle.std.proofs.Common.{◌≡◌, sym, ◌∙◌, ap, ◌+◌, ◌++◌, ◌∷◌, [], List, drop, slice_get}
+use Rattle.std.proofs.Common.{◌≡◌, sym, ◌∙◌, ap, subst, ◌+◌, ◌++◌, ◌∷◌, [], List, drop, slice_get, append-nil, arith}
 use Rattle.partial_path.specs.Rules.{Rule}
-use Rattle.partial_path.specs.Starts.{begins_at}
+use Rattle.partial_path.specs.Starts.{IsByStart, begins_at}
 use Rattle.partial_path.specs.PathSets.{FileRules}
 use Rattle.version_tree.specs.Contents.{FileRow}
 use Rattle.root_index.specs.Roots.{RootPath, root, root_path, roots_from}
-use Rattle.root_index.proofs.Gathered.{one_added, one_passed}
+use Rattle.root_index.proofs.Gathered.{one_added}
+use Rattle.root_index.proofs.RootRuns.{behind_first, none_behind}
 use Rattle.root_index.proofs.index.add_slots.Goals as goal
-use Rattle.root_index.proofs.index.add_slots.Goals.{then-is_from_root+in_ok-share+in_ok-push, else-is_from_root}
 
--- a path from the root is added, another passed over
+-- the paths before the first from the root are passed over
+pub loop-place-init : goal.loop-place-init
+loop-place-init c =
+    let rules_are : c.paths-paths.result.now ≡ c.args.file.now.file.rules
+    = c.paths-paths.ensures.value ∙ ap (λ (f : FileRules). f.rules) (c.get.ensures.value ∙ c.paths.ensures) in
+    record {
+      added = ap (λ (ps : List RootPath). c.args.slots.now.items ++ ps)
+          (ap (λ n. roots_from c.args.file.now.path n (drop n c.paths-paths.result.now)) c.count_before_root-place.ensures.value
+          ∙ behind_first c.args.file.now.path c.paths-paths.result.now
+          ∙ ap (roots_from c.args.file.now.path 0) rules_are);
+      behind = omega (arith, c.count_before_root-place.ensures.value);
+    }
+
+-- behind a path that doesn't begin at the root none does
+pub returns-then-not-is_from_root : goal.returns-then-not-is_from_root
+returns-then-not-is_from_root c =
+    sym (append-nil c.loop-place.slots.items)
+    ∙ sym (ap (λ (ps : List RootPath). c.loop-place.slots.items ++ ps)
+    (none_behind c.args.file.now.path c.paths-paths.result.now c.loop-place.place c.index-paths-place.result
+    (subst (λ (rs : List Rule). IsByStart rs) (sym c.paths-paths.ensures.value) c.paths-paths.ensures.order)
+    c.loop-place.invariant.behind c.loop-place-test.true
+    (ap (begins_at root) (sym c.index-paths-place.is) ∙ sym c.is_from_root.ensures ∙ c.if-not-is_from_root.true)))
+    ∙ c.loop-place.invariant.added
+
 pub loop-place-preserved : goal.loop-place-preserved
 loop-place-preserved c =
     let rules_are : c.paths-paths.result.now ≡ c.args.file.now.file.rules
     = c.paths-paths.ensures.value ∙ ap (λ (f : FileRules). f.rules) (c.get.ensures.value ∙ c.paths.ensures) in
-    elim c.if-is_from_root.branch [
-      | then-is_from_root+in_ok-share+in_ok-push w ↦
-          let slot_is : w.of.result ≡ root_path c.args.file.now.path c.loop-place.place (slice_get c.paths-paths.result.now c.loop-place.place)
-          = w.of.ensures ∙ ap (λ (f : FileRow). root_path f.path c.loop-place.place (slice_get f.file.rules c.loop-place.place)) w.in_ok-share.ensures
-          ∙ ap (λ (rs : List Rule). root_path c.args.file.now.path c.loop-place.place (slice_get rs c.loop-place.place)) (sym rules_are) in
-          ap (λ (ps : List RootPath). ps ++ roots_from c.args.file.now.path (c.loop-place.place + 1) (drop (c.loop-place.place + 1) c.paths-paths.result.now))
-          (ap (λ v. v.items) w.slots-is ∙ w.in_ok-push.ensures.items ∙ ap (λ (p : RootPath). c.loop-place.slots.items ++ p ∷ []) slot_is)
+    let slot_is : c.of.result ≡ root_path c.args.file.now.path c.loop-place.place (slice_get c.paths-paths.result.now c.loop-place.place)
+    = c.of.ensures ∙ ap (λ (f : FileRow). root_path f.path c.loop-place.place (slice_get f.file.rules c.loop-place.place)) c.in_ok-share.ensures
+    ∙ ap (λ (rs : List Rule). root_path c.args.file.now.path c.loop-place.place (slice_get rs c.loop-place.place)) (sym rules_are) in
+    record {
+      added = ap (λ (ps : List RootPath). ps ++ roots_from c.args.file.now.path (c.loop-place.place + 1) (drop (c.loop-place.place + 1) c.paths-paths.result.now))
+          (c.in_ok-push.ensures.items ∙ ap (λ (p : RootPath). c.loop-place.slots.items ++ p ∷ []) slot_is)
           ∙ one_added c.args.file.now.path c.loop-place.place c.paths-paths.result.now c.index-paths-place.result c.loop-place.slots.items _ c.loop-place-test.true
-          (ap (begins_at root) (sym c.index-paths-place.is) ∙ sym c.is_from_root.ensures ∙ w.if-is_from_root.true) c.loop-place.invariant
-      | else-is_from_root w ↦
-          ap (λ v. v.items ++ roots_from c.args.file.now.path (c.loop-place.place + 1) (drop (c.loop-place.place + 1) c.paths-paths.result.now)) w.slots-is
-          ∙ one_passed c.args.file.now.path c.loop-place.place c.paths-paths.result.now c.index-paths-place.result c.loop-place.slots.items _ c.loop-place-test.true
-          (ap (begins_at root) (sym c.index-paths-place.is) ∙ sym c.is_from_root.ensures ∙ w.if-is_from_root.false) c.loop-place.invariant
-    ]
+          (ap (begins_at root) (sym c.index-paths-place.is) ∙ sym c.is_from_root.ensures ∙ c.if-not-is_from_root.false) c.loop-place.invariant.added;
+      behind = omega (arith, c.loop-place.invariant.behind);
+    }
