@@ -9,7 +9,7 @@ use graph_nodes::{FileGraph, Steps};
 use index_gate::{IndexFault, index_all};
 use nav_io::Unguarded;
 use partial_path::{FilePaths, SharedPaths};
-use path_store::{Document, NewDocument, PathStore, documents_of};
+use path_store::{Document, PathStore};
 use std::alloc::Global;
 use std::marker::Brand;
 use std::sync::ledger::{Blank, Ledger};
@@ -60,20 +60,14 @@ pub fn file_of(alloc: Global, graph: FileGraph) -> Option<FilePaths> {
 }
 
 /// So many documents of this text, each at a path of its own that ends like this.
-fn documents<R: Threads + Sync>(
-    rt: &R,
-    alloc: Global,
-    text: &[u8],
-    count: u32,
-    ending: &str,
-) -> Option<Vec<Document>> {
-    let mut made = Vec::new(alloc);
+fn documents(alloc: Global, text: &[u8], count: u32, ending: &str) -> Option<Vec<Document>> {
+    let mut docs = Vec::new(alloc);
     for number in 0..count {
         let path = format!(in alloc; "f{number}{ending}").ok()?;
-        let bytes = Vec::from_slice(alloc, text).ok()?;
-        made.push(NewDocument::of(path, bytes)).ok()?;
+        docs.push(Document::new(alloc, path.as_str(), text).ok()?)
+            .ok()?;
     }
-    documents_of(rt, alloc, made).ok()
+    Some(docs)
 }
 
 /// Indexes so many documents of this text, whose paths end like this, over a store that keeps none, and then
@@ -86,7 +80,7 @@ pub fn index<R: Threads + Sync>(
     ending: &str,
     again: u32,
 ) -> Option<Vec<SharedPaths>> {
-    let docs = documents(rt, alloc, text, count, ending)?;
+    let docs = documents(alloc, text, count, ending)?;
     indexed::<_, Brand>(rt, alloc, &docs, again, Blank::new(1))
 }
 

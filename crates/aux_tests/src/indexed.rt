@@ -8,7 +8,7 @@ use graph_nodes::Steps;
 use index_gate::{IndexFault, index_all};
 use nav_io::{Gate, Unguarded};
 use partial_path::SharedPaths;
-use path_store::{Document, PathStore};
+use path_store::{Digested, Document, PathStore};
 use std::alloc::Global;
 use std::marker::Brand;
 use std::sync::atomic::{AtomicU64, Ordering};
@@ -167,7 +167,10 @@ fn each_document_has_its_paths(rt: HostRuntime) -> Result<(), Fail> {
     // A document that stands twice is one job, and is kept once.
     assert_eq!(rt; store.len(), 4);
     assert_eq!(rt; gate.told(), (0x1111, 0x1111));
-    assert!(rt; docs.iter().all(|doc| store.find(doc).is_some()));
+    assert!(rt;
+        docs.iter()
+            .all(|doc| store.find(&Digested::of(doc)).is_some())
+    );
     // Indexed again, they are the same files, and none is kept twice.
     let Ok(counts) = again(&rt, alloc, &docs) else {
         return Err(Fail::new("the documents have no fault"));

@@ -1,5 +1,5 @@
 -- The work on documents, which may be done ahead of its use; no public clause cites this.
-use Rattle.std.specs.Prelude.{◌≤◌, ℕ, IfOk, IfErr}
+use Rattle.std.specs.Prelude.{◌≤◌, ℕ, Option, IfOk, IfErr}
 use Rattle.file_paths.specs.Finds.{AddsWalks}
 use Rattle.path_store.specs.Documents.{Doc}
 use Rattle.path_store.specs.Store.{kept_of}
@@ -15,7 +15,7 @@ pub record IsDone (doc : Doc) (done : Done) : Type 0 where
   pub fault : IfErr done.found (HasNone doc)
   pub few : (weight : ℕ) → IsDocWeight doc weight → done.walks ≤ weight
 
--- a document, and what came of the work on it
+-- a document, and what came of the work on it, where it was worked on
 pub record Work : Type 0 where
   pub doc : Doc
-  pub done : Done
+  pub done : Option Done

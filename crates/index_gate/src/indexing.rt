@@ -1,4 +1,4 @@
-ghost use Rattle.std.specs.Prelude.{◌≡◌, ◌≢◌, ◌≤◌, ◌+◌, ◌++◌, ℕ, true, length, drop, IfOk, IfErr, OnOk, OnErr};
+ghost use Rattle.std.specs.Prelude.{◌≡◌, ◌≢◌, ◌≤◌, ◌+◌, ◌++◌, ℕ, true, length, drop, IfOk, IfErr, IfSome, OnOk, OnErr};
 ghost use Rattle.partial_path.specs.PathSets.{FileRules};
 ghost use Rattle.path_store.specs.Store.{kept_of, with_doc};
 ghost use Rattle.index_gate.specs.declared.fault.IndexFault.TheVariants.{NoMemory};
@@ -12,7 +12,7 @@ use crate::working::{Done, work};
 use graph_nodes::{Name, Steps};
 use nav_io::Gate;
 use partial_path::SharedPaths;
-use path_store::{Document, PathStore};
+use path_store::{Digested, Document, PathStore};
 use std::alloc::{AllocError, Global};
 use std::sync::ledger::Ledger;
 use std::thread::Threads;
@@ -58,19 +58,28 @@ pub fn index_all<R: Threads + Sync, G: Gate + Sync, L: Ledger>(
     let mut fresh = PathStore::new(alloc);
     let mut files = Vec::new(alloc);
     for doc in docs {
-        let paths = paths_for(alloc, doc, store, &ahead, &mut fresh, gate, steps)?;
+        let paths = paths_for(
+            alloc,
+            doc,
+            files.len(),
+            store,
+            &ahead,
+            &mut fresh,
+            gate,
+            steps,
+        )?;
         files.push(paths)?;
     }
     store.append(alloc, fresh)?;
     Ok(files)
 }
 
-/// The paths of the document: those that a store keeps, else the ones that are found now and kept among
-/// the fresh ones.
-#[tactic(auto, using(crate::proofs::Adding::held_adds, crate::proofs::Adding::fresh_adds, crate::proofs::Adding::new_adds, crate::proofs::Adding::not_held, crate::proofs::Adding::weight_none))]
+/// The paths of the document at that place: those that a store keeps, else the ones that are found now and kept
+/// among the fresh ones.
 fn paths_for<G: Gate, L: Ledger>(
     alloc: Global,
     doc: &Document,
+    place: usize,
     store: &PathStore,
     ahead: &Ahead,
     fresh: &mut PathStore,
@@ -85,20 +94,54 @@ fn paths_for<G: Gate, L: Ledger>(
     ensures same { has_doc (docs_of store.now ++ docs_of fresh.old) doc.now ≡ true → steps.new ≡ steps.old }
     ensures fewer { (weight : ℕ) → IsDocWeight doc.now weight → steps.new ≤ steps.old + weight }
 {
+    match ahead.find(place, doc) {
+        Some(worked) => paths_by(
+            alloc,
+            worked.doc(),
+            worked.done(),
+            store,
+            fresh,
+            gate,
+            steps,
+        ),
+        None => paths_by(alloc, &Digested::of(doc), None, store, fresh, gate, steps),
+    }
+}
+
+/// The paths of the document, on which the work came to this where it was done ahead.
+#[tactic(auto, using(crate::proofs::Adding::held_adds, crate::proofs::Adding::fresh_adds, crate::proofs::Adding::new_adds, crate::proofs::Adding::not_held, crate::proofs::Adding::weight_none))]
+fn paths_by<G: Gate, L: Ledger>(
+    alloc: Global,
+    doc: &Digested,
+    ahead: Option<&Done>,
+    store: &PathStore,
+    fresh: &mut PathStore,
+    gate: &G,
+    steps: &mut Steps<L>,
+) -> Result<SharedPaths, IndexFault>
+    requires ahead { IfSome ahead (λ done. IsDone doc.now done.now) }
+    requires store { AreIndexed store.now }
+    requires fresh { AreIndexed fresh.old }
+    ensures file { IfOk result (λ file. IsIndexed (kept_of doc.now file)) }
+    ensures adds { OnOk result (Adds (docs_of store.now) doc.now fresh.old fresh.new steps.old steps.new) }
+    ensures fault { IfErr result (Refuses doc.now) }
+    ensures same { has_doc (docs_of store.now ++ docs_of fresh.old) doc.now ≡ true → steps.new ≡ steps.old }
+    ensures fewer { (weight : ℕ) → IsDocWeight doc.now weight → steps.new ≤ steps.old + weight }
+{
     if let Some(paths) = find_shared(store, doc)? {
         return Ok(paths);
     }
     if let Some(paths) = find_shared(fresh, doc)? {
         return Ok(paths);
     }
-    let paths = index_new(alloc, doc, ahead, fresh.len(), gate, steps)?;
-    keep_new(alloc, doc, &paths, fresh)?;
+    let paths = index_new(alloc, doc.doc(), ahead, fresh.len(), gate, steps)?;
+    fresh.keep(alloc, doc, paths.share()?)?;
     Ok(paths)
 }
 
 // The paths that the store keeps for the document, held once more; the one error is want of memory.
 #[tactic(auto, using(crate::proofs::Adding::finds_none))]
-fn find_shared(store: &PathStore, doc: &Document) -> Result<Option<SharedPaths>, AllocError>
+fn find_shared(store: &PathStore, doc: &Digested) -> Result<Option<SharedPaths>, AllocError>
     requires { AreIndexed store.now }
     ensures { IfOk result (Finds store.now doc.now) }
 {
@@ -108,34 +151,23 @@ fn find_shared(store: &PathStore, doc: &Document) -> Result<Option<SharedPaths>,
     }
 }
 
-// Keeps the document, which is shared, with these paths; the one error is want of memory.
-fn keep_new(
-    alloc: Global,
-    doc: &Document,
-    paths: &SharedPaths,
-    fresh: &mut PathStore,
-) -> Result<(), AllocError>
-    ensures { OnOk result (fresh.new ≡ with_doc doc.now paths.now fresh.old) }
-{
-    fresh.keep(alloc, doc.share()?, paths.share()?)
-}
-
 /// The paths of a document that no store keeps: those of the work ahead, or, where it was left out there, of the work
 /// that is done now, as the job of that number.
 fn index_new<G: Gate, L: Ledger>(
     alloc: Global,
     doc: &Document,
-    ahead: &Ahead,
+    ahead: Option<&Done>,
     job: usize,
     gate: &G,
     steps: &mut Steps<L>,
 ) -> Result<SharedPaths, IndexFault>
+    requires { IfSome ahead (λ done. IsDone doc.now done.now) }
     ensures file { IfOk result (λ file. IsIndexed (kept_of doc.now file)) }
     ensures steps { IfOk result (λ file. CountsWalks file steps.old steps.new) }
     ensures fault { IfErr result (Refuses doc.now) }
     ensures fewer { (weight : ℕ) → IsDocWeight doc.now weight → steps.new ≤ steps.old + weight }
 {
-    match ahead.find(doc) {
+    match ahead {
         Some(done) => take_up(alloc, doc, done, steps),
         None => take_up(alloc, doc, &work(alloc, doc, job, gate), steps),
     }

@@ -79,7 +79,7 @@ fn commit_allowed<R: Threads + Sync, B: Commits<R>, G: Gate + Sync, L: Ledger>(
         → steps.new ≤ steps.old + total }
     ensures no_steps { OnOk result (docs_in edits ≡ [] → steps.new ≡ steps.old) }
 {
-    let drafts = drafts_of(rt, alloc, edits)?;
+    let drafts = drafts_of(alloc, edits)?;
     match index_all(rt, alloc, &drafts.docs, &mut desk.store, gate, steps) {
         Ok(files) => put_in(rt, alloc, desk, board, base, drafts.drafts, files),
         Err(IndexFault::BadFile { path, fault }) => bad_file(alloc, path.as_str(), fault),

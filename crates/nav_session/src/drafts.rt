@@ -5,9 +5,8 @@ ghost use Rattle.nav_session.specs.Inside.{draft_of, filled};
 
 use nav_proto::{DocText, Edits, FileEdit};
 use partial_path::SharedPaths;
-use path_store::{Document, NewDocument, documents_of};
+use path_store::Document;
 use std::alloc::{AllocError, Global};
-use std::thread::Threads;
 use version_tree::{Edit, PathText};
 
 /// An edit of a commit without its document.
@@ -24,39 +23,31 @@ pub struct Drafts {
     pub drafts: Vec<Draft>,
 }
 
-/// Takes the documents out of the edits; their texts aren't copied, and their digests are made on several threads. The
-/// one error is want of memory.
-pub fn drafts_of<R: Threads + Sync>(
-    rt: &R,
-    alloc: Global,
-    edits: Edits,
-) -> Result<Drafts, AllocError>
+/// Takes the documents out of the edits; their texts aren't copied. The one error is want of memory.
+pub fn drafts_of(alloc: Global, edits: Edits) -> Result<Drafts, AllocError>
     ensures docs { IfOk result (λ made. made.docs.items ≡ docs_in edits) }
     ensures drafts { IfOk result (λ made. made.drafts.items ≡ map draft_of edits) }
 {
-    let mut made = Vec::new(alloc);
+    let mut docs = Vec::new(alloc);
     let mut drafts = Vec::new(alloc);
     for edit in edits.into_items() {
         match edit {
             FileEdit::Put { path, text } => {
-                made.push(document(alloc, &path, text)?)?;
+                docs.push(document(alloc, &path, text)?)?;
                 drafts.push(Draft::Put(path))?;
             }
             FileEdit::Remove { path } => drafts.push(Draft::Remove(path))?,
         }
     }
-    Ok(Drafts {
-        docs: documents_of(rt, alloc, made)?,
-        drafts,
-    })
+    Ok(Drafts { docs, drafts })
 }
 
-/// What the document of the text at the path is made of; the text isn't copied. The one error is want of memory.
-fn document(alloc: Global, path: &PathText, text: DocText) -> Result<NewDocument, AllocError>
+/// The document of the text at the path; the text isn't copied. The one error is want of memory.
+fn document(alloc: Global, path: &PathText, text: DocText) -> Result<Document, AllocError>
     ensures { IfOk result (λ doc. doc ≡ doc_of path.now text) }
 {
     let path = String::from_str(alloc, path.as_str())?;
-    Ok(NewDocument::of(path, text.into_string().into_bytes()))
+    Document::taking(alloc, path, text.into_string().into_bytes())
 }
 
 /// The edits of a version where these are the files of the documents, in their order. The one error is want of memory.

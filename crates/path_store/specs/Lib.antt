@@ -2,4 +2,3 @@ pub mod Documents
 pub mod Store
 pub mod Buckets
 pub mod Inside
-pub mod Signed

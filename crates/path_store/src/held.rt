@@ -1,39 +1,57 @@
+use crate::digested::Digested;
 use crate::document::Document;
 use partial_path::SharedPaths;
+use std::alloc::AllocError;
 use std::marker::Model;
 
-/// A document that is kept, with its paths.
+/// A document that is kept, with its digest and its paths.
 #[derive(Drop)]
 pub(crate) struct Held {
-    pub(crate) doc: Document,
-    pub(crate) paths: SharedPaths,
+    doc: Document,
+    digest: [u8; 32],
+    paths: SharedPaths,
 }
 
 impl Model for Held {
+    ghost use Rattle.std.specs.Prelude.{◌≡◌};
+    ghost use Rattle.path_store.specs.Documents.{digest_of};
     ghost use Rattle.path_store.specs.Store.{Kept, kept_of};
 
     ghost Value = { Kept };
 
     ghost view = { λ h. kept_of h.doc h.paths };
+
+    ghost invariant = { λ h. h.digest ≡ digest_of h.doc };
 }
 
 impl Held {
-    ghost use Rattle.std.specs.Prelude.{◌≡◌};
-    ghost use Rattle.path_store.specs.Documents.{same_doc};
+    ghost use Rattle.std.specs.Prelude.{◌≡◌, IfOk};
+    ghost use Rattle.path_store.specs.Documents.{digest_of, same_doc};
     ghost use Rattle.path_store.specs.Store.{kept_of, cost_of_pair};
 
-    /// The pair of these.
-    pub(crate) fn of(doc: Document, paths: SharedPaths) -> Held
-        ensures { result ≡ kept_of doc paths }
+    /// The pair of these; the document is shared. The one error is want of memory.
+    pub(crate) fn of(doc: &Digested, paths: SharedPaths) -> Result<Held, AllocError>
+        ensures { IfOk result (λ held. held ≡ kept_of doc.now paths) }
     {
-        Held { doc, paths }
+        Ok(Held {
+            doc: doc.doc().share()?,
+            digest: *doc.digest(),
+            paths,
+        })
     }
 
-    /// The document.
-    pub(crate) fn doc(&self) -> &Document
-        ensures { result.now ≡ self.now.doc }
+    /// The document with its digest.
+    pub(crate) fn digested(&self) -> Digested<'_>
+        ensures { result ≡ self.now.doc }
     {
-        &self.doc
+        Digested::with(&self.doc, self.digest)
+    }
+
+    /// The digest of the document.
+    pub(crate) fn digest(&self) -> &[u8; 32]
+        ensures { result.now ≡ digest_of self.now.doc }
+    {
+        &self.digest
     }
 
     /// The paths.

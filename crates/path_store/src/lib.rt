@@ -2,15 +2,15 @@
 #![tactic(auto)]
 
 mod buckets;
+mod digested;
 mod document;
 mod held;
 mod laws;
-mod making;
 mod store;
 #[cfg(test)]
 mod tests;
 
+pub use digested::Digested;
 pub use document::Document;
 pub use laws::{a_sweep_leaves_the_newest, what_is_kept_is_found};
-pub use making::{NewDocument, documents_of, threads_for};
 pub use store::PathStore;

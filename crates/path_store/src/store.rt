@@ -1,4 +1,5 @@
 use crate::buckets::Buckets;
+use crate::digested::Digested;
 use crate::document::Document;
 use crate::held::Held;
 use partial_path::SharedPaths;
@@ -63,7 +64,7 @@ impl PathStore {
     /// The paths kept for this document; `None` exactly where none is kept with its path and its bytes.
     /// It takes no memory, and looks at the documents of its digest alone.
     #[tactic(auto, using(crate::proofs::Filed::found_in_bucket))]
-    pub fn find<'a>(&'a self, doc: &Document) -> Option<&'a SharedPaths>
+    pub fn find<'a>(&'a self, doc: &Digested) -> Option<&'a SharedPaths>
         ensures value { option_copied result ≡ find_doc doc.now self.now }
         ensures distinct { AreDistinct self.now }
     {
@@ -71,22 +72,22 @@ impl PathStore {
             &self.kept,
             self.first,
             self.buckets.numbers(doc.digest()),
-            doc,
+            doc.doc(),
         )
     }
 
-    /// Keeps the document with its paths, as the newest; one that is held stays as it is. The one error
-    /// is want of memory or of numbers to count with, and then nothing has changed.
+    /// Keeps the document, which is shared, with its paths, as the newest; one that is held stays as it is. The
+    /// one error is want of memory or of numbers to count with, and then nothing has changed.
     pub fn keep(
         &mut self,
         alloc: Global,
-        doc: Document,
+        doc: &Digested,
         paths: SharedPaths,
     ) -> Result<(), AllocError>
-        ensures ok { OnOk result (self.new ≡ with_doc doc paths self.old) }
+        ensures ok { OnOk result (self.new ≡ with_doc doc.now paths self.old) }
         ensures err { OnErr result (self.new ≡ self.old) }
     {
-        self.keep_pair(alloc, Held::of(doc, paths))
+        self.keep_pair(alloc, Held::of(doc, paths)?)
     }
 
     #[tactic(auto, using(crate::proofs::Appended::moved_none, crate::proofs::Appended::moved_more, crate::proofs::Appended::moved_all, crate::proofs::Appended::moved_some, crate::proofs::Appended::moved_shorter))]
@@ -121,7 +122,7 @@ impl PathStore {
         ensures ok { OnOk result (self.new ≡ with_doc held.doc held.paths self.old) }
         ensures err { OnErr result (self.new ≡ self.old) }
     {
-        if self.find(held.doc()).is_some() {
+        if self.find(&held.digested()).is_some() {
             return Ok(());
         }
         self.push(alloc, held)
@@ -136,7 +137,7 @@ impl PathStore {
         let next = self.next.checked_add(1).ok_or(AllocError)?;
         let total = self.total.checked_add(held.cost()).ok_or(AllocError)?;
         self.kept.reserve(1)?;
-        self.buckets.add(alloc, held.doc().digest(), self.next)?;
+        self.buckets.add(alloc, held.digest(), self.next)?;
         self.kept.push_back(held).unwrap();
         self.next = next;
         self.total = total;
@@ -156,7 +157,7 @@ impl PathStore {
         ensures rest { self.new ≡ drop 1 self.old }
     {
         let held = self.kept.pop_front()?;
-        self.buckets.drop_first(held.doc().digest());
+        self.buckets.drop_first(held.digest());
         self.first += 1;
         self.total -= held.cost();
         Some(held)
