@@ -6,8 +6,15 @@
 example:
 	cd crates/navd && rt try -- run < stdin
 
-# Proves all that the program stands on, builds it as crates/navd/out/navd, and answers the stored session.
+# How many crates `build` proves side by side. Each takes a processor and up to 2.5 GB of memory.
+JOBS ?= $(shell nproc)
+
+# Proves all that the program stands on, crates side by side, builds it as crates/navd/out/navd, and answers the stored
+# session. From nothing it proves what the gate proves, but for crates of tests and of measurements, and neither tests nor
+# wrong bodies; what an earlier call proved and nothing has changed is kept. Each crate waits for those below it, so it takes
+# no less than the longest chain of them.
 build:
+	cd crates/navd && rt all check --jobs $(JOBS)
 	cd crates/navd && rt run -- run < stdin
 
 test:
