@@ -5,9 +5,9 @@
 #
 # Of each crate the edits of wrong-bodies/CRATE are tried, with --all those of its must-fail/ too, which the gate tries as
 # well. It prints a line for each edit: refused, let through, or why it couldn't be tried; then how many of the crate's
-# were refused, and of all. They are tried in a copy of the repository as it lies here, so nothing of it changes. The copy takes over the libraries that
-# `rt check` and `make build` left proved, and rt proves those anew whose sources, or the sources below, have
-# changed since.
+# were refused, and of all. They are tried in a copy of the repository as it lies here, so nothing of it changes. The copy
+# takes over the libraries that `make build` and `rt check` left proved; rt proves those anew whose sources, or the sources
+# below them, have changed since.
 set -u
 cd "$(dirname "$0")/.." || exit 2
 
@@ -53,12 +53,14 @@ trap 'exit 130' INT TERM
 cp crates.txt HANDLES "$copy" || exit 2
 for folder in crates/*; do
     mkdir -p "$copy/$folder"
-    for part in src specs proofs out/rlib; do
-        if [ -d "$folder/$part" ]; then
-            mkdir -p "$(dirname "$copy/$folder/$part")"
-            cp -r "$folder/$part" "$copy/$folder/$part" || exit 2
-        fi
+    for part in src specs proofs; do
+        if [ -d "$folder/$part" ]; then cp -r "$folder/$part" "$copy/$folder" || exit 2; fi
     done
+    # A proved library is large, so its files are linked where they can be: rt makes a library anew, and never over an old one.
+    if [ -d "$folder/out/rlib" ]; then
+        mkdir "$copy/$folder/out"
+        cp -rl "$folder/out/rlib" "$copy/$folder/out" 2>/dev/null || cp -r "$folder/out/rlib" "$copy/$folder/out" || exit 2
+    fi
 done
 
 # Puts the crate's edits into the copy, and says of each file that it can't be tried, where it can't.
