@@ -6,7 +6,7 @@
 example:
 	cd crates/navd && rt try -- run < stdin
 
-# How many crates `build` proves side by side. Each takes a processor and up to 2.5 GB of memory.
+# How many crates `build` proves side by side. Each takes a processor and 1 to a few gigabytes of memory.
 JOBS ?= $(shell nproc)
 
 # Proves all that the program stands on, crates side by side, builds it as crates/navd/out/navd, and answers the stored
