@@ -42,8 +42,8 @@ LAST = 4_294_967_295
 # Why a question has no answer, as a user reads it.
 REFUSALS = {
     "crowded": "crowded: a reference that has to be looked at has more than 8,192 paths within the bounds",
-    "no_reference": "no use of a name that is read stands there",
-    "no_definition": "no definition stands there",
+    "no_reference": "no name is used there",
+    "no_definition": "no name is defined there",
     "no_file": "navd has no such file",
 }
 
@@ -98,6 +98,7 @@ class Started(Navd):
 
     def end(self) -> None:
         self.ask(do="quit")
+        self.process.stdin.close()
         self.process.wait()
 
 

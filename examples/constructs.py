@@ -89,7 +89,7 @@ def token_form(token: tokenize.TokenInfo, before: Optional[tokenize.TokenInfo]) 
     if token.type in FORMATTED:
         return string_form(token.string + "''", before)
     if token.type == tokenize.NUMBER and not re.fullmatch(r"0|[1-9][0-9]*", token.string):
-        return f"number {token.string}"
+        return "number in another form than whole decimal"
     if token.type == tokenize.OP and token.string == ";":
         return "two statements on a line"
     if token.type == tokenize.OP and token.string == "...":
@@ -158,11 +158,14 @@ def expression_forms(node: ast.expr) -> Iterator[Found]:
     if isinstance(node, ast.Subscript):
         yield (*end_of(node.value), "subscript")
     elif isinstance(node, ast.IfExp):
-        yield (*end_of(node.body), "conditional expression")
+        yield node.test.lineno - 1, node.test.col_offset - 1, "conditional expression"
+    elif isinstance(node, ast.BinOp) and isinstance(node.op, ast.MatMult):
+        yield (*end_of(node.left), "matrix product")
     elif isinstance(node, ast.NamedExpr):
         yield (*end_of(node.target), "assignment within an expression")
     elif isinstance(node, (ast.ListComp, ast.GeneratorExp)):
-        yield (*end_of(node.elt), "comprehension")
+        target = node.generators[0].target
+        yield target.lineno - 1, target.col_offset - 1, "comprehension"
 
 
 def parameter_forms(node: ast.arguments) -> Iterator[Found]:
