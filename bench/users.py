@@ -14,6 +14,7 @@ import json
 import os
 import re
 import shutil
+import signal
 import socket
 import subprocess
 import sys
@@ -78,13 +79,27 @@ def free_port():
         return other.getsockname()[1]
 
 
+def is_listened_at(port):
+    """Whether somebody listens at the port, as Linux tells without a connection; elsewhere it is believed after a while."""
+    try:
+        table = read("/proc/net/tcp")
+    except OSError:
+        time.sleep(0.5)
+        return True
+    return re.search(rf"^ *\d+: [0-9A-F]{{8}}:{port:04X} \S+ 0A ", table, re.MULTILINE) is not None
+
+
 class Server:
-    """A `navd serve` with so many doors, each for so many connections, ended with its block."""
+    """A `navd serve` with so many doors, each for so many connections, that listens; ended with its block."""
 
     def __init__(self, doors, connections):
         self.port = free_port()
         words = [PROGRAM, "serve", str(self.port), str(doors), str(connections)]
         self.process = subprocess.Popen(words, stdin=subprocess.DEVNULL, stdout=subprocess.PIPE, stderr=subprocess.PIPE)
+        until = time.monotonic() + SECONDS
+        while not is_listened_at(self.port):
+            wanted(time.monotonic() < until and self.process.poll() is None, "navd serve doesn't listen")
+            time.sleep(0.02)
 
     def __enter__(self):
         return self
@@ -557,6 +572,27 @@ def front_as_printed(folder):
     return f"{len(printed)} sessions"
 
 
+def front_in_a_namespace(folder):
+    """The README's command leaves the Unix socket as the one way in."""
+    (command,) = re.findall(r"^(unshare .*)$", read(TOP, "README.md"), re.MULTILINE)
+    if not shutil.which("unshare") or subprocess.run(["unshare", "-rn", "true"], stderr=subprocess.PIPE).returncode != 0:
+        raise NotShown("namespaces can't be made here")
+    environment = {**os.environ, **checkout(folder)}
+    front = Front.__new__(Front)
+    front.folder, front.path = folder, os.path.join(folder, "front.socket")
+    front.write_users(TOKENS)
+    running = subprocess.Popen(command, shell=True, cwd=folder, env=environment, stderr=subprocess.PIPE, start_new_session=True)
+    try:
+        time.sleep(2)
+        front.of("ann", '{"version":0}').asks('{"do":"pin"}', '{"version":0}')
+        port = int(re.search(r"navd serve (\d+)", command).group(1))
+        with socket.socket() as other:
+            wanted(other.connect_ex(("127.0.0.1", port)) != 0, f"port {port} is reached from outside")
+    finally:
+        os.killpg(running.pid, signal.SIGKILL)
+        running.communicate()
+
+
 def front_with_two_users(folder):
     """The operator commits and grants, ann sees what is granted alone, both by their tokens and at once."""
     with Server(4, 20) as server, Front(folder, server.port) as front:
@@ -826,6 +862,7 @@ TABLE = [
     ("ask.py: at a port", ask_at_a_port),
     ("ask.py: the construct that isn't read", constructs),
     ("front.py: the sessions that the README prints", front_as_printed),
+    ("front.py: in a network namespace", front_in_a_namespace),
     ("front.py: two users", front_with_two_users),
     ("front.py: a hostile client", front_with_a_hostile_client),
     ("front.py: too many users", front_with_too_many),
