@@ -39,6 +39,8 @@ BATCH = 1_000_000
 NO_VERSION = 4_294_967_295
 # The largest line or column that a question may name, from 0.
 LAST = 4_294_967_295
+# Faults of a module of Python for which the construct on the line is named.
+CONSTRUCT_FAULTS = ("unsupported", "expected", "bad_token")
 # Why a question has no answer, as a user reads it.
 REFUSALS = {
     "crowded": "crowded: a reference that has to be looked at has more than 8,192 paths within the bounds",
@@ -160,7 +162,7 @@ def reason_of(reply: Dict, path: str, text: str) -> str:
     if fault == "bad_request":
         return "its path isn't one that navd takes"
     if "line" in reply:
-        construct = construct_at(text, reply["line"]) if path.endswith(".py") else None
+        construct = construct_at(text, reply["line"]) if fault in CONSTRUCT_FAULTS else None
         return f"line {reply['line'] + 1}: {fault}" + (f": {construct}" if construct else "")
     for member in ("node", "edge", "bytes", "weight", "nodes", "edges", "files"):
         if member in reply:

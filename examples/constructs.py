@@ -45,7 +45,7 @@ def construct_at(text: str, line: int) -> Optional[str]:
 
     Of several the first is named; forms of tokens come before others, since navd looks at all tokens first.
     """
-    named = first_on(line, token_forms(text))
+    named = first_on(line, token_forms(text, line))
     if named is not None:
         return named
     try:
@@ -62,12 +62,14 @@ def first_on(line: int, forms: Iterator[Found]) -> Optional[str]:
     return min(((column, what) for at, column, what in forms if at == line), default=(0, None))[1]
 
 
-def token_forms(text: str) -> Iterator[Found]:
-    """Forms that are refused as tokens, where Python's own tokens can be made."""
+def token_forms(text: str, last: int) -> Iterator[Found]:
+    """Forms that are refused as tokens, up to the end of this line, where Python's own tokens can be made."""
     before = None
     try:
         for token in tokenize.generate_tokens(io.StringIO(text).readline):
             line, column = token.start[0] - 1, token.start[1]
+            if line > last:
+                break
             what = token_form(token, before)
             if what is not None:
                 yield line, column, what
@@ -75,7 +77,7 @@ def token_forms(text: str) -> Iterator[Found]:
                 before = token
     except (tokenize.TokenError, SyntaxError):
         pass
-    for number, content in enumerate(text.split("\n")):
+    for number, content in enumerate(text.split("\n", last + 1)[: last + 1]):
         if content.rstrip("\r").endswith("\\"):
             yield number, len(content), "backslash at the end of a line"
         if "\t" in content[: len(content) - len(content.lstrip())]:
