@@ -560,7 +560,8 @@ HOSTILE = [
 def front_as_printed(folder):
     """The README's users answer through the front as it prints, one beside the other."""
     printed = sessions_in("README.md", '{"token":')
-    users = dict(reversed(line.split()) for line in re.search(r"```text\n(.*?)```", read(TOP, "README.md"), re.DOTALL).group(1).splitlines())
+    (lines,) = re.findall(r"```text\n(.*?)```", read(TOP, "README.md"), re.DOTALL)
+    users = dict(reversed(line.split()) for line in lines.splitlines())
     wanted(len(printed) >= 2 and len(users) >= 2, "fewer than two sessions or users were found")
     with Server(8, 4) as server, Front(folder, server.port) as front:
         front.write_users(users)
@@ -830,7 +831,8 @@ def completions():
     folder, commands = os.path.join(TOP, "share", "completions"), ["demo", "lsp", "once", "run", "serve", "upgrade"]
     ask = f"source {folder}/navd.bash; COMP_WORDS=(navd ''); COMP_CWORD=1; _navd; echo ${{COMPREPLY[@]}}"
     shown = {}
-    for shell, words in (("bash", ["--norc", "-c", ask]), ("fish", ["-N", "-c", f"source {folder}/navd.fish; complete -C 'navd ' | cut -f 1"])):
+    fish = f"source {folder}/navd.fish; complete -C 'navd ' | cut -f 1"
+    for shell, words in (("bash", ["--norc", "-c", ask]), ("fish", ["-N", "-c", fish])):
         try:
             found = sorted(completed(shell, words))
             wanted(found == commands, f"{shell} completes {found}")

@@ -120,7 +120,7 @@ class Connected(Navd):
 
 
 def files_of(folder: str, left_out: List[LeftOut]) -> Iterator[str]:
-    """The paths of the files that navd could take, relative to the folder, with slashes; hidden folders are left out."""
+    """The paths of the files that navd could take, relative to the folder, with slashes; no hidden folder is read."""
 
     def unread(error: OSError) -> None:
         left_out.append(LeftOut(os.path.relpath(error.filename, folder), f"the folder can't be read: {error.strerror}"))
@@ -342,7 +342,7 @@ def answer(given: argparse.Namespace) -> None:
     if why is not None:
         raise Failed(f"{path} was left out, so nothing is known of it: {why}")
     if path not in texts:
-        raise Failed(f"there is no file {path} below {given.folder} that navd could take; PATH is relative to the folder")
+        raise Failed(f"there is no file {path} below {given.folder} that navd takes; PATH is relative to the folder")
     if given.question == "uses":
         uses(navd, path, texts[path])
     else:
@@ -360,7 +360,7 @@ def port_of(text: str) -> int:
 def main() -> int:
     parser = argparse.ArgumentParser(description=__doc__, formatter_class=argparse.RawDescriptionHelpFormatter)
     parser.add_argument("--navd", help="the program")
-    parser.add_argument("--port", type=port_of, help="of a `navd serve` on this machine, in place of a program to start")
+    parser.add_argument("--port", type=port_of, help="of a `navd serve` on this machine, in place of a program")
     parser.add_argument("folder")
     parser.add_argument("question", choices=("define", "references", "uses"))
     parser.add_argument("place", help="PATH:LINE:COLUMN, or PATH for `uses`")

@@ -1,6 +1,6 @@
 """Names the construct of a Python text for which navd refuses a line, as Python's own tokens and tree tell it.
 
-It looks for the forms that navd doesn't read, and is no part of the server. Lines count from 0 here, as navd tells them.
+It looks for the forms that navd doesn't read, and is no part of the server. Lines count from 0, as navd tells them.
 """
 
 import ast
@@ -38,6 +38,9 @@ AT_THEIR_START = {
     ast.Yield: "yield",
     ast.YieldFrom: "yield from",
 }
+
+# Statements that came with later versions of Python, by the names of their nodes.
+LATER_STATEMENTS = {"Match": "match", "TryStar": "try", "TypeAlias": "type"}
 
 
 def construct_at(text: str, line: int) -> Optional[str]:
@@ -151,8 +154,8 @@ def statement_forms(node: ast.stmt) -> Iterator[Found]:
         yield (node.target.lineno - 1, node.target.col_offset, "for over more than one name")
     elif isinstance(node, ast.ImportFrom) and node.level:
         yield node.lineno - 1, node.col_offset, "import that begins with a dot"
-    elif type(node).__name__ in ("Match", "TryStar", "TypeAlias"):
-        yield node.lineno - 1, node.col_offset, {"Match": "match", "TryStar": "try", "TypeAlias": "type"}[type(node).__name__]
+    elif type(node).__name__ in LATER_STATEMENTS:
+        yield node.lineno - 1, node.col_offset, LATER_STATEMENTS[type(node).__name__]
 
 
 def expression_forms(node: ast.expr) -> Iterator[Found]:

@@ -3,14 +3,15 @@
 
     python3 examples/front.py --users FILE --navd PORT (--unix PATH | --port PORT)
 
-PORT of --navd is that of a `navd serve` on this machine. FILE has a line for each user, TOKEN and then USER, with a blank
-between; a token has 16 bytes or more and no blank, and nobody but the file's owner may read it. It is read anew for each
-client, so a line that is taken out lets nobody in from then on. What else begins with # or is empty is passed over.
+PORT of --navd is that of a `navd serve` on this machine. FILE has a line for each user, TOKEN and then USER, with a
+blank between; a token has 16 bytes or more and no blank, and nobody but the file's owner may read it. It is read anew
+for each client, so a line that is taken out lets nobody in from then on. A line that is empty or begins with # is passed
+over.
 
 A client's first line is {"token":"..."}. Its reply is that of the `hello` which the front writes in the user's name.
-Each further line is read as JSON, and where it is a request that is passed on, what goes to navd is printed anew from the
-value that was read, never the line itself: of a member that stands twice the last counts, and "\\u0064o" is "do", so a
-filter of texts could be led past a `hello`. The front replies by itself:
+Each further line is read as JSON, and where it is a request that is passed on, what goes to navd is printed anew from
+the value that was read, never the line itself: of a member that stands twice the last counts, and "\\u0064o" is "do", so
+a filter of texts could be led past a `hello`. The front replies by itself:
 
     {"error":"unknown_token"}   to a first line that isn't a known token; the connection ends
     {"error":"busy"}            where as many users as --clients says are served; the connection ends
@@ -270,7 +271,7 @@ class Front:
 
 
 def farewell(client: socket.socket, error: str) -> None:
-    """The last reply of a connection. What the client still sends is passed over for a second, so that it can read it."""
+    """The last reply of a connection. What the client still sends is passed over for a second, so that it is read."""
     until = time.monotonic() + 1
     try:
         client.settimeout(1)
