@@ -34,7 +34,8 @@ build:
 test:
 	rt ci
 
-# Runs the program that `build` leaves under outsides that bring about each of its statuses, and with clients at its port.
+# Runs the program that `build` leaves with words, inputs, outputs and memory that bring about each of its statuses, and
+# with clients at its port.
 statuses: build
 	python3 bench/statuses.py
 	python3 bench/clients.py
