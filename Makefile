@@ -1,6 +1,27 @@
-# Short names for the kit's commands; nothing is built here that they don't build.
+# `example`, `build` and `test` are short names for the kit's commands; nothing is built here that they don't build.
+# `install` and `dist` take the program that is there, and build it only where there is none.
 
-.PHONY: example build test statuses
+PREFIX ?= /usr/local
+# Where a package is put together; empty where the program is installed in its place.
+DESTDIR ?=
+# In an unpacked archive the program stands beside this file.
+PROGRAM ?= $(if $(wildcard navd),navd,crates/navd/out/navd)
+
+# The newest version and its date, as CHANGELOG.md tells them.
+VERSION := $(shell sed -n 's/^.. \([0-9][^ ]*\) (.*)$$/\1/p' CHANGELOG.md | head -n 1)
+DATE := $(shell sed -n 's/^.. [0-9][^ ]* (\(.*\))$$/\1/p' CHANGELOG.md | head -n 1)
+
+SHARE = $(PREFIX)/share
+BASH_COMPLETION = $(SHARE)/bash-completion/completions/navd
+ZSH_COMPLETION = $(SHARE)/zsh/site-functions/_navd
+FISH_COMPLETION = $(SHARE)/fish/vendor_completions.d/navd.fish
+UNIT = $(SHARE)/systemd/user/navd.service
+INSTALLED = $(PREFIX)/bin/navd $(SHARE)/man/man1/navd.1 $(SHARE)/man/man5/navd-protocol.5 \
+    $(BASH_COMPLETION) $(ZSH_COMPLETION) $(FISH_COMPLETION) $(UNIT)
+
+ARCHIVE = navd-$(VERSION)-$(shell uname -s -m | tr 'A-Z ' 'a-z-')
+
+.PHONY: example build test statuses users install uninstall dist
 
 # Compiles the program without its proofs and answers the stored session.
 example:
@@ -20,7 +41,41 @@ build:
 test:
 	rt ci
 
-# Runs the program that `build` leaves under outsides that bring about each of its statuses, and with clients at its port.
+# Runs the program that `build` leaves with words, inputs, outputs and memory that bring about each of its statuses, and
+# with clients at its port.
 statuses: build
 	python3 bench/statuses.py
 	python3 bench/clients.py
+
+# Runs what the documents print, the examples and the installation, as people use them.
+users: $(PROGRAM)
+	python3 bench/users.py $(PROGRAM)
+
+crates/navd/out/navd:
+	$(MAKE) build
+
+install: $(PROGRAM)
+	@case "$(PREFIX)" in *[[:space:]]*) echo "PREFIX has a blank: $(PREFIX)"; exit 1;; /*) ;; *) echo "PREFIX isn't a path from /: $(PREFIX)"; exit 1;; esac
+	install -d $(foreach file,$(INSTALLED),"$(DESTDIR)$(dir $(file))")
+	install -m 755 $(PROGRAM) "$(DESTDIR)$(PREFIX)/bin/navd"
+	sed 's/@VERSION@/$(VERSION)/; s/@DATE@/$(DATE)/' share/man/navd.1 > "$(DESTDIR)$(SHARE)/man/man1/navd.1"
+	sed 's/@VERSION@/$(VERSION)/; s/@DATE@/$(DATE)/' share/man/navd-protocol.5 > "$(DESTDIR)$(SHARE)/man/man5/navd-protocol.5"
+	install -m 644 share/completions/navd.bash "$(DESTDIR)$(BASH_COMPLETION)"
+	install -m 644 share/completions/_navd "$(DESTDIR)$(ZSH_COMPLETION)"
+	install -m 644 share/completions/navd.fish "$(DESTDIR)$(FISH_COMPLETION)"
+	sed 's,@BINDIR@,$(PREFIX)/bin,' share/systemd/navd.service > "$(DESTDIR)$(UNIT)"
+	chmod 644 "$(DESTDIR)$(SHARE)/man/man1/navd.1" "$(DESTDIR)$(SHARE)/man/man5/navd-protocol.5" "$(DESTDIR)$(UNIT)"
+
+uninstall:
+	rm -f $(foreach file,$(INSTALLED),"$(DESTDIR)$(file)")
+
+# Leaves out/navd-VERSION-SYSTEM.tar.gz: the program with what `install` needs, the documents and the examples.
+dist: $(PROGRAM)
+	rm -rf "out/$(ARCHIVE)"
+	install -d "out/$(ARCHIVE)"
+	install -m 755 $(PROGRAM) "out/$(ARCHIVE)/navd"
+	cp -R Makefile README.md CHANGELOG.md docs examples share "out/$(ARCHIVE)"
+	rm -rf "out/$(ARCHIVE)/examples/__pycache__"
+	tar -C out -czf "out/$(ARCHIVE).tar.gz" "$(ARCHIVE)"
+	rm -rf "out/$(ARCHIVE)"
+	@echo "out/$(ARCHIVE).tar.gz"

@@ -6,9 +6,12 @@
     python3 examples/ask.py FOLDER uses PATH
 
 The `.py` and `.sg.json` files below FOLDER are committed to a `navd run` that is started for it, or with --port to a
-`navd serve` that listens there, where they stay and others see them by its grants. PATH is relative to FOLDER. LINE and COLUMN count from 1, as editors show them; a column is one in bytes. `uses` lists, for each name that the
-file uses, where it is defined. A file that navd doesn't take is left out and listed with the reason, and its line where
-there is one. The program is found by --navd, else at crates/navd/out/navd beside this script's folder.
+`navd serve` that listens there, where they stay and others see them by its grants. PATH is relative to FOLDER. LINE and
+COLUMN count from 1, as editors show them; a column is one in bytes. `uses` lists, for each name that the file uses,
+where it is defined. A file that navd doesn't take is left out and listed with the reason, and with its line where there
+is one. The program is found by --navd, else at crates/navd/out/navd beside this script's folder, else on the PATH.
+
+The status is 0 where the question was answered, also by `none`, else 1, with a line on standard error that says why.
 
 It needs Python's standard library alone, and is no part of the server.
 """
@@ -18,133 +21,235 @@ import io
 import json
 import keyword
 import os
+import shutil
 import socket
 import subprocess
 import sys
 import tokenize
+from typing import BinaryIO, Dict, Iterator, List, NamedTuple, Optional, Tuple
+
+from constructs import construct_at
 
 ENDINGS = (".py", ".sg.json")
+# The bytes of the largest file that navd takes.
+LARGEST = 1_048_576
 # How many bytes of files are put by one commit: a line may have 8,388,608 with all its escapes.
 BATCH = 1_000_000
-# What the program's statuses mean.
-STATUSES = {
-    3: "reading its input failed",
-    4: "writing its output failed",
-    5: "memory was refused",
-    6: "a line was too long",
-    7: "there were too many lines",
+# A number that no version has: a commit on it is never accepted, and yet tells first what is wrong with its files.
+NO_VERSION = 4_294_967_295
+# The largest line or column that a question may name, from 0.
+LAST = 4_294_967_295
+# Faults of a module of Python for which the construct on the line is named.
+CONSTRUCT_FAULTS = ("unsupported", "expected", "bad_token")
+# Why a question has no answer, as a user reads it.
+REFUSALS = {
+    "crowded": "crowded: a reference that has to be looked at has more than 8,192 paths within the bounds",
+    "no_reference": "no name is used there",
+    "no_definition": "no name is defined there",
+    "no_file": "navd has no such file",
 }
 
 
+class Failed(Exception):
+    """Why the question can't be answered, in a line."""
+
+
+class LeftOut(NamedTuple):
+    """A file that isn't committed: why, and where its text shows it."""
+
+    path: str
+    reason: str
+    line: Optional[str] = None
+
+
 class Navd:
-    """A running `navd run`: one request, one reply."""
+    """A session of navd: one request, one reply. What goes to it and what comes from it are two streams of bytes."""
 
-    def __init__(self, program):
-        self.process = subprocess.Popen([program, "run"], stdin=subprocess.PIPE, stdout=subprocess.PIPE)
+    def __init__(self, requests: BinaryIO, replies: BinaryIO):
+        self.requests, self.replies = requests, replies
 
-    def ask(self, **request):
-        line = json.dumps(request, ensure_ascii=False).encode()
-        self.process.stdin.write(line + b"\n")
-        self.process.stdin.flush()
-        reply = self.process.stdout.readline()
+    def ask(self, **request) -> Dict:
+        """The reply to a request. It fails where navd has ended, or what answers isn't navd."""
+        line = json.dumps(request, ensure_ascii=False).encode() + b"\n"
+        try:
+            self.requests.write(line)
+            self.requests.flush()
+            reply = self.replies.readline()
+        except OSError as error:
+            raise Failed(f"navd ended: {error.strerror or error}") from error
         if not reply:
-            status = self.process.wait()
-            sys.exit(f"navd ended with status {status}: {STATUSES.get(status, 'unexpectedly')}")
-        return json.loads(reply)
+            raise Failed("navd ended before it answered")
+        try:
+            told = json.loads(reply)
+        except ValueError:
+            told = None
+        if not isinstance(told, dict):
+            raise Failed(f"what answers there isn't navd: it says {reply[:60]!r}")
+        return told
 
-    def end(self):
+
+class Started(Navd):
+    """A `navd run` that is started for the question. What it says on standard error goes to ours."""
+
+    def __init__(self, program: str):
+        try:
+            self.process = subprocess.Popen([program, "run"], stdin=subprocess.PIPE, stdout=subprocess.PIPE)
+        except OSError as error:
+            raise Failed(f"{program} can't be started: {error.strerror}") from error
+        super().__init__(self.process.stdin, self.process.stdout)
+
+    def end(self) -> None:
         self.ask(do="quit")
+        self.process.stdin.close()
         self.process.wait()
 
 
-class Client:
-    """A connection to a running `navd serve`: one request, one reply."""
+class Connected(Navd):
+    """A connection to a running `navd serve`."""
 
-    def __init__(self, port):
+    def __init__(self, port: int):
         try:
             self.socket = socket.create_connection(("127.0.0.1", port))
         except OSError as error:
-            sys.exit(f"nobody answers at port {port}: {error}")
-        self.replies = self.socket.makefile("rb")
+            raise Failed(f"nobody answers at port {port}: {error.strerror}") from error
+        super().__init__(self.socket.makefile("wb"), self.socket.makefile("rb"))
 
-    def ask(self, **request):
-        self.socket.sendall(json.dumps(request, ensure_ascii=False).encode() + b"\n")
-        reply = self.replies.readline()
-        if not reply:
-            sys.exit("navd ended the connection")
-        return json.loads(reply)
-
-    def end(self):
+    def end(self) -> None:
         self.ask(do="quit")
-        self.replies.close()
         self.socket.close()
 
 
-def files_of(folder):
-    """The paths of the files that navd could take, relative to the folder, with slashes; hidden folders are left out."""
-    for place, folders, names in os.walk(folder):
+def files_of(folder: str, left_out: List[LeftOut]) -> Iterator[str]:
+    """The paths of the files that navd could take, relative to the folder, with slashes; no hidden folder is read."""
+
+    def unread(error: OSError) -> None:
+        left_out.append(LeftOut(os.path.relpath(error.filename, folder), f"the folder can't be read: {error.strerror}"))
+
+    for place, folders, names in os.walk(folder, onerror=unread):
         folders[:] = sorted(name for name in folders if not name.startswith("."))
         for name in sorted(names):
             if name.endswith(ENDINGS):
                 yield os.path.relpath(os.path.join(place, name), folder).replace(os.sep, "/")
 
 
-def texts_of(folder, refused):
-    """The path and the text of each file; those that are no UTF-8 are refused."""
-    for path in files_of(folder):
-        with open(os.path.join(folder, path), "rb") as file:
-            data = file.read()
-        try:
-            yield path, data.decode()
-        except UnicodeDecodeError:
-            refused.append((path, "not UTF-8"))
+def text_of(folder: str, path: str) -> str:
+    """The text of a file. It fails where there is none that navd could take."""
+    whole = os.path.join(folder, path)
+    try:
+        path.encode()
+    except UnicodeEncodeError as error:
+        raise Failed("its name isn't UTF-8") from error
+    try:
+        # A pipe is never opened, since that waits for whoever writes into it.
+        if os.path.exists(whole) and not os.path.isfile(whole):
+            raise Failed("it isn't a file")
+        with open(whole, "rb") as file:
+            data = file.read(LARGEST + 1)
+    except OSError as error:
+        raise Failed(f"it can't be read: {error.strerror}") from error
+    if len(data) > LARGEST:
+        raise Failed(f"large: it has more than {LARGEST:,} bytes")
+    try:
+        return data.decode()
+    except UnicodeDecodeError as error:
+        line = data.count(b"\n", 0, error.start) + 1
+        raise Failed(f"line {line}: it isn't UTF-8") from error
 
 
-def batches_of(files):
-    """The files in batches of about a megabyte."""
-    batch, size = [], 0
-    for path, text in files:
-        if batch and size + len(text) > BATCH:
-            yield batch
-            batch, size = [], 0
-        batch.append((path, text))
-        size += len(text)
-    if batch:
-        yield batch
-
-
-def reason_of(reply):
-    """Why a commit was refused, as a user reads it: the fault, and where it is."""
+def reason_of(reply: Dict, path: str, text: str) -> str:
+    """Why a file was refused, as a user reads it: where, the fault, and the construct that isn't read."""
     fault = reply.get("fault", reply["error"])
+    if fault == "bad_request":
+        return "its path isn't one that navd takes"
     if "line" in reply:
-        return f"line {reply['line'] + 1}: {fault}"
+        construct = construct_at(text, reply["line"]) if fault in CONSTRUCT_FAULTS else None
+        return f"line {reply['line'] + 1}: {fault}" + (f": {construct}" if construct else "")
     for member in ("node", "edge", "bytes", "weight", "nodes", "edges", "files"):
         if member in reply:
             return f"{fault} ({member} {reply[member]})"
     return fault
 
 
-def commit(navd, batch, refused):
-    """Commits the files, without those that are refused for a fault of their own."""
-    while batch:
-        reply = navd.ask(do="commit", edits=[{"put": path, "text": text} for path, text in batch])
-        if "version" in reply:
-            return
-        bad = reply.get("path")
-        refused.extend((path, reason_of(reply)) for path, _ in batch if bad in (None, path))
-        batch = [(path, text) for path, text in batch if bad not in (None, path)]
+def line_of(text: str, number: int) -> Optional[str]:
+    """The line with this number from 0, cut as navd cuts lines: at newlines alone."""
+    lines = text.split("\n")
+    return lines[number].rstrip("\r") if number < len(lines) else None
 
 
-def place_of(text):
-    """The path, line and column of PATH:LINE:COLUMN."""
-    try:
-        path, line, column = text.rsplit(":", 2)
-        return path, int(line) - 1, int(column) - 1
-    except ValueError:
-        sys.exit(f"{text} isn't PATH:LINE:COLUMN")
+def fault_of(navd: Navd, path: str, text: str) -> Optional[LeftOut]:
+    """Why navd refuses this file, if it does: it is asked about the file alone, and nothing is committed."""
+    reply = navd.ask(do="commit", base=NO_VERSION, edits=[{"put": path, "text": text}])
+    if reply.get("error") == "stale":
+        return None
+    if "error" not in reply:
+        raise Failed(f"what answers there isn't navd: it says {json.dumps(reply)[:60]}")
+    if reply["error"] not in ("bad_file", "bad_request"):
+        raise Failed(f"navd takes no files: {reply['error']}")
+    return LeftOut(path, reason_of(reply, path, text), line_of(text, reply["line"]) if "line" in reply else None)
 
 
-def shown(row):
+def accepted_of(navd: Navd, folder: str, left_out: List[LeftOut]) -> Iterator[Tuple[str, str]]:
+    """The path and the text of each file that navd takes; each other one is noted with its reason."""
+    for path in files_of(folder, left_out):
+        try:
+            text = text_of(folder, path)
+        except Failed as why:
+            left_out.append(LeftOut(path, str(why)))
+            continue
+        fault = fault_of(navd, path, text)
+        if fault is None:
+            yield path, text
+        else:
+            left_out.append(fault)
+
+
+def batches_of(files: Iterator[Tuple[str, str]]) -> Iterator[List[Tuple[str, str]]]:
+    """The files in batches of about a megabyte."""
+    batch, size = [], 0
+    for path, text in files:
+        if batch and size + len(text.encode()) > BATCH:
+            yield batch
+            batch, size = [], 0
+        batch.append((path, text))
+        size += len(text.encode())
+    if batch:
+        yield batch
+
+
+def commit(navd: Navd, batch: List[Tuple[str, str]], left_out: List[LeftOut]) -> None:
+    """Commits the files together; where they are too many or too heavy together, as many as there is room for."""
+    reply = navd.ask(do="commit", edits=[{"put": path, "text": text} for path, text in batch])
+    if "version" in reply:
+        return
+    if len(batch) == 1:
+        path, text = batch[0]
+        left_out.append(LeftOut(path, reason_of(reply, path, text)))
+        return
+    middle = len(batch) // 2
+    commit(navd, batch[:middle], left_out)
+    commit(navd, batch[middle:], left_out)
+
+
+def tell_left_out(left_out: List[LeftOut]) -> None:
+    """Lists the files that aren't committed, each with its reason and the line at which it is refused."""
+    for path, reason, line in left_out:
+        print(f"left out {path}: {reason}", file=sys.stderr)
+        if line is not None and line.strip():
+            print(f"    {line.strip()[:120]}", file=sys.stderr)
+
+
+def place_of(text: str) -> Tuple[str, int, int]:
+    """The path, and the line and the column from 0, of PATH:LINE:COLUMN."""
+    parts = text.rsplit(":", 2)
+    if len(parts) != 3 or not all(part.isascii() and part.isdigit() for part in parts[1:]):
+        raise Failed(f"{text} isn't PATH:LINE:COLUMN")
+    line, column = (int(part) if len(part) <= 10 else LAST + 2 for part in parts[1:])
+    if not (1 <= line <= LAST + 1 and 1 <= column <= LAST + 1):
+        raise Failed(f"{text}: lines and columns count from 1, up to {LAST + 1}")
+    return parts[0], line - 1, column - 1
+
+
+def shown(row: Dict) -> str:
     """A row of an answer as PATH:LINE:COLUMN, or by its node where it has no place in the text."""
     if row["span"] is None:
         return f"{row['path']} (node {row['node']})"
@@ -152,77 +257,129 @@ def shown(row):
     return f"{row['path']}:{line + 1}:{column + 1}"
 
 
-def tell(reply):
-    """Prints the rows of a reply, a line each, or why there are none."""
+def refusal_of(reply: Dict) -> str:
+    """Why a question has no answer, as a user reads it."""
+    field = f" (field {reply['field']})" if "field" in reply else ""
+    return REFUSALS.get(reply["error"], f"navd refuses the question: {reply['error']}{field}")
+
+
+def tell(place: str, reply: Dict) -> None:
+    """Prints the rows of a reply, a line each. It fails where the reply is an error."""
     if "error" in reply:
-        print(f"no answer: {reply['error']}")
-        return
+        raise Failed(f"{place}: {refusal_of(reply)}")
     for row in reply["rows"]:
         print(shown(row))
     if not reply["rows"]:
         print("none")
     if reply["limit"]:
-        print("there may be more: paths beyond the bounds of the question were left out")
+        print("there may be more: paths beyond the bounds of the question were left out", file=sys.stderr)
 
 
-def names_in(text):
+def names_in(text: str) -> Iterator[Tuple[str, Dict]]:
     """The names of a Python text: each with its line from 0 and its column in bytes from 0."""
-    lines = text.splitlines()
+    lines = text.split("\n")
     try:
         for token in tokenize.generate_tokens(io.StringIO(text).readline):
             if token.type == tokenize.NAME and not keyword.iskeyword(token.string):
                 line, column = token.start[0] - 1, token.start[1]
                 yield token.string, {"line": line, "column": len(lines[line][:column].encode())}
-    except (tokenize.TokenError, IndentationError):
-        return
+    except (tokenize.TokenError, SyntaxError) as error:
+        raise Failed(f"Python's own tokens end there: {error}") from error
 
 
-def references_in(path, text):
+def references_in(path: str, text: str) -> Iterator[Tuple[str, Dict]]:
     """The references of a file: for each its name, and the members by which a query names it."""
     if path.endswith(".py"):
         yield from names_in(text)
         return
-    for place, node in enumerate(json.loads(text).get("nodes", [])):
+    for place, node in enumerate(json.loads(text)["nodes"]):
         if node.get("reference"):
-            yield node.get("symbol", "?"), {"node": place}
+            yield node["symbol"], {"node": place}
 
 
-def uses(navd, folder, path):
-    """Lists for each reference of the file where it is defined."""
-    with open(os.path.join(folder, path), encoding="utf-8") as file:
-        text = file.read()
+def uses(navd: Navd, path: str, text: str) -> None:
+    """Lists for each reference of the file where it is defined. It fails where some of them have no answer."""
+    unanswered = {}
     for name, at in references_in(path, text):
         reply = navd.ask(do="define", path=path, **at)
-        if "rows" in reply:
-            here = f"{path}:{at['line'] + 1}:{at['column'] + 1}" if "line" in at else f"{path} (node {at['node']})"
-            print(f"{here} {name}: {', '.join(shown(row) for row in reply['rows']) or 'none'}")
+        if reply.get("error") == "no_reference":
+            continue
+        here = f"{path}:{at['line'] + 1}:{at['column'] + 1}" if "line" in at else f"{path} (node {at['node']})"
+        if "error" in reply:
+            print(f"{here} {name}: {reply['error']}")
+            unanswered[reply["error"]] = refusal_of(reply)
+            continue
+        rows = ", ".join(shown(row) for row in reply["rows"]) or "none"
+        print(f"{here} {name}: {rows}{', and there may be more' if reply['limit'] else ''}")
+    if unanswered:
+        raise Failed("; ".join(unanswered.values()))
 
 
-def main():
+def find_program(named: Optional[str]) -> str:
+    """The program that is named, or the one that was built beside this script, or the one on the PATH."""
     beside = os.path.join(os.path.dirname(os.path.abspath(__file__)), "..", "crates", "navd", "out", "navd")
-    parser = argparse.ArgumentParser(description=__doc__, formatter_class=argparse.RawDescriptionHelpFormatter)
-    parser.add_argument("--navd", default=beside, help="the program")
-    parser.add_argument("--port", type=int, help="of a `navd serve` on this machine, in place of a program to start")
-    parser.add_argument("folder")
-    parser.add_argument("question", choices=("define", "references", "uses"))
-    parser.add_argument("place", help="PATH:LINE:COLUMN, or PATH for `uses`")
-    given = parser.parse_args()
-    if given.port is None and not os.access(given.navd, os.X_OK):
-        sys.exit(f"there is no program at {given.navd}; `make build` leaves one there, or name one by --navd")
+    found = shutil.which(named or beside) or (None if named else shutil.which("navd"))
+    if found is None:
+        where = f"at {named}" if named else "at crates/navd/out/navd or on the PATH"
+        raise Failed(f"there is no program {where}; `make build` leaves one, or name one by --navd")
+    return found
 
-    navd, refused = Navd(given.navd) if given.port is None else Client(given.port), []
+
+def answer(given: argparse.Namespace) -> None:
+    """Commits the folder's files and answers the question about one of them."""
+    if not os.path.isdir(given.folder):
+        raise Failed(f"there is no folder {given.folder}")
+    path, line, column = (given.place, 0, 0) if given.question == "uses" else place_of(given.place)
+    path = os.path.normpath(path).replace(os.sep, "/")
+    navd, left_out = Started(find_program(given.navd)) if given.port is None else Connected(given.port), []
     navd.ask(do="hello", user="operator")
-    for batch in batches_of(texts_of(given.folder, refused)):
-        commit(navd, batch, refused)
-    for path, reason in refused:
-        print(f"left out {path}: {reason}", file=sys.stderr)
+    texts = {}
+    for batch in batches_of(accepted_of(navd, given.folder, left_out)):
+        commit(navd, batch, left_out)
+        texts.update((name, text) for name, text in batch if name == path)
+    tell_left_out(left_out)
+    why = next((reason for name, reason, _ in left_out if name == path), None)
+    if why is not None:
+        raise Failed(f"{path} was left out, so nothing is known of it: {why}")
+    if path not in texts:
+        raise Failed(f"there is no file {path} below {given.folder} that navd takes; PATH is relative to the folder")
     if given.question == "uses":
-        uses(navd, given.folder, given.place)
+        uses(navd, path, texts[path])
     else:
-        path, line, column = place_of(given.place)
-        tell(navd.ask(do=given.question, path=path, line=line, column=column))
+        tell(given.place, navd.ask(do=given.question, path=path, line=line, column=column))
     navd.end()
 
 
+def port_of(text: str) -> int:
+    """A number of a port."""
+    if not (text.isascii() and text.isdigit() and len(text) <= 5 and 1 <= int(text) <= 65_535):
+        raise argparse.ArgumentTypeError(f"{text} isn't a port, 1 to 65535")
+    return int(text)
+
+
+def main() -> int:
+    parser = argparse.ArgumentParser(description=__doc__, formatter_class=argparse.RawDescriptionHelpFormatter)
+    parser.add_argument("--navd", help="the program")
+    parser.add_argument("--port", type=port_of, help="of a `navd serve` on this machine, in place of a program")
+    parser.add_argument("folder")
+    parser.add_argument("question", choices=("define", "references", "uses"))
+    parser.add_argument("place", help="PATH:LINE:COLUMN, or PATH for `uses`")
+    # A path may have bytes that no text has; they are shown as escapes.
+    sys.stdout.reconfigure(errors="backslashreplace")
+    sys.stderr.reconfigure(errors="backslashreplace")
+    try:
+        answer(parser.parse_args())
+        sys.stdout.flush()
+        return 0
+    except Failed as why:
+        print(f"ask.py: {why}", file=sys.stderr)
+    except BrokenPipeError:
+        # Whoever read our output has ended; nothing more is written to it, also at the end.
+        os.dup2(os.open(os.devnull, os.O_WRONLY), sys.stdout.fileno())
+    except KeyboardInterrupt:
+        pass
+    return 1
+
+
 if __name__ == "__main__":
-    main()
+    sys.exit(main())
