@@ -60,7 +60,18 @@ def same_lines(old: Sequence[str], new: Sequence[str]) -> List[Block]:
             regions.extend(_between(anchors, region))
             if not anchors:
                 blocks.extend(_longest(old, new, region))
-    return sorted(block for block in blocks if block[2] > 0)
+    return _joined(sorted(block for block in blocks if block[2] > 0))
+
+
+def _joined(blocks: Iterable[Block]) -> List[Block]:
+    """The same lines in fewer blocks: those that go on with the one before are one with it."""
+    joined: List[Block] = []
+    for place, new_place, size in blocks:
+        if joined and (joined[-1][0] + joined[-1][2], joined[-1][1] + joined[-1][2]) == (place, new_place):
+            place, new_place, size = joined[-1][0], joined[-1][1], joined[-1][2] + size
+            joined.pop()
+        joined.append((place, new_place, size))
+    return joined
 
 
 def _longest(old: Sequence[str], new: Sequence[str], region: _Region) -> Iterator[Block]:

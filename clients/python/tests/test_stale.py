@@ -40,13 +40,18 @@ class Lines(unittest.TestCase):
         lines = LineMap.between(text_of(old), text_of(new))
         self.assertEqual([lines.line(line) for line in range(5)], [1, None, 2, None, 4])
 
+    def test_lines_that_go_on_are_one_block(self) -> None:
+        lines = [f"line {number}" for number in range(50)]
+        changed = lines[:10] + ["changed"] + lines[11:40] + lines[42:]
+        self.assertEqual(same_lines(lines, changed), [(0, 0, 10), (11, 11, 29), (42, 40, 8)])
+
     def test_lines_moved_past_each_other(self) -> None:
         lines = LineMap.between("a\nb\nc\nd", "c\nd\na\nb")
         kept = [lines.line(line) for line in range(4)]
         self.assertEqual(sum(line is not None for line in kept), 2)
 
     def test_only_lines_that_occur_often(self) -> None:
-        self.assertEqual(same_lines(["x", "x", "", "", "y"], ["", "", "", "x", "x", "z"]), [(2, 0, 2)])
+        self.assertEqual(same_lines(["x", "x", "", "", "y"], ["", "", "", "x", "x", "z"]), [(0, 3, 2)])
         lines = LineMap.between("x x\nx x\nx x", "new\nx x\nx (\nx x")
         self.assertEqual([lines.line(line) for line in range(3)], [1, None, 3])
 
