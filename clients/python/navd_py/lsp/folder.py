@@ -78,11 +78,14 @@ class Folder:
     def set_closed(self, path: str) -> None:
         """The editor has closed the file: what the disk has counts; of a file that isn't the project's nothing."""
         self.open.pop(path, None)
-        if path in self._scanned or path in self.project.scan():
-            self._changed(path, self.project.reread(path), self._urgent)
-        else:
+        affected = self.project.reread(path)
+        if path not in self.project.scan():
             self.known.discard(path)
-            self._changed(path, self.project.set_text(path, None), self._urgent)
+            affected += self.project.set_text(path, None) if self._is_there(path) else []
+        self._changed(path, affected, self._urgent)
+
+    def _is_there(self, path: str) -> bool:
+        return os.path.exists(os.path.join(self.root, path))
 
     def reread(self, path: str, exists: bool) -> None:
         """The file on the disk has changed, or come or gone. Of an open file the editor's text goes on."""
