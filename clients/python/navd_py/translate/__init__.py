@@ -3,6 +3,7 @@
 from __future__ import annotations
 
 import ast
+import gc
 import re
 import sys
 import warnings
@@ -70,12 +71,18 @@ def translate(text: str, asking: Asking) -> Tuple[bytes, List[Defined]]:
     Raises what `ast.parse` raises, and TooLarge where the graph is larger than a graph file may be."""
     if sys.getrecursionlimit() < RECURSION:
         sys.setrecursionlimit(RECURSION)
-    with warnings.catch_warnings():
-        warnings.simplefilter("ignore")
-        tree = ast.parse(text)
-    translation = Translation(text, asking)
-    source = translation.whole(tree)
-    return source, translation.defined
+    # A tree has so many objects that looking for unreachable ones again and again takes longer than parsing.
+    collects = gc.isenabled()
+    gc.disable()
+    try:
+        with warnings.catch_warnings():
+            warnings.simplefilter("ignore")
+            tree = ast.parse(text)
+        translation = Translation(text, asking)
+        return translation.whole(tree), translation.defined
+    finally:
+        if collects:
+            gc.enable()
 
 
 __all__ = ["Asking", "Modules", "Question", "TooLarge", "VERSION", "translate"]

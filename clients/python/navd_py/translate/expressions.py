@@ -5,7 +5,7 @@ from __future__ import annotations
 import ast
 from typing import Callable, Dict, List, Optional, Sequence, Tuple
 
-from .annotations import Annotations
+from .annotations import Annotations, last_name
 from .bindings import Bound, ClassParts, Frame, Names, meeting
 from .graph import NOTHING, Values, joined
 from .places import Place
@@ -218,12 +218,24 @@ class Expressions(Annotations):
         return NOTHING
 
     def formatted_value(self, node: ast.FormattedValue) -> Values:
-        # Before Python 3.12 the places within these are not those of the file.
-        if self.places_in_strings:
+        if self.places_in_strings or self.is_written(node.value):
             self.value(node.value)
-            if node.format_spec is not None:
-                self.value(node.format_spec)
+        if node.format_spec is not None:
+            self.value(node.format_spec)
         return NOTHING
+
+    def is_written(self, node: ast.expr) -> bool:
+        """Whether the names of an expression stand where it says. Before Python 3.12 `ast` gives expressions within
+        f-strings wrong places where the string goes over several lines."""
+        for inner in ast.walk(node):
+            if isinstance(inner, ast.Name):
+                line, start, end = self.place_of(inner)
+                if self.lines.slice(line, start, end) != inner.id.encode("utf-8", "replace"):
+                    return False
+            elif isinstance(inner, ast.Attribute) and inner.end_lineno is not None:
+                if self.lines.ending(inner.end_lineno - 1, inner.end_col_offset or 0, inner.attr) is None:
+                    return False
+        return True
 
     def starred(self, node: ast.Starred) -> Values:
         return self.value(node.value)
@@ -279,6 +291,10 @@ class Expressions(Annotations):
             return values
         if self.class_of_values(values) is not None:
             return values
+        # A capital letter is all that tells a generic class of another module from a container.
+        name = last_name(node.value)
+        if name[:1].isupper() and not name.isupper():
+            return joined(values, self.item(values))
         return self.item(values)
 
     # -- what has names of its own ----------------------------------------------------------------

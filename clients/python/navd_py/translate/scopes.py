@@ -5,7 +5,7 @@ from __future__ import annotations
 import ast
 from typing import Callable, List, Optional, Sequence, Set, Tuple, TypeVar, Union
 
-from .annotations import last_name
+from .annotations import last_name, parts_of
 from .bindings import DEFINED, VARIABLE, Attribute, Bound, ClassParts, Frame, Names, meeting, merged
 from .expressions import all_arguments
 from .graph import NOTHING, Values, joined
@@ -76,7 +76,7 @@ class Scopes(Imports):
     def class_definition(self, node: ast.ClassDef) -> None:
         for decorator in node.decorator_list:
             self.value(decorator)
-        bases = [self.value(base) for base in node.bases]
+        bases = [self.base_value(base) for base in node.bases]
         for keyword in node.keywords:
             self.value(keyword.value)
         place = self.definition_place(node, node.name, "class ")
@@ -100,6 +100,15 @@ class Scopes(Imports):
         self.told(node.name, "class", place)
         self.order += 1
         self.put(node.name, Bound(self.order, DEFINED, (definition,), (parts.value,)))
+
+    def base_value(self, node: ast.expr) -> Values:
+        """The class that a base is: of a generic one with its parts, the generic one."""
+        if not isinstance(node, ast.Subscript):
+            return self.value(node)
+        values = self.value(node.value)
+        for part in parts_of(node.slice):
+            self.instance_of(part)
+        return values
 
     def class_parts(self, node: ast.ClassDef, bases: Sequence[Values]) -> ClassParts:
         graph = self.graph
