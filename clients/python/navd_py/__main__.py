@@ -28,5 +28,10 @@ def main(words: Optional[List[str]] = None) -> int:
     return int(module.main(given[1:]) or 0)
 
 
-if __name__ == "__main__":
+def run() -> None:
+    """Carries out the command and ends with its status."""
     sys.exit(main())
+
+
+if __name__ == "__main__":
+    run()

@@ -91,6 +91,8 @@ class Modules:
         kind, name = question
         if kind == "has":
             return "yes" if self.has(name) else ""
+        if kind == "is":
+            return "yes" if name in self.paths else ""
         if kind == "public":
             return ",".join(self.public(name))
         raise ValueError(f"no such question: {kind}")
@@ -150,7 +152,15 @@ class Asking:
         self.asked: Dict[Question, str] = {}
 
     def has(self, name: str) -> bool:
-        question = ("has", name)
+        """Whether the project has a module of that name, or one below it."""
+        return self.yes("has", name)
+
+    def is_module(self, name: str) -> bool:
+        """Whether the project has a file for the module itself."""
+        return self.yes("is", name)
+
+    def yes(self, kind: str, name: str) -> bool:
+        question = (kind, name)
         answer = self.asked.get(question)
         if answer is None:
             answer = self.asked[question] = self.modules.answer(question)
@@ -167,9 +177,9 @@ class Asking:
         top = dotted.split(".", 1)[0]
         if self.has(top):
             return dotted
-        # A script's own folder is where its imports are looked for first.
-        folder = self.name if self.package else self.name.rpartition(".")[0]
-        if folder and self.has(f"{folder}.{top}"):
+        # A script that is in no package imports from its own folder.
+        folder = "" if self.package else self.name.rpartition(".")[0]
+        if folder and self.has(f"{folder}.{top}") and not self.is_module(folder):
             return f"{folder}.{dotted}"
         return None
 
