@@ -14,6 +14,9 @@ from .session import Reply, Request, Session, SessionEnded
 
 # So many bytes of graphs, as they stand escaped on a line, go into one commit.
 BATCH = 4_000_000
+# So many bytes a path may have in navd, and a graph.
+LONGEST_PATH = 512
+MOST_BYTES = 1_048_576
 # navd takes so many files.
 MOST_FILES = 2_048
 # So often in so many seconds a session may end before no new one is opened for a while.
@@ -46,7 +49,8 @@ def reason_of(reply: Reply) -> str:
     fault = str(reply.get("fault", reply.get("error", "it was refused")))
     if fault in _FAULTS:
         try:
-            return _FAULTS[fault].format(**{name: f"{value:,}" for name, value in reply.items() if isinstance(value, int)})
+            numbers = {name: f"{value:,}" for name, value in reply.items() if isinstance(value, int)}
+            return _FAULTS[fault].format(**numbers)
         except KeyError:
             return fault
     places = [f"{name} {reply[name]}" for name in ("line", "node", "edge") if name in reply]
@@ -62,7 +66,11 @@ class Keeper:
     """
 
     def __init__(
-        self, open_session: Callable[[], Session], *, is_shared: bool = False, say: Callable[[str], None] = lambda _: None
+        self,
+        open_session: Callable[[], Session],
+        *,
+        is_shared: bool = False,
+        say: Callable[[str], None] = lambda _: None,
     ) -> None:
         self.refused: Dict[str, str] = {}  # why files were refused, by their paths
         self.version = 0
@@ -75,28 +83,28 @@ class Keeper:
         self._there: Set[str] = set()
         self._changed: Dict[str, None] = {}  # in the order of the changes
         self._views: Dict[str, str] = {}
+        self._granted: Set[str] = set()
         self._ends: List[float] = []
 
     def put(self, path: str, source: Optional[bytes]) -> None:
         """The file's graph is this one from now on, or it has none. Nothing is committed before `commit`."""
-        packed = None if source is None else zlib.compress(source, 1)
-        if packed == self._wanted.get(path) and path not in self._changed:
+        fault = None if source is None else _fault_of(path, source)
+        packed = None if source is None or fault is not None else zlib.compress(source, 1)
+        if packed == self._wanted.get(path) and path not in self._changed and (fault is None or path in self.refused):
             return
         if packed is None:
             self._wanted.pop(path, None)
         else:
             self._wanted[path] = packed
         self.refused.pop(path, None)
+        if fault is not None:
+            self.refused[path] = fault
         self._changed.pop(path, None)
         self._changed[path] = None
 
     def view(self, user: str, prefix: str) -> None:
         """Lets a user see the files at a prefix, in this session and those after it."""
-        if self._views.get(user) != prefix:
-            self._views[user] = prefix
-            if self._session is not None:
-                self._as(OPERATOR)
-                self._accepted(self._session.request({"do": "grant", "user": user, "prefix": prefix}))
+        self._views[user] = prefix
 
     @property
     def paths(self) -> Iterable[str]:
@@ -121,7 +129,9 @@ class Keeper:
             self._commit()
             self._as(user)
             assert self._session is not None
-            return [self._session.request(requests[0])] if len(requests) == 1 else list(self._session.pipeline(requests))
+            if len(requests) == 1:
+                return [self._session.request(requests[0])]
+            return list(self._session.pipeline(requests))
 
         return self._lasting(asked) if requests else []
 
@@ -158,8 +168,7 @@ class Keeper:
         self._user = ""
         before = self.version
         self._as(OPERATOR)
-        for user, prefix in self._views.items():
-            self._accepted(self._session.request({"do": "grant", "user": user, "prefix": prefix}))
+        self._granted = set()
         self._look_around(before)
         if not is_first and self._changed:
             self._say(f"a new session has to be told {len(self._changed)} files")
@@ -171,18 +180,24 @@ class Keeper:
             self._there = set()
         else:
             paths = sorted(self._there.union(self._wanted, self._changed))
-            there = {path for path, is_there in zip(paths, self._session.pipeline(_probes(paths))) if is_there.get("error") != "no_file"}
+            replies = self._session.pipeline(_probes(paths))
+            there = {path for path, reply in zip(paths, replies) if reply.get("error") != "no_file"}
             if self.version == before and there == self._there:
                 return  # nobody has committed anything meanwhile
             self._there = there
         for path in self._there.union(self._wanted):
             self._changed.setdefault(path)
-        self.refused.clear()
+            self.refused.pop(path, None)  # another session may take it
 
     def _as(self, user: str) -> None:
         """Goes on as a user, at the last version."""
+        assert self._session is not None
+        if user in self._views and user not in self._granted:
+            self._as(OPERATOR)
+            grant = {"do": "grant", "user": user, "prefix": self._views[user]}
+            self.version = self._accepted(self._session.request(grant))
+            self._granted.add(user)
         if self._user != user:
-            assert self._session is not None
             self.version = self._accepted(self._session.request({"do": "hello", "user": user}))
             self._user = user
 
@@ -213,7 +228,8 @@ class Keeper:
 
     def _batches(self) -> Iterator[List[Request]]:
         """The edits that are due: what is removed first, then what is put, in lines that aren't too long."""
-        removes: List[Request] = [{"remove": path} for path in self._changed if path not in self._wanted and path in self._there]
+        gone = [path for path in self._changed if path not in self._wanted and path in self._there]
+        removes: List[Request] = [{"remove": path} for path in gone]
         for path in [path for path in self._changed if path not in self._wanted and path not in self._there]:
             del self._changed[path]
         for start in range(0, len(removes), MOST_FILES):
@@ -287,6 +303,21 @@ class Keeper:
             self._changed.pop(path, None)
         rest = [edit for edit in edits if edit.get("put") not in paths]
         return rest + [{"remove": path} for path in sorted(paths & self._there)]
+
+
+def _fault_of(path: str, source: bytes) -> Optional[str]:
+    """Why navd can't be told of a graph at all, or None; what it refuses by itself isn't looked at."""
+    try:
+        data = path.encode("utf-8")
+    except UnicodeEncodeError:
+        return "its path isn't UTF-8"
+    if len(data) > LONGEST_PATH:
+        return f"its path is too long: {len(data)} bytes in navd, which takes {LONGEST_PATH}"
+    if any(byte < 32 for byte in data) or any(part in ("", ".", "..") for part in path.split("/")):
+        return "navd takes no such path"
+    if len(source) > MOST_BYTES:
+        return _FAULTS["large"].format(bytes=f"{len(source):,}")
+    return None
 
 
 def _probes(paths: Iterable[str]) -> Iterator[Request]:

@@ -15,6 +15,7 @@ from .project import Fault, Project, Translated, graph_path
 from .session import NoConnection, NoProgram, Session, find_program
 from .stale import LastGraphs
 from .watch import FolderWatch
+from .words import add_common_words
 
 Say = Callable[[str], None]
 
@@ -42,7 +43,8 @@ class OwnServer:
         if self._is_listened():
             raise NoProgram(f"port {self._port} is in use; without --start the server there is kept at the folder")
         try:
-            self._process = subprocess.Popen(self._words, stdin=subprocess.DEVNULL, start_new_session=os.name == "posix")
+            alone = os.name == "posix"  # an interrupt at the terminal is for this program alone
+            self._process = subprocess.Popen(self._words, stdin=subprocess.DEVNULL, start_new_session=alone)
         except OSError as error:
             raise NoProgram(f"{self._words[0]} can't be started: {error}") from None
         until = time.monotonic() + SECONDS_TO_LISTEN
@@ -191,13 +193,11 @@ def arguments_of(words: Optional[Sequence[str]]) -> argparse.Namespace:
     parser.add_argument("--start", action="store_true", help="start a navd serve there, which ends with this command")
     parser.add_argument("--doors", type=int, default=8, metavar="NUMBER", help="of the server to start (8)")
     parser.add_argument("--connections", type=int, default=1000, metavar="NUMBER", help="of each of its doors (1000)")
-    parser.add_argument("--navd", metavar="PROGRAM", help="navd; else the environment variable NAVD, else the one in PATH")
     parser.add_argument("--prefix", default="", metavar="PATH", help="put the graphs at this path there")
-    parser.add_argument("--root", metavar="FOLDER", action="append", default=[], help="a folder from which modules are named")
-    parser.add_argument("--exclude", metavar="PATTERN", action="append", default=[], help="files that are left out")
-    parser.add_argument("--no-cache", action="store_true", help="keep no graphs in the user's cache folder")
-    parser.add_argument("--every", type=seconds, default=2.0, metavar="SECONDS", help="how often the folder is looked at (2)")
-    parser.add_argument("--once", action="store_true", help="end when the folder is committed")
+    add = parser.add_argument
+    add("--every", type=seconds, default=2.0, metavar="SECONDS", help="how often the folder is looked at (2)")
+    add("--once", action="store_true", help="end when the folder is committed")
+    add_common_words(parser)
     return parser.parse_args(words)
 
 

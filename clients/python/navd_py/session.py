@@ -73,7 +73,8 @@ def find_program(program: Optional[str] = None) -> str:
 
     A name without a slash is looked for in PATH. Raises NoProgram where there is none that can be run.
     """
-    for name, source in ((program, "as it was given"), (os.environ.get("NAVD"), "as the environment variable NAVD says")):
+    named = ((program, "as it was given"), (os.environ.get("NAVD"), "as the environment variable NAVD says"))
+    for name, source in named:
         if name:
             found = shutil.which(name)
             if found is None:

@@ -61,8 +61,9 @@ class ServerProcess:
 
     def __init__(self, words: Sequence[str]) -> None:
         environment = {**os.environ, "PYTHONPATH": CLIENTS}
-        command = [sys.executable, "-c", "import sys; from navd_py.lsp import main; sys.exit(main(sys.argv[1:]))", *words]
-        self.process = subprocess.Popen(command, stdin=subprocess.PIPE, stdout=subprocess.PIPE, stderr=subprocess.PIPE, env=environment, bufsize=0)
+        command = [sys.executable, "-m", "navd_py", "lsp", *words]
+        pipe = subprocess.PIPE
+        self.process = subprocess.Popen(command, stdin=pipe, stdout=pipe, stderr=pipe, env=environment, bufsize=0)
         self.errors = b""
         self.drain = threading.Thread(target=self._drain, daemon=True)
         self.drain.start()
@@ -87,6 +88,9 @@ class ServerProcess:
     def wait(self) -> Optional[int]:
         status = self.process.wait(SECONDS)
         self.drain.join(SECONDS)
+        self.end_input()
+        assert self.process.stdout
+        self.process.stdout.close()
         return status
 
 
@@ -178,7 +182,7 @@ class Editor:
         answer = self.answer(self.begin(method, params))
         return answer["error"]
 
-    def initialize(self, folders: Sequence[str], capabilities: Optional[Dict[str, Any]] = None, **more: Any) -> Dict[str, Any]:
+    def initialize(self, folders: Sequence[str], capabilities: Optional[Dict[str, Any]] = None, **more: Any) -> Any:
         params = {"processId": None, "capabilities": capabilities or {}, **more}
         if folders:
             params["workspaceFolders"] = [{"uri": uri_of(folder), "name": "x"} for folder in folders]

@@ -20,7 +20,9 @@ class StandIn:
 
     seconds_a_file = 0.0  # so long `translate_all` takes for each file
 
-    def __init__(self, folder: str, *, roots: Sequence[str] = (), excludes: Sequence[str] = (), cache: bool = True) -> None:
+    def __init__(
+        self, folder: str, *, roots: Sequence[str] = (), excludes: Sequence[str] = (), cache: bool = True
+    ) -> None:
         self.folder = folder
         self.texts: Dict[str, Optional[str]] = {}
 
@@ -28,8 +30,8 @@ class StandIn:
         found: List[str] = []
         for place, folders, names in os.walk(self.folder):
             folders[:] = [name for name in folders if not name.startswith(".")]
-            found += [os.path.relpath(os.path.join(place, name), self.folder).replace(os.sep, "/") for name in names if name.endswith(".py")]
-        return sorted(found)
+            found += [os.path.join(place, name) for name in names if name.endswith(".py")]
+        return sorted(os.path.relpath(path, self.folder).replace(os.sep, "/") for path in found)
 
     def set_text(self, path: str, text: Optional[str]) -> List[str]:
         self.texts[path] = text
@@ -57,8 +59,8 @@ class StandIn:
         try:
             tree = ast.parse(text)
         except (SyntaxError, ValueError) as error:
-            line = getattr(error, "lineno", 1) or 1
-            return Translated(path, None, Fault(line - 1, max((getattr(error, "offset", 1) or 1) - 1, 0), str(error)), ())
+            line, column = getattr(error, "lineno", 1) or 1, getattr(error, "offset", 1) or 1
+            return Translated(path, None, Fault(line - 1, max(column - 1, 0), str(error)), ())
         return self._graph(path, tree)
 
     @staticmethod
@@ -83,14 +85,16 @@ class StandIn:
         source = json.dumps({"nodes": nodes, "edges": edges}).encode()
         return Translated(path, source, None, tuple(sorted(definitions, key=lambda one: one.span)))
 
-    def translate_all(self, paths: Iterable[str], progress: Optional[Callable[[int, int], None]] = None) -> Iterator[Translated]:
+    def translate_all(
+        self, paths: Iterable[str], progress: Optional[Callable[[int, int], None]] = None
+    ) -> Iterator[Translated]:
         for path in paths:
             time.sleep(self.seconds_a_file)
             yield self.translated(path)
 
 
 def _crowd(nodes: List[Dict[str, Any]], edges: List[List[Any]], line: int) -> None:
-    """A reference with 10,000 paths: its name leads in a hundred ways to another one, which has a hundred definitions."""
+    """A reference with 10,000 paths: in a hundred ways to another name, which has a hundred definitions."""
     edges.append([len(nodes), "root", 0])
     nodes.append({"kind": "push", "symbol": "crowded", "reference": True, "span": [line, 0, line, 7]})
     for _ in range(100):

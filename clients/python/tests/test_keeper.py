@@ -30,7 +30,8 @@ def question(path: str, line: int = 1) -> dict:
 
 class Reasons(unittest.TestCase):
     def test_reasons(self) -> None:
-        self.assertIn("1,048,577 bytes", reason_of({"error": "bad_file", "fault": "large", "bytes": 1_048_577, "path": "a"}))
+        large = {"error": "bad_file", "fault": "large", "bytes": 1_048_577, "path": "a"}
+        self.assertIn("1,048,577 bytes", reason_of(large))
         self.assertIn("node 3", reason_of({"error": "bad_file", "fault": "bad_scope", "node": 3, "path": "a"}))
         self.assertIn("json", reason_of({"error": "bad_file", "fault": "json", "path": "a"}))
 
@@ -72,7 +73,8 @@ class Keeping(unittest.TestCase):
             self.assertEqual(self.keeper.commit(), 60)
         self.assertGreater(self.keeper.version, 3)
         replies = self.keeper.ask([question(f"m{number}.sg.json") for number in range(60)])
-        self.assertEqual([reply["rows"][0]["path"] for reply in replies], [f"m{(n + 1) % 60}.sg.json" for n in range(60)])
+        found = [reply["rows"][0]["path"] for reply in replies]
+        self.assertEqual(found, [f"m{(number + 1) % 60}.sg.json" for number in range(60)])
 
     def test_a_refused_file_is_left_out_alone(self) -> None:
         self.keeper.put("good.sg.json", graph("good", "bad"))
@@ -89,6 +91,22 @@ class Keeping(unittest.TestCase):
         self.keeper.put("bad.sg.json", graph("bad"))
         self.assertEqual(self.rows("good.sg.json"), ["bad.sg.json"])
         self.assertEqual(self.keeper.refused, {})
+
+    def test_what_navd_cannot_be_told(self) -> None:
+        long = "x" * 510 + ".py"
+        for path in (long, "a//b", "a/../b", "a\nb", "a\udc80"):
+            self.keeper.put(path, graph("bad"))
+        self.keeper.put("large.sg.json", b" " * 1_048_577)
+        self.keeper.put("good.sg.json", graph("good"))
+        self.assertEqual(self.keeper.commit(), 1)
+        self.assertEqual(len(self.keeper.refused), 6)
+        self.assertIn("512", self.keeper.refused[long])
+        self.keeper.put("large.sg.json", graph("small"))
+        self.assertEqual(self.keeper.commit(), 1)
+        self.assertEqual(len(self.keeper.refused), 5)
+        self.keeper.put("large.sg.json", b" " * 1_048_577)
+        self.assertEqual(self.keeper.commit(), 1)
+        self.assertEqual(self.rows("large.sg.json"), "no_file")
 
     def test_more_files_than_navd_takes(self) -> None:
         for number in range(2_050):

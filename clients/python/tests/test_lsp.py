@@ -35,7 +35,8 @@ class Frames(unittest.TestCase):
 
     def test_it_goes_on_behind_what_is_wrong(self) -> None:
         good = frame({"good": 1})
-        for bad in (b"Content-Length: 3\r\n\r\n{\xff}", b"Content-Length: 1\r\n\r\n{", b"{nonsense}\r\n\r\n", b"x" * 9000 + b"\n"):
+        bodies = (b"Content-Length: 3\r\n\r\n{\xff}", b"Content-Length: 1\r\n\r\n{")
+        for bad in (*bodies, b"{nonsense}\r\n\r\n", b"x" * 9000 + b"\n"):
             read = messages(bad + good)
             self.assertIsInstance(read[0], BadFrame, bad)
             self.assertEqual(read[1:], [Message({"good": 1})], bad)
@@ -66,10 +67,12 @@ class Places(unittest.TestCase):
         found = [column_of(self.LINE, character, "utf-16") for character in range(7)]
         self.assertEqual(found, [0, 1, 3, 3, 7, 8, 8])
         self.assertEqual([column_of(self.LINE, character, "utf-32") for character in range(6)], [0, 1, 3, 7, 8, 8])
-        self.assertEqual([column_of(self.LINE, character, "utf-8") for character in (0, 1, 3, 7, 8, 9)], [0, 1, 3, 7, 8, 8])
+        found = [column_of(self.LINE, character, "utf-8") for character in (0, 1, 3, 7, 8, 9)]
+        self.assertEqual(found, [0, 1, 3, 7, 8, 8])
 
     def test_characters(self) -> None:
-        self.assertEqual([character_of(self.LINE, column, "utf-16") for column in range(10)], [0, 1, 1, 2, 2, 2, 2, 4, 5, 5])
+        found = [character_of(self.LINE, column, "utf-16") for column in range(10)]
+        self.assertEqual(found, [0, 1, 1, 2, 2, 2, 2, 4, 5, 5])
         self.assertEqual(character_of("plain", 3, "utf-16"), 3)
 
     def test_names(self) -> None:
@@ -108,7 +111,7 @@ class Documents(unittest.TestCase):
         self.assertEqual(self.changed("a", {"text": "b"}, self.edit(0, 1, 0, 1, "c")), "bc")
 
     def test_changes_that_are_none(self) -> None:
-        for bad in ([{}], [{"text": 1}], [self.edit(0, 0, 0, 0, "") | {"range": {"start": 1}}], [self.edit(-1, 0, 0, 0, "")], [3]):
+        for bad in ([{}], [{"text": 1}], [{"text": "", "range": {"start": 1}}], [self.edit(-1, 0, 0, 0, "")], [3]):
             with self.assertRaises(InvalidParams):
                 self.changed("a", *bad)
 
@@ -173,7 +176,8 @@ class Protocol(ServerTest):
 
     def test_messages_that_are_none(self) -> None:
         editor = self.start("/nowhere/navd")
-        for bad in (b"Content-Length: 2\r\n\r\n{]", frame(3), frame([]), frame({"id": 1}), frame({"method": 1}), b"what\n\n"):
+        self.server.write(b"Content-Length: 2\r\n\r\n{]")
+        for bad in (frame(3), frame([]), frame({"id": 1}), frame({"method": 1}), b"what\n\n"):
             self.server.write(bad)
         editor.wait_for(lambda: len(editor.orphans) == 6)
         codes = [one["error"]["code"] for one in editor.orphans]
@@ -287,7 +291,8 @@ class Questions(ServerTest):
         self.assertEqual(editor.definition(uri, 3, 3), [])
         told = editor.wait_for(lambda: editor.diagnostics(uri))
         self.assertEqual((told[0]["severity"], told[0]["source"]), (1, "navd"))
-        self.assertEqual([one["name"] for one in editor.ask("textDocument/documentSymbol", {"textDocument": {"uri": uri}})], ["x"])
+        symbols = editor.ask("textDocument/documentSymbol", {"textDocument": {"uri": uri}})
+        self.assertEqual([one["name"] for one in symbols], ["x"])
         editor.change(uri, "x = 1\n\ny = ()\nx, y\n", 3)
         self.assertEqual(editor.definition(uri, 3, 3), ["main.py:2:0"])
         editor.wait_for(lambda: editor.diagnostics(uri) == [])
@@ -337,7 +342,8 @@ class Questions(ServerTest):
 class Workspaces(ServerTest):
     def test_roots(self) -> None:
         main = self.write("main.py", "x = 1\n")
-        for more in ({"rootUri": uri_of(self.folder)}, {"rootPath": self.folder, "rootUri": None}, {"workspaceFolders": None, "rootUri": None}):
+        no_folder: Dict[str, Any] = {"workspaceFolders": None, "rootUri": None}
+        for more in ({"rootUri": uri_of(self.folder)}, {"rootPath": self.folder, "rootUri": None}, no_folder):
             editor = self.start()
             editor.initialize([], **more)
             uri = editor.open(main, "x = 1\nx\n")
@@ -354,7 +360,8 @@ class Workspaces(ServerTest):
         self.assertEqual(editor.definition(here, 0, 0), ["x1.py:0:0"])
         self.assertEqual(editor.definition(there, 0, 0), ["x2.py:0:0"])
         self.assertEqual(editor.references(uri_of(os.path.join(self.folder, "one", "x1.py")), 0, 0), ["main.py:0:0"])
-        names = [symbol["location"]["uri"].rsplit("/", 2)[1:] for symbol in editor.ask("workspace/symbol", {"query": "x"})]
+        symbols = editor.ask("workspace/symbol", {"query": "x"})
+        names = [symbol["location"]["uri"].rsplit("/", 2)[1:] for symbol in symbols]
         self.assertEqual(names, [["one", "x1.py"], ["two", "x2.py"]])
 
     def test_folders_come_and_go(self) -> None:
@@ -405,6 +412,35 @@ class Workspaces(ServerTest):
         os.remove(other)
         told(3)
         editor.wait_for(lambda: editor.definition(uri, 0, 0) == [])
+        self.write("pkg/other.py", "x = 1\n")
+        told(1)
+        editor.wait_for(lambda: editor.definition(uri, 0, 0) == ["other.py:0:0"])
+        shutil.rmtree(os.path.dirname(other))
+        gone = {"uri": uri_of(os.path.dirname(other)), "type": 3}
+        editor.notify("workspace/didChangeWatchedFiles", {"changes": [gone]})
+        editor.wait_for(lambda: editor.definition(uri, 0, 0) == [])
+
+    def test_a_document_that_is_no_file(self) -> None:
+        main = self.write("main.py", "x\n")
+        editor = self.start()
+        editor.initialize([self.folder])
+        uri = editor.open(main)
+        self.assertEqual(editor.definition(uri, 0, 0), [])
+        new = editor.open(os.path.join(self.folder, "new.py"), "x = 1\n")
+        self.assertEqual(editor.definition(uri, 0, 0), ["new.py:0:0"])
+        hidden = editor.open(os.path.join(self.folder, ".hidden", "y.py"), "x = 2\n")
+        self.assertEqual(editor.definition(uri, 0, 0), ["y.py:0:0", "new.py:0:0"])
+        for one in (new, hidden):
+            editor.notify("textDocument/didClose", {"textDocument": {"uri": one}})
+        self.assertEqual(editor.definition(uri, 0, 0), [])
+
+    def test_a_link_into_the_folder(self) -> None:
+        main = self.write("one/main.py", "x = 1\nx\n")
+        os.symlink(os.path.join(self.folder, "one"), os.path.join(self.folder, "link"))
+        editor = self.start()
+        editor.initialize([os.path.dirname(main)])
+        uri = editor.open(os.path.join(self.folder, "link", "main.py"))
+        self.assertEqual(editor.at("definition", uri, 1, 0)[0]["uri"], uri)
 
     def test_progress_and_questions_that_wait(self) -> None:
         main = self.write("a.py", "x\n")
@@ -416,7 +452,8 @@ class Workspaces(ServerTest):
             editor.initialize([self.folder], {"window": {"workDoneProgress": True}})
             uri = editor.open(main)
             place = {"textDocument": {"uri": uri}, "position": {"line": 0, "character": 0}, "context": {}}
-            first, second = editor.begin("textDocument/references", place), editor.begin("textDocument/references", place)
+            first = editor.begin("textDocument/references", place)
+            second = editor.begin("textDocument/references", place)
             self.assertEqual(editor.ask("textDocument/documentSymbol", place), [])
             editor.notify("$/cancelRequest", {"id": second})
             self.assertEqual(editor.answer(second)["error"]["code"], -32800)
@@ -452,7 +489,8 @@ class Workspaces(ServerTest):
         editor.initialize([self.folder])
         uri = editor.open(main)
         self.assertEqual(editor.definition(uri, 1, 0), ["main.py:0:0"])
-        with mock.patch.object(StandIn, "translated", side_effect=KeyError("fault")), mock.patch("traceback.print_exception"):
+        fault = mock.patch.object(StandIn, "translated", side_effect=KeyError("fault"))
+        with fault, mock.patch("traceback.print_exception"):
             editor.change(uri, "x = 2\nx\n")
             place = {"textDocument": {"uri": uri}, "position": {"line": 1, "character": 0}}
             self.assertEqual(editor.error("textDocument/definition", place)["code"], -32603)

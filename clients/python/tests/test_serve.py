@@ -71,7 +71,8 @@ class Watching(InFolder):
 
 class KeepingUp(unittest.TestCase):
     def test_longer_and_longer_pauses(self) -> None:
-        failures: List[Exception] = [NoConnection("one"), Refused("two"), NoProgram("three")] + [NoConnection("more")] * 6
+        failures: List[Exception] = [NoConnection("one"), Refused("two"), NoProgram("three")]
+        failures += [NoConnection("more")] * 6
         pauses: List[float] = []
         said: List[str] = []
 
@@ -95,7 +96,8 @@ class Words(InFolder):
         return status, errors.getvalue()
 
     def test_words_that_are_wrong(self) -> None:
-        for words in ((), (self.folder,), (self.folder, "--port", "x"), (self.folder, "--port", "70000"), (self.folder, "--port", "1", "--every", "0")):
+        without: List[List[str]] = [[], [self.folder]]
+        for words in [*without, *([self.folder, "--port", *more] for more in (["x"], ["70000"], ["1", "--every", "0"]))]:
             status, told = self.run_main(*words)
             self.assertEqual(status, 2, words)
             self.assertIn("usage:", told)
@@ -115,7 +117,8 @@ class Words(InFolder):
     def test_once_with_a_server_of_its_own(self) -> None:
         self.write("a.py", "x = 1\nx\n")
         with mock.patch("navd_py.serve.Project", StandIn):
-            status, told = self.run_main(self.folder, "--port", str(free_port()), "--start", "--once", "--navd", str(NAVD))
+            words = [self.folder, "--port", str(free_port()), "--start", "--once", "--navd", str(NAVD)]
+            status, told = self.run_main(*words)
         self.assertEqual(status, 0, told)
         self.assertIn("1 graphs committed, version 1", told)
 

@@ -72,7 +72,8 @@ class Lines(unittest.TestCase):
             new = list(old)
             for _ in range(chance.randrange(4)):
                 place = chance.randrange(len(new) + 1)
-                new[place : place + chance.randrange(3)] = [chance.choice("abcxyz ") for _ in range(chance.randrange(3))]
+                fresh = [chance.choice("abcxyz ") for _ in range(chance.randrange(3))]
+                new[place : place + chance.randrange(3)] = fresh
             here, there = 0, 0
             for start, new_start, size in same_lines(old, new):
                 self.assertGreaterEqual(start, here)
@@ -109,7 +110,8 @@ class Last(unittest.TestCase):
     def setUp(self) -> None:
         self.last = LastGraphs()
         self.fault = Fault(1, 0, "invalid syntax")
-        self.definitions = (Definition("a", "variable", (0, 0, 0, 1), ""), Definition("c", "variable", (2, 0, 2, 1), ""))
+        first = Definition("a", "variable", (0, 0, 0, 1), "")
+        self.definitions = (first, Definition("c", "variable", (2, 0, 2, 1), ""))
 
     def good(self, text: str) -> None:
         current = self.last.current(Translated("m.py", graph(0, 2), None, self.definitions), text)

@@ -46,14 +46,20 @@ PARSESTR: Place = (PARSER, "def parsestr(self, text, headersonly=False):", "pars
 USE: Place = (INIT, RETURNS, "parsestr")
 SUPER_USE: Place = (PARSER, "return Parser.parsestr(self, text, True)", "parsestr")
 
+CLASS: Place = (PARSER, "class Parser:", "Parser")
+PARSE: Place = (PARSER, "def parse(self, fp, headersonly=False):", "parse")
+OWN_USE: Place = (PARSER, "return self.parse(StringIO(text)", "parse")
+FEED: Place = ("email/feedparser.py", "class FeedParser:", "FeedParser")
+CLASSES = ["Parser", "HeaderParser", "BytesParser", "BytesHeaderParser"]
+
 STEPS: List[Step] = [
     ("a module is opened", {"do": "open", "path": INIT}, None),
-    ("the definition of a class in a file that isn't open", at("definition", (INIT, RETURNS, "Parser")), [(PARSER, "class Parser:", "Parser")]),
+    ("the definition of a class in a file that isn't open", at("definition", (INIT, RETURNS, "Parser")), [CLASS]),
     ("of a method of what a call gives", at("definition", USE), [PARSESTR]),
-    ("of a member of self", at("definition", (PARSER, "return self.parse(StringIO(text)", "parse")), [(PARSER, "def parse(self, fp, headersonly=False):", "parse")]),
-    ("of a name that is imported there", at("definition", (PARSER, "feedparser = FeedParser(", "FeedParser")), [("email/feedparser.py", "class FeedParser:", "FeedParser")]),
+    ("of a member of self", at("definition", OWN_USE), [PARSE]),
+    ("of an imported name", at("definition", (PARSER, "feedparser = FeedParser(", "FeedParser")), [FEED]),
     ("the references of a method", at("references", PARSESTR, holds=True), [USE, SUPER_USE]),
-    ("the symbols of a document", {"do": "symbols", "path": PARSER}, ["Parser", "HeaderParser", "BytesParser", "BytesHeaderParser"]),
+    ("the symbols of a document", {"do": "symbols", "path": PARSER}, CLASSES),
     ("symbols of the workspace", {"do": "workspace", "query": "BytesHeaderPars"}, ["BytesHeaderParser"]),
     ("a text is broken at its top", {"do": "insert", "path": INIT, "text": BROKEN}, None),
     ("it is told that it doesn't parse", {"do": "faults", "path": INIT}, [1]),
@@ -178,7 +184,7 @@ vim.cmd("qall!")
 """
 
 
-def wrapper(navd: str) -> str:
+def wrapper() -> str:
     """A program that starts the client of this checkout, and notes how it ended and what it said."""
     start = f'PYTHONPATH={shlex.quote(CLIENT)} {shlex.quote(sys.executable)} -m navd_py "$@"'
     return f'#!/bin/sh\n{start} 2>"$NAVD_SAID"\necho $? >"$NAVD_STATUS"\n'
@@ -200,7 +206,8 @@ def configuration(version: Tuple[int, int], client: str, navd: str) -> str:
         blocks = re.findall(r"```lua\n(.*?)```", guide.read(), re.DOTALL)
     by = "vim.lsp.start_client" if version < (0, 8) else "vim.lsp.start("
     block = next(block for block in blocks if by in block and '"navd-py"' in block)
-    return str(block.replace('cmd = { "navd-py"', f"cmd = {{ {json.dumps(client)}").replace('"/path/to/navd"', json.dumps(navd)))
+    block = block.replace('cmd = { "navd-py"', f"cmd = {{ {json.dumps(client)}")
+    return str(block.replace('"/path/to/navd"', json.dumps(navd)))
 
 
 def place_in(project: str, place: Place, below: int = 0) -> Tuple[str, int, int]:
@@ -259,17 +266,20 @@ def read(path: str) -> str:
         return ""
 
 
-def shown_by_editor(folder: str, project: str, steps: List[Dict[str, Any]], navd: str) -> Tuple[List[Dict[str, Any]], str, str]:
+def shown_by_editor(
+    folder: str, project: str, steps: List[Dict[str, Any]], navd: str
+) -> Tuple[List[Dict[str, Any]], str, str]:
     """What the editor shows after each step, and how the server ended: its status, and what it said."""
-    client = os.path.join(folder, "client")
-    contents = {"client": wrapper(navd), "init.lua": configuration(version_of_editor(), client, navd), "driver.lua": DRIVER}
-    own = {name: os.path.join(folder, name.lower()) for name in ("NAVD_STEPS", "NAVD_SHOWN", "NAVD_SAID", "NAVD_STATUS")}
-    for name, text in {**contents, "navd_steps": json.dumps(steps)}.items():
+    client, start = os.path.join(folder, "client"), os.path.join(folder, "init.lua")
+    contents = {"client": wrapper(), "init.lua": configuration(version_of_editor(), client, navd)}
+    names = ("NAVD_STEPS", "NAVD_SHOWN", "NAVD_SAID", "NAVD_STATUS")
+    own = {name: os.path.join(folder, name.lower()) for name in names}
+    for name, text in {**contents, "driver.lua": DRIVER, "navd_steps": json.dumps(steps)}.items():
         with open(os.path.join(folder, name), "w", encoding="utf-8") as file:
             file.write(text)
     os.chmod(client, 0o755)
     homes = {f"XDG_{name}_HOME": os.path.join(folder, "home") for name in ("CONFIG", "DATA", "STATE", "CACHE")}
-    command = ["nvim", "--clean", "--headless", "-n", "-u", os.path.join(folder, "init.lua"), "-S", os.path.join(folder, "driver.lua")]
+    command = ["nvim", "--clean", "--headless", "-n", "-u", start, "-S", os.path.join(folder, "driver.lua")]
     try:
         editor = subprocess.run(
             command, cwd=project, env={**os.environ, **homes, **own}, stdin=subprocess.DEVNULL, stdout=subprocess.PIPE,
@@ -293,12 +303,14 @@ def main() -> int:
     print(f"Neovim {'.'.join(map(str, version_of_editor()))}, {os.path.basename(navd)}")
     with tempfile.TemporaryDirectory(prefix="navd-editors-") as folder:
         project = os.path.realpath(os.path.join(folder, "project é 1"))
-        shutil.copytree(os.path.dirname(email.__file__), os.path.join(project, "email"), ignore=shutil.ignore_patterns("__pycache__"))
+        without = shutil.ignore_patterns("__pycache__")
+        shutil.copytree(os.path.dirname(email.__file__), os.path.join(project, "email"), ignore=without)
         steps = prepared(project)
         told, status, said = shown_by_editor(folder, project, steps, os.path.abspath(navd))
     lines = [(what, verdict(step, shown)) for (what, _, _), step, shown in zip(STEPS, steps, told)]
     end = f"status {status or 'unknown'}" + (f", and it says {said!r}" if said else "")
-    lines.append(("the editor is left, and the server ends", end if end == "status 0" else f"OTHERWISE: {end}, not status 0"))
+    verdict_of_end = end if end == "status 0" else f"OTHERWISE: {end}, not status 0"
+    lines.append(("the editor is left, and the server ends", verdict_of_end))
     wrong = sum(found.startswith("OTHERWISE") for _, found in lines)
     for what, found in lines:
         print(f"{what:54} {found}")

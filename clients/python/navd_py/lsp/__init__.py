@@ -7,6 +7,7 @@ import os
 import sys
 from typing import Optional, Sequence
 
+from ..words import add_common_words
 from .server import Options, Server
 
 
@@ -17,10 +18,7 @@ def main(arguments: Optional[Sequence[str]] = None) -> int:
         description="A server of the Language Server Protocol over standard input and output, which reads the Python "
         "files of the editor's workspace and asks a `navd run` that it starts.",
     )
-    parser.add_argument("--navd", metavar="PROGRAM", help="navd; else the environment variable NAVD, else the one in PATH")
-    parser.add_argument("--root", metavar="FOLDER", action="append", default=[], help="a folder from which modules are named")
-    parser.add_argument("--exclude", metavar="PATTERN", action="append", default=[], help="files that are left out")
-    parser.add_argument("--no-cache", action="store_true", help="keep no graphs in the user's cache folder")
+    add_common_words(parser)
     parser.add_argument("--stdio", action="store_true", help="as always; some editors say it")
     given = parser.parse_args(arguments)
     options = Options(given.navd, tuple(given.root), tuple(given.exclude), not given.no_cache)

@@ -20,7 +20,7 @@ MOST_LINES_KEPT = 64
 
 @dataclass(frozen=True)
 class State:
-    """What a file's text became: its definitions, why it has no graph of its own, and whether that of before goes on."""
+    """What a text became: its definitions, why it has no graph of its own, and whether the one of before goes on."""
 
     definitions: Tuple[Definition, ...]
     fault: Optional[Fault]
@@ -37,6 +37,7 @@ class Folder:
         self.project = project
         self.keeper = keeper
         self.user = OPERATOR
+        self.is_loose = False  # its open documents are all that counts
         self.known: Set[str] = set()  # the files that it has: those on the disk and the open ones
         self._scanned: Set[str] = set()  # those that the disk had
         self.open: Dict[str, str] = {}  # the URIs of the open documents
@@ -54,6 +55,10 @@ class Folder:
         """The path of a file relative to the folder, with slashes, or None where it isn't below it."""
         below = self.root if self.root.endswith(os.sep) else self.root + os.sep
         return path[len(below) :].replace(os.sep, "/") if path.startswith(below) else None
+
+    def has_below(self, path: str) -> bool:
+        """Whether it knows files in a folder."""
+        return any(one.startswith(path + "/") for one in self.known)
 
     def uri_of(self, path: str) -> str:
         """The URI of one of its files: as the editor wrote it, where it is open."""
@@ -79,7 +84,7 @@ class Folder:
         """The editor has closed the file: what the disk has counts; of a file that isn't the project's nothing."""
         self.open.pop(path, None)
         affected = self.project.reread(path)
-        if path not in self.project.scan():
+        if self.is_loose or path not in self.project.scan():
             self.known.discard(path)
             affected += self.project.set_text(path, None) if self._is_there(path) else []
         self._changed(path, affected, self._urgent)

@@ -95,10 +95,11 @@ class Client:
         """Tells the editor something."""
         self._send({"method": method, "params": params})
 
-    def request(self, method: str, params: Any, then: Callable[[Any, Optional[Any]], None] = lambda result, error: None) -> None:
+    def request(self, method: str, params: Any, then: Optional[Callable[[Any, Optional[Any]], None]] = None) -> None:
         """Asks the editor; `then` gets the result and the error when the answer comes."""
         identifier = f"navd-{next(self._numbers)}"
-        self._waiting[identifier] = then
+        if then is not None:
+            self._waiting[identifier] = then
         self._send({"id": identifier, "method": method, "params": params})
 
     def answered(self, identifier: Any, result: Any, error: Optional[Any]) -> None:

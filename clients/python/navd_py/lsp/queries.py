@@ -131,6 +131,5 @@ def _at(what: str, name: Name) -> Dict[str, Any]:
 
 def _places(folder: Folder, reply: Reply) -> List[Place]:
     """The places of the rows of a reply; a row whose place is gone has none."""
-    return [
-        (folder.path_of_row(row["path"]), tuple(row["span"])) for row in reply.get("rows", ()) if row["span"] is not None
-    ]
+    rows = [row for row in reply.get("rows", ()) if row["span"] is not None]
+    return [(folder.path_of_row(row["path"]), tuple(row["span"])) for row in rows]

@@ -255,8 +255,9 @@ class Server:
     def _initialized(self, _: Any) -> None:
         self._is_begun = True
         if asked(self.capabilities, "workspace.didChangeWatchedFiles.dynamicRegistration"):
-            watchers = [{"globPattern": "**/*.py"}]
-            watched = {"id": "navd-files", "method": "workspace/didChangeWatchedFiles", "registerOptions": {"watchers": watchers}}
+            watchers = [{"globPattern": "**/*.py"}, {"globPattern": "**/*", "kind": 4}]  # 4: also folders that go
+            method = "workspace/didChangeWatchedFiles"
+            watched = {"id": "navd-files", "method": method, "registerOptions": {"watchers": watchers}}
             self.client.request("client/registerCapability", {"registrations": [watched]})
 
     def _shut_down(self) -> None:
@@ -279,8 +280,9 @@ class Server:
             named = member(self.initialization, name, list, None)
             return [str(one) for one in named] if named is not None else list(given)
 
+        roots, excludes = texts("roots", self.options.roots), texts("excludes", self.options.excludes)
         cache = bool(member(self.initialization, "cache", bool, self.options.cache))
-        return Project(root, roots=texts("roots", self.options.roots), excludes=texts("excludes", self.options.excludes), cache=cache)
+        return Project(root, roots=roots, excludes=excludes, cache=cache)
 
     def _start_folder(self, uri: str) -> None:
         """Takes a folder in; its files are read later, those that are opened before that at once."""
@@ -340,13 +342,14 @@ class Server:
     def _files_changed(self, params: Any) -> None:
         for change in member(params, "changes", list):
             place = self.workspace.locate(member(change, "uri", str))
-            if place is None:
+            exists = member(change, "type", int) != 3
+            if place is None or place[0].is_loose:
                 continue
             folder, path = place
             if path in folder.known:
-                folder.reread(path, member(change, "type", int) != 3)
-            elif folder not in self._rescans:
-                self._rescans.append(folder)  # whether it is one of the project's files is seen by looking
+                folder.reread(path, exists)
+            elif folder not in self._rescans and (path.endswith(".py") if exists else folder.has_below(path)):
+                self._rescans.append(folder)  # which files are the project's is seen by looking
 
     # Questions
 

@@ -23,9 +23,10 @@ def listed(definitions: Iterable[Definition]) -> List[Definition]:
     """The definitions that are listed, in the order of the text: no parameters, imports or names within functions."""
     definitions = list(definitions)
     functions = {_dotted(one) for one in definitions if one.kind in ("function", "method")}
-    kept = [one for one in definitions if one.kind in KINDS and not (one.kind == "variable" and one.container in functions)]
     first: Dict[Tuple[str, str, str], Definition] = {}
-    for one in sorted(kept, key=lambda one: one.span):
+    for one in sorted(definitions, key=lambda one: one.span):
+        if one.kind not in KINDS or (one.kind == "variable" and one.container in functions):
+            continue
         if one.kind in ("variable", "attribute"):  # assigned to again and again: the first counts
             first.setdefault((one.kind, _owner(one.container, functions), one.name), one)
         elif one.kind != "module":
@@ -97,7 +98,9 @@ def _extents(text: str) -> Dict[Tuple[int, str], Extent]:
     return found
 
 
-def _whole_range(lines: Sequence[str], definition: Definition, extent: Optional[Extent], encoding: str) -> Dict[str, Any]:
+def _whole_range(
+    lines: Sequence[str], definition: Definition, extent: Optional[Extent], encoding: str
+) -> Dict[str, Any]:
     """The range of all lines of a definition, or of its name's where they aren't known."""
     if extent is None:
         return range_of(lines, definition.span, encoding)
@@ -131,7 +134,8 @@ class WorkspaceSymbols:
                 if rank is not None:
                     found.append((rank, len(one.name), one.name, path, one.span, folder, one))
         found.sort(key=lambda entry: entry[:5])
-        return [_information(self.workspace, folder, path, one) for _, _, _, path, _, folder, one in found[:MOST_SYMBOLS]]
+        best = found[:MOST_SYMBOLS]
+        return [_information(self.workspace, folder, path, one) for _, _, _, path, _, folder, one in best]
 
     def _of(self, folder: Folder, path: str) -> List[Definition]:
         state = folder.states[path]

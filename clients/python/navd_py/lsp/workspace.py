@@ -94,8 +94,9 @@ class Workspace:
     def _add_loose(self, uri: str) -> None:
         """Where the editor names no folder, that of the first document counts; it isn't read."""
         path = path_of(uri)
-        if path is not None:
-            self.add(uri_of(os.path.dirname(path)))
+        folder = self.add(uri_of(os.path.dirname(path))) if path is not None else None
+        if folder is not None:
+            folder.is_loose = True
 
     def change(self, uri: str, version: Optional[int], changes: Any) -> None:
         """Carries out changes of a document; one that isn't open is passed over. Raises InvalidParams."""
