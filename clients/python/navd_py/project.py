@@ -309,15 +309,27 @@ def read_text(place: str) -> Tuple[Optional[str], Optional[Fault]]:
         return None, Fault(0, 0, f"the file can't be read: {getattr(error, 'strerror', None) or error}")
     if len(data) > MOST_TEXT:
         return None, Fault(0, 0, f"the file has more than {MOST_TEXT} bytes")
+    return decoded(data)
+
+
+def decoded(data: bytes) -> Tuple[Optional[str], Optional[Fault]]:
+    """The text that these bytes are, by the encoding that they state, or where they are none."""
     try:
         encoding, _ = tokenize.detect_encoding(io.BytesIO(data).readline)
-        return data.decode(encoding), None
     except (SyntaxError, LookupError) as error:
-        return None, Fault(0, 0, f"its encoding isn't known: {error}")
+        encoding = "utf-8"
+        unknown: Optional[Fault] = Fault(0, 0, f"its encoding isn't known: {error}")
+    else:
+        unknown = None
+    try:
+        text = data.decode(encoding)
     except UnicodeDecodeError as error:
         line = data.count(b"\n", 0, error.start)
         column = error.start - (data.rfind(b"\n", 0, error.start) + 1)
         return None, Fault(line, column, f"not {error.encoding}")
+    except LookupError as error:
+        return None, Fault(0, 0, f"its encoding isn't known: {error}")
+    return (None, unknown) if unknown is not None else (text, None)
 
 
 def entry_for(text: str, asking: Asking) -> Entry:
