@@ -27,8 +27,8 @@ OPERATOR = "operator"
 # No graph has a node of this number: whether it is asked about shows whether there is a file.
 NO_NODE = 4_294_967_295
 
-_NO_ROOM = f"navd takes {MOST_FILES:,} files, and it has so many"
-_NO_WEIGHT = "the paths through all graphs together are too many for navd"
+NO_ROOM = f"navd takes {MOST_FILES:,} files, and it has so many"
+NO_WEIGHT = "the paths through all graphs together are too many for navd"
 _FAULTS = {
     "large": "its graph has {bytes} bytes, and 1,048,576 are taken",
     "too_many_nodes": "its graph has {nodes} nodes, and 16,384 are taken",
@@ -82,6 +82,7 @@ class Keeper:
         self._wanted: Dict[str, bytes] = {}  # packed
         self._there: Set[str] = set()
         self._changed: Dict[str, None] = {}  # in the order of the changes
+        self._preferred: Set[str] = set()
         self._views: Dict[str, str] = {}
         self._granted: Set[str] = set()
         self._ends: List[float] = []
@@ -101,6 +102,14 @@ class Keeper:
             self.refused[path] = fault
         self._changed.pop(path, None)
         self._changed[path] = None
+
+    def prefer(self, paths: Iterable[str]) -> None:
+        """Of these files none is left out for want of room while another one could be in its place."""
+        self._preferred = set(paths)
+        for path in self._preferred:
+            if self.refused.get(path) in (NO_ROOM, NO_WEIGHT):
+                del self.refused[path]
+                self._changed.setdefault(path)
 
     def view(self, user: str, prefix: str) -> None:
         """Lets a user see the files at a prefix, in this session and those after it."""
@@ -222,7 +231,7 @@ class Keeper:
     def _make_room(self) -> None:
         """Where a file goes, those that were refused for want of room are tried again."""
         if any(path in self._there and path not in self._wanted for path in self._changed):
-            for path in [path for path, reason in self.refused.items() if reason in (_NO_ROOM, _NO_WEIGHT)]:
+            for path in [path for path, reason in self.refused.items() if reason in (NO_ROOM, NO_WEIGHT)]:
                 del self.refused[path]
                 self._changed.setdefault(path)
 
@@ -285,20 +294,29 @@ class Keeper:
             self._changed.pop(path, None)
             return [[edit for edit in edits if edit.get("remove") != path]]
         if error == "too_many_files":
-            fresh = [edit["put"] for edit in edits if "put" in edit and edit["put"] not in self._there]
-            over = min(max(int(reply.get("files", 0)) - MOST_FILES, 1), len(fresh))
-            if over:
-                return [self._refuse(edits, set(fresh[len(fresh) - over :]), _NO_ROOM)]
+            return [self._within_room(edits, max(int(reply.get("files", 0)) - MOST_FILES, 1))]
         if error == "too_heavy" and len(edits) == 1 and "put" in edits[0]:
-            return [self._refuse(edits, {edits[0]["put"]}, _NO_WEIGHT)]
+            return [self._refuse(edits, {edits[0]["put"]}, NO_WEIGHT)]
         if error == "too_heavy" and len(edits) > 1:
             half = len(edits) // 2
             return [edits[half:], edits[:half]]
         raise Refused(f"navd refuses a commit: {reply}")
 
+    def _within_room(self, edits: List[Request], over: int) -> List[Request]:
+        """The edits with so many files fewer: the last that aren't preferred, else in place of others that are there."""
+        puts = [edit["put"] for edit in edits if "put" in edit]
+        fresh = [path for path in puts if path not in self._there]
+        others = [path for path in fresh if path not in self._preferred]
+        if others:
+            return self._refuse(edits, set(others[max(len(others) - over, 0) :]), NO_ROOM)
+        victims = sorted(self._there.difference(self._preferred, puts))[-over:]
+        if not victims:
+            return self._refuse(edits, set(fresh), NO_ROOM)
+        return self._refuse(edits, set(victims), NO_ROOM)
+
     def _refuse(self, edits: List[Request], paths: Set[str], reason: str) -> List[Request]:
         """The edits without those that put one of the files; what navd had of them before is removed."""
-        for path in paths:
+        for path in sorted(paths):
             self.refused[path] = reason
             self._changed.pop(path, None)
         rest = [edit for edit in edits if edit.get("put") not in paths]

@@ -10,7 +10,7 @@ import sys
 import time
 from typing import Callable, Dict, List, Optional, Sequence, Set
 
-from .keeper import Keeper, Refused
+from .keeper import NO_ROOM, Keeper, Refused
 from .project import Fault, Project, Translated, graph_path
 from .session import NoConnection, NoProgram, Session, find_program
 from .stale import LastGraphs
@@ -144,9 +144,11 @@ class Mirror:
             reason = self._keeper.refused.get(self._place(path))
             if reason is not None:
                 left_out[path] = reason
-        for path in sorted(left_out.keys() | self._told.keys()):
-            if left_out.get(path) == self._told.get(path):
-                continue
+        news = [path for path in left_out.keys() | self._told.keys() if left_out.get(path) != self._told.get(path)]
+        without_room = [path for path in news if left_out.get(path) == NO_ROOM]
+        if without_room:
+            self._say(f"left out {len(without_room)} files: {NO_ROOM}")
+        for path in sorted(set(news).difference(without_room)):
             if path not in left_out:
                 self._say(f"{path}: taken again" if path in self._known else f"{path}: gone")
             elif path in self._faults and self._place(path) in self._keeper.paths:

@@ -116,6 +116,16 @@ class Keeping(unittest.TestCase):
         self.keeper.put("m0000.sg.json", None)
         self.keeper.commit()
         self.assertEqual(len(self.keeper.refused), 1)
+        self.keeper.put("n.sg.json", graph("n"))
+        self.keeper.prefer(["n.sg.json", "m2047.sg.json", *self.keeper.refused])
+        self.keeper.commit()
+        self.assertEqual(sorted(self.keeper.refused), ["m2046.sg.json", "m2048.sg.json"])
+        self.assertEqual(self.rows("m2046.sg.json"), "no_file")
+        self.assertEqual(self.rows("m2047.sg.json"), "no_reference")
+        self.sessions[-1].stop()
+        self.assertEqual(self.rows("n.sg.json"), "no_reference")
+        self.assertEqual(len(self.keeper.refused), 2)
+        self.assertNotIn("n.sg.json", self.keeper.refused)
 
     def test_navd_ends_and_all_is_there_again(self) -> None:
         self.keeper.put("a.sg.json", graph("a", "b"))

@@ -4,9 +4,10 @@ import os
 import shutil
 import tempfile
 import unittest
-from typing import Any, Dict, List, Optional
+from typing import Any, Dict, List, Optional, Sequence
 from unittest import mock
 
+from navd_py.keeper import Keeper
 from navd_py.lsp.documents import Document
 from navd_py.lsp.frames import BadFrame, Message, frame, read_messages
 from navd_py.lsp.places import character_of, column_of, word_at
@@ -338,6 +339,57 @@ class Questions(ServerTest):
             self.assertIn("somewhere in the project", answer["error"]["message"])
 
 
+    def test_callers_are_asked_where_navd_has_them(self) -> None:
+        """With a navd that answers `callers`, as far as the server sees: they are `references` without a flag."""
+        main = self.write("main.py", "x = 1\nx\n")
+        other = self.write("other.py", "x = 2\n")
+        asked: List[str] = []
+        ask = Keeper.ask
+
+        def ask_both(keeper: Keeper, requests: Sequence[Any], user: str = "operator") -> List[Any]:
+            asked.extend(request["do"] for request in requests)
+            plain = [{**one, "do": "references" if one["do"] == "callers" else one["do"]} for one in requests]
+            replies = ask(keeper, plain, user)
+            return [{"rows": one["rows"]} if "rows" in one else one for one in replies]
+
+        with mock.patch.object(Keeper, "ask", ask_both):
+            editor = self.begin()
+            uri = editor.open(main)
+            self.assertEqual(editor.references(uri, 1, 0), ["main.py:1:0"])
+            self.assertEqual(editor.references(uri, 0, 0, True), ["main.py:0:0", "main.py:1:0"])
+            self.assertEqual(editor.references(uri_of(other), 0, 0), ["main.py:1:0"])
+        self.assertIn("callers", asked)
+        self.assertNotIn("references", asked)
+
+    def test_some_references_are_crowded(self) -> None:
+        main = self.write("main.py", "x = 1\nx\n")
+        self.write("other.py", "x = 2\n")
+        ask = Keeper.ask
+
+        def crowd_one(keeper: Keeper, requests: Sequence[Any], user: str = "operator") -> List[Any]:
+            replies = ask(keeper, requests, user)
+            is_crowded = requests[0]["do"] == "references" and requests[0]["path"] == "0/other.py.sg.json"
+            return [{"error": "crowded"}] if is_crowded else replies
+
+        with mock.patch.object(Keeper, "ask", crowd_one):
+            editor = self.begin()
+            uri = editor.open(main)
+            self.server.server.queries._has_callers = False
+            self.assertEqual(editor.references(uri, 1, 0), ["main.py:1:0"])
+        self.assertIn("some references are missing", editor.messages()[0])
+
+    def test_more_files_than_navd_takes(self) -> None:
+        for number in range(2_060):
+            self.write(f"m{number:04}.py", "pass\n")
+        last = self.write("z.py", "x = 1\nx\n")
+        editor = self.begin()
+        editor.ask("workspace/symbol", {"query": "x"})
+        editor.wait_for(lambda: any("13 files of the workspace are left out" in one for one in editor.messages()))
+        uri = editor.open(last)
+        self.assertEqual(editor.definition(uri, 1, 0), ["z.py:0:0"])
+        self.assertEqual([one for one in editor.notifications if "publishDiagnostics" in one["method"]], [])
+
+
 @NEEDS_NAVD
 class Workspaces(ServerTest):
     def test_roots(self) -> None:
@@ -496,6 +548,58 @@ class Workspaces(ServerTest):
             self.assertEqual(editor.error("textDocument/definition", place)["code"], -32603)
         editor.change(uri, "\nx = 2\nx\n", 3)
         self.assertEqual(editor.definition(uri, 2, 0), ["main.py:1:0"])
+
+
+@NEEDS_NAVD
+class Translator(unittest.TestCase):
+    """The server with the translator itself, as an editor starts it."""
+
+    FILES = {
+        "pkg/__init__.py": "",
+        "pkg/tools.py": '''"""Tools."""
+
+
+class Box:
+    """A box."""
+
+    limit: int = 3
+
+    def __init__(self, size=0):
+        self.size = size
+
+    def area(self):
+        return self.size * self.limit
+''',
+        "main.py": "from pkg.tools import Box as B\n\n\ndef use():\n    größe = B()\n    return '😀', größe.area()\n",
+    }
+
+    def test_a_project(self) -> None:
+        with tempfile.TemporaryDirectory(prefix="navd-lsp-") as place:
+            folder = os.path.realpath(place)
+            for path, text in self.FILES.items():
+                os.makedirs(os.path.dirname(os.path.join(folder, path)), exist_ok=True)
+                with open(os.path.join(folder, path), "w", encoding="utf-8") as file:
+                    file.write(text)
+            editor = Editor(ServerProcess(["--navd", str(NAVD), "--no-cache"]))
+            nested = {"textDocument": {"documentSymbol": {"hierarchicalDocumentSymbolSupport": True}}}
+            editor.initialize([folder], nested)
+            main = editor.open(os.path.join(folder, "main.py"))
+            tools = uri_of(os.path.join(folder, "pkg", "tools.py"))
+            self.assertEqual(editor.definition(main, 5, 24), ["tools.py:11:8"])
+            self.assertEqual(editor.definition(main, 4, 12), ["tools.py:3:6"])
+            self.assertEqual(editor.definition(tools, 12, 20), ["tools.py:9:13"])
+            self.assertEqual(editor.references(tools, 11, 8), ["main.py:5:23"])
+            self.assertEqual(editor.references(tools, 6, 4), ["tools.py:12:32"])
+            tree = editor.ask("textDocument/documentSymbol", {"textDocument": {"uri": tools}})
+            self.assertEqual([one["name"] for one in tree], ["Box"])
+            names = [one["name"] for one in tree[0]["children"]]
+            self.assertEqual(names, ["limit", "__init__", "size", "area"])
+            self.assertEqual([one["name"] for one in editor.ask("workspace/symbol", {"query": "are"})], ["area"])
+            editor.change(main, "x = (\n" + self.FILES["main.py"])
+            self.assertEqual(editor.definition(main, 6, 24), ["tools.py:11:8"])
+            self.assertEqual(editor.references(tools, 11, 8), ["main.py:6:23"])
+            editor.wait_for(lambda: editor.diagnostics(main))
+            self.assertEqual(editor.leave(), 0)
 
 
 class Process(ServerTest):

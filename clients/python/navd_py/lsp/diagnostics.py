@@ -4,6 +4,7 @@ from __future__ import annotations
 
 from typing import Any, Dict, List, Optional, Tuple
 
+from ..keeper import NO_ROOM
 from ..project import Fault
 from .folder import Folder
 from .places import UTF8, index_of, range_of, units
@@ -41,6 +42,11 @@ class Diagnostics:
                 self._told[uri] = listed
                 self._send(uri, listed)
 
+    def left_out(self) -> Optional[str]:
+        """What is to be said of the files for which navd has no room, or None where there is none."""
+        number = sum(reason == NO_ROOM for reason in self.workspace.keeper.refused.values())
+        return f"{number:,} files of the workspace are left out: {NO_ROOM}" if number else None
+
     def _send(self, uri: str, listed: List[Dict[str, Any]]) -> None:
         params: Dict[str, Any] = {"uri": uri, "diagnostics": listed}
         document = self.workspace.documents.get(uri)
@@ -64,7 +70,7 @@ class Diagnostics:
         if fault is not None:
             return [self._at(folder, path, fault, ERROR)]
         refusal = folder.refusal(path)
-        if refusal is not None:
+        if refusal is not None and (refusal != NO_ROOM or path in folder.open):
             return [self._at(folder, path, Fault(0, 0, f"left out: {refusal}"), WARNING)]
         return []
 

@@ -120,6 +120,7 @@ class Server:
             if not self.loadings[0].step():
                 self.loadings.pop(0)
                 self.diagnostics.publish()
+                self._tell_left_out()
         elif self._rescans:
             self._rescans.pop().rescan()
         elif any(folder.has_waiting for folder in self.workspace.folders):
@@ -400,6 +401,11 @@ class Server:
         if message not in self._shown:
             self._shown.add(message)
             self.client.show(protocol.ERROR, message)
+
+    def _tell_left_out(self) -> None:
+        message = self.diagnostics.left_out()
+        if message is not None:
+            self.client.show(protocol.WARNING, message)
 
     def _tell_of_fault(self, where: str, failure: Exception) -> None:
         traceback.print_exception(type(failure), failure, failure.__traceback__, file=sys.stderr)

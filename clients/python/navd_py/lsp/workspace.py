@@ -125,6 +125,7 @@ class Workspace:
         """Translates what the editor changed."""
         for folder in self.folders:
             folder.refresh()
+        self.keeper.prefer(folder.place_in_navd(path) for folder in self.folders for path in folder.open)
 
     # Places
 
