@@ -18,6 +18,8 @@ GIVING = frozenset(["get", "pop", "setdefault", "popleft"])
 SAME = frozenset(["copy"])
 
 Comprehension = Sequence[ast.comprehension]
+# What a test told of a name: the name, what it was bound to in this frame before, and what it is bound to now.
+Narrowed = List[Tuple[str, Optional[Bound], Bound]]
 
 
 class Expressions(Annotations):
@@ -63,8 +65,15 @@ class Expressions(Annotations):
         return NOTHING
 
     def name(self, node: ast.Name) -> Values:
-        place = self.place_of(node)
-        return self.use(node.id, place[0], place[1], place[2])
+        name = node.id
+        bound = self.names.get(name)
+        if bound is None:
+            line, start, end = self.place_of(node)
+            return self.use(name, line, start, end)
+        if bound.targets:
+            start = node.col_offset
+            self.graph.reference(name, node.lineno - 1, start, node.end_col_offset or start, bound.targets)
+        return bound.values
 
     def place_of(self, node: ast.Name) -> Place:
         return node.lineno - 1, node.col_offset, node.end_col_offset or node.col_offset
@@ -172,33 +181,26 @@ class Expressions(Annotations):
         return values
 
     def either(self, node: ast.BoolOp) -> Values:
-        before = self.names
+        if isinstance(node.op, ast.Or):
+            values = NOTHING
+            for operand in node.values:
+                values = joined(values, self.value(operand))
+            return values
         values = NOTHING
-        narrowed = isinstance(node.op, ast.And)
-        for index, operand in enumerate(node.values):
-            value = self.value(operand)
-            values = value if narrowed else joined(values, value)
-            if narrowed and index + 1 < len(node.values):
-                self.narrow(operand)
-        if narrowed and self.names is not before:
-            self.names = self.kept(before, self.names)
+        told: List[Narrowed] = []
+        for operand in node.values:
+            values = self.value(operand)
+            if operand.__class__ is ast.Call:
+                told.append(self.narrowing(operand))
+        for narrowed in reversed(told):
+            self.widen(narrowed)
         return values
-
-    def kept(self, before: Names, after: Names) -> Names:
-        """The names as they were, with those that a walrus bound since."""
-        for name, bound in after.items():
-            old = before.get(name)
-            if old is None or (old is not bound and old.targets is not bound.targets):
-                before[name] = bound
-        return before
 
     def choice(self, node: ast.IfExp) -> Values:
         self.value(node.test)
-        before = self.names
-        self.names = dict(before)
-        self.narrow(node.test)
+        narrowed = self.narrowing(node.test)
         first = self.value(node.body)
-        self.names = self.kept(before, self.names)
+        self.widen(narrowed)
         return joined(first, self.value(node.orelse))
 
     def compared(self, node: ast.Compare) -> Values:
@@ -395,7 +397,7 @@ class Expressions(Annotations):
 
     def add_to(self, slot: int, values: Values) -> None:
         """More values of a slot, up to the most that one may have."""
-        sinks = self.graph.out[slot]
+        sinks = self.graph.sinks(slot)
         for value in values:
             if value not in sinks and len(sinks) < 4:
                 sinks.append(value)
@@ -437,20 +439,35 @@ class Expressions(Annotations):
 
     def narrow(self, test: ast.expr) -> None:
         """Takes up what a test that holds tells of names, by `isinstance`."""
+        self.narrowing(test)
+
+    def narrowing(self, test: ast.expr) -> Narrowed:
+        """Takes up what a test that holds tells, and answers what it changed."""
         if isinstance(test, ast.BoolOp) and isinstance(test.op, ast.And):
-            for operand in test.values:
-                self.narrow(operand)
-            return
+            return [change for operand in test.values for change in self.narrowing(operand)]
         if not (isinstance(test, ast.Call) and isinstance(test.func, ast.Name) and test.func.id == "isinstance"):
-            return
+            return []
         if len(test.args) != 2 or not isinstance(test.args[0], ast.Name):
-            return
+            return []
         name = test.args[0].id
         bound = self.looked_up(name)
         values = self.quietly_instance(test.args[1])
-        if bound is not None and values:
-            self.names = dict(self.names)
-            self.names[name] = bound.with_values(values)
+        if bound is None or not values:
+            return []
+        before, after = self.names.get(name), bound.with_values(values)
+        self.names[name] = after
+        self.log.append(name)
+        return [(name, before, after)]
+
+    def widen(self, narrowed: Narrowed) -> None:
+        """Takes back what a test told, where the names were not bound anew."""
+        for name, before, after in reversed(narrowed):
+            if self.names.get(name) is after:
+                self.log.append(name)
+                if before is None:
+                    del self.names[name]
+                else:
+                    self.names[name] = before
 
 
 def all_arguments(arguments: ast.arguments) -> List[ast.arg]:

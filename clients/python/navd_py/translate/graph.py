@@ -6,7 +6,7 @@ A value is a tuple of nodes, at most `MOST_VALUES`, from each of which what stan
 from __future__ import annotations
 
 import json
-from typing import Dict, Iterable, List, Optional, Set, Tuple
+from typing import Dict, Iterable, List, Optional, Sequence, Set, Tuple
 
 from .cycles import nodes_in_cycles
 
@@ -40,10 +40,10 @@ class Graph:
 
     def __init__(self) -> None:
         self.texts: List[str] = []
-        self.out: List[List[int]] = []
+        self.out: List[Sequence[int]] = []
         self.ranked: Dict[int, List[Tuple[int, int]]] = {}
         self.definitions: Dict[int, Tuple[int, int]] = {}
-        self.references: Set[int] = set()
+        self.references: List[int] = []
         # The nodes whose edges say what a name, an attribute or a call has as its value.
         self.slots: Set[int] = set()
         # The symbol that a node asks a scope of members for, by node and scope.
@@ -79,11 +79,14 @@ class Graph:
             number = self.shared[key] = self.push(symbol, values)
         return number
 
-    def reference(self, name: str, line: int, start: int, end: int, sinks: Iterable[int]) -> int:
-        number = self.node(
-            f'{{"kind":"push","reference":true,"span":[{line},{start},{line},{end}],"symbol":"{name}"}}', sinks
+    def reference(self, name: str, line: int, start: int, end: int, sinks: Sequence[int]) -> int:
+        """A reference; its edges are these sinks from now on, without a copy."""
+        number = len(self.texts)
+        self.texts.append(
+            f'{{"kind":"push","reference":true,"span":[{line},{start},{line},{end}],"symbol":"{name}"}}'
         )
-        self.references.add(number)
+        self.out.append(sinks)
+        self.references.append(number)
         return number
 
     def definition(self, name: str, line: int, start: int, end: int, sinks: Iterable[int] = ()) -> int:
@@ -106,7 +109,13 @@ class Graph:
         if precedence or source == ROOT:
             self.ranked.setdefault(source, []).append((sink, precedence))
         else:
-            self.out[source].append(sink)
+            self.sinks(source).append(sink)
+
+    def sinks(self, node: int) -> List[int]:
+        """The sinks of a node that is no reference, to which more may be added."""
+        sinks = self.out[node]
+        assert isinstance(sinks, list)
+        return sinks
 
     # -- writing ----------------------------------------------------------------------------------
 
@@ -117,24 +126,9 @@ class Graph:
         self._cut_cycles()
         useful = self._useful()
         met = self._met(useful)
-        order = self._order(useful, met)
+        order = self._order(met)
         number = {node: place for place, node in enumerate(order)}
-        edges: List[str] = []
-        for node in order:
-            if node not in met:
-                continue
-            place = number[node]
-            for sink in dict.fromkeys(self.out[node]):
-                if sink == ROOT:
-                    edges.append(f'[{place},"root",0]')
-                elif sink in number and sink in useful:
-                    edges.append(f"[{place},{number[sink]},0]")
-            for sink, precedence in self.ranked.get(node, ()):
-                if sink in number and sink in useful:
-                    edges.append(f"[{place},{number[sink]},{precedence}]")
-        for sink, precedence in self.ranked.get(ROOT, ()):
-            if sink in number:
-                edges.append(f'["root",{number[sink]},{precedence}]')
+        edges = self._written_edges(order, number, useful, met)
         if len(order) > MOST_NODES:
             raise TooLarge(f"its graph would have {len(order)} nodes, more than {MOST_NODES}")
         if len(edges) > MOST_EDGES:
@@ -174,58 +168,87 @@ class Graph:
                 if sink in self.members:
                     yield from self._found(sink, symbol, depth + 1)
 
-    def _sinks(self, node: int) -> Iterable[int]:
-        yield from self.out[node]
-        for sink, _ in self.ranked.get(node, ()):
-            yield sink
+    def _written_edges(self, order: List[int], number: Dict[int, int], useful: List[bool], met: List[bool]) -> List[str]:
+        edges: List[str] = []
+        append = edges.append
+        out, ranked = self.out, self.ranked
+        for place, node in enumerate(order):
+            if not met[node]:
+                continue
+            sinks = out[node]
+            for sink in sinks if len(sinks) < 2 else dict.fromkeys(sinks):
+                if sink == ROOT:
+                    append(f'[{place},"root",0]')
+                elif useful[sink]:
+                    append(f"[{place},{number[sink]},0]")
+            if node in ranked:
+                for sink, precedence in ranked[node]:
+                    if useful[sink]:
+                        append(f"[{place},{number[sink]},{precedence}]")
+        for sink, precedence in ranked.get(ROOT, ()):
+            if useful[sink]:
+                append(f'["root",{number[sink]},{precedence}]')
+        return edges
 
-    def _useful(self) -> Set[int]:
-        """The nodes from which a definition or the root can be reached."""
-        sources: Dict[int, List[int]] = {}
+    def _useful(self) -> List[bool]:
+        """Of each node whether a definition or the root can be reached from it; the root stands last."""
+        count = len(self.texts)
+        sources: List[List[int]] = [[] for _ in range(count + 1)]
         for node, sinks in enumerate(self.out):
             for sink in sinks:
-                sources.setdefault(sink, []).append(node)
+                sources[sink].append(node)
         for node, ranked in self.ranked.items():
             if node != ROOT:
                 for sink, _ in ranked:
-                    sources.setdefault(sink, []).append(node)
-        useful = set(self.definitions)
-        useful.add(ROOT)
-        waiting = list(useful)
+                    sources[sink].append(node)
+        useful = [False] * (count + 1)
+        waiting = [*self.definitions, ROOT]
+        for node in waiting:
+            useful[node] = True
         while waiting:
-            for source in sources.get(waiting.pop(), ()):
-                if source not in useful:
-                    useful.add(source)
+            for source in sources[waiting.pop()]:
+                if not useful[source]:
+                    useful[source] = True
                     waiting.append(source)
         return useful
 
-    def _met(self, useful: Set[int]) -> Set[int]:
-        """The useful nodes that a path from a reference or from the root may meet."""
-        met = {node for node in self.references if node in useful}
-        met.update(sink for sink, _ in self.ranked.get(ROOT, ()) if sink in useful)
-        waiting = list(met)
+    def _met(self, useful: List[bool]) -> List[bool]:
+        """Of each node whether it is useful and a path from a reference or from the root may meet it."""
+        met = [False] * len(useful)
+        met[ROOT] = True
+        waiting = [node for node in self.references if useful[node]]
+        waiting.extend(sink for sink, _ in self.ranked.get(ROOT, ()) if useful[sink])
+        for node in waiting:
+            met[node] = True
+        out, ranked = self.out, self.ranked
         while waiting:
-            for sink in self._sinks(waiting.pop()):
-                if sink not in met and sink in useful:
-                    met.add(sink)
-                    if sink != ROOT:
+            node = waiting.pop()
+            for sink in out[node]:
+                if not met[sink] and useful[sink]:
+                    met[sink] = True
+                    waiting.append(sink)
+            if node in ranked:
+                for sink, _ in ranked[node]:
+                    if not met[sink] and useful[sink]:
+                        met[sink] = True
                         waiting.append(sink)
-        met.discard(ROOT)
         return met
 
-    def _order(self, useful: Set[int], met: Set[int]) -> List[int]:
+    def _order(self, met: List[bool]) -> List[int]:
         """Definitions by their places; what has several ways in and out, so that paths are cut there; the others the
         newest first, since what is newer mostly leads to what is older."""
-        entered: Dict[int, int] = {}
-        for node in met:
-            for sink in self.out[node]:
-                entered[sink] = entered.get(sink, 0) + 1
-        first = sorted(self.definitions, key=self.definitions.__getitem__)
+        entered = [0] * len(met)
+        for node, sinks in enumerate(self.out):
+            if met[node]:
+                for sink in sinks:
+                    entered[sink] += 1
+        definitions = self.definitions
+        first = sorted(definitions, key=definitions.__getitem__)
         busy: List[int] = []
         others: List[int] = []
         for node in range(len(self.texts) - 1, -1, -1):
-            if node in met and node not in self.definitions:
-                (busy if entered.get(node, 0) > 1 and len(self.out[node]) > 1 else others).append(node)
+            if met[node] and node not in definitions:
+                (busy if entered[node] > 1 and len(self.out[node]) > 1 else others).append(node)
         return first + busy + others
 
 

@@ -147,7 +147,7 @@ class Scopes(Imports):
             bound = frame.names.get(name)
             return bound.values if bound is not None and bound.kind == DEFINED else NOTHING
 
-        ways = graph.out[parts.instance]
+        ways = graph.sinks(parts.instance)
         ways.extend(own("__call__"))
         item = own("__getitem__")
         if item:

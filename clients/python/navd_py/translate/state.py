@@ -37,6 +37,9 @@ class State:
         # Whether the text at this place is never reached.
         self.dead = False
         self.order = 0
+        # The names that were bound, or bound to something else, one after the other: where ways of a text meet, the
+        # bindings of other names are the same on both.
+        self.log: List[str] = []
         # Above 0 within a comprehension or a lambda, whose names are its own.
         self.inner = 0
         # The scope of members that a value has, where the class is known.
@@ -110,6 +113,7 @@ class State:
     def put(self, name: str, bound: Bound) -> None:
         frame = self.frame
         self.names[name] = bound
+        self.log.append(name)
         if self.inner:
             return
         if name in frame.declared_global:

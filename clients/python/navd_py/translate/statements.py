@@ -5,15 +5,11 @@ from __future__ import annotations
 import ast
 from typing import Callable, Dict, List, Optional, Sequence, Tuple
 
-from .bindings import Bound, Loop, Names, meeting, merged
+from .bindings import Loop, Names, merged
 from .graph import NOTHING, Values, joined
 from .places import Place
 from .scopes import Scopes
 from .state import CALL
-
-# What a test told of a name: the name, what it was bound to in this frame before, and what it is bound to now.
-Narrowed = List[Tuple[str, Optional[Bound], Bound]]
-
 
 class Statements(Scopes):
     """Going through statements."""
@@ -179,6 +175,7 @@ class Statements(Scopes):
             self.value(target)
             if isinstance(target, ast.Name) and target.id in self.names:
                 del self.names[target.id]
+                self.log.append(target.id)
 
     def global_names(self, node: ast.Global) -> None:
         if self.frame is not self.module:
@@ -203,92 +200,79 @@ class Statements(Scopes):
 
     # -- ways that part and meet ------------------------------------------------------------------
 
-    def narrowing(self, test: ast.expr) -> Narrowed:
-        """Takes up what a test that holds tells, and answers what it changed."""
-        before = self.names
-        self.narrow(test)
-        if self.names is before:
-            return []
-        return [(name, before.get(name), bound) for name, bound in self.names.items() if before.get(name) is not bound]
-
-    def widen(self, narrowed: Narrowed) -> None:
-        """Takes back what a test told, where the names were not bound anew."""
-        for name, before, bound in narrowed:
-            if self.names.get(name) is bound:
-                if before is None:
-                    del self.names[name]
-                else:
-                    self.names[name] = before
-
-    def meet(self, names: Names, dead: bool) -> None:
-        """Joins another way of the text to this one."""
-        if dead:
-            if self.dead:
-                self.names = meeting(names, self.names)
+    def meet(self, names: Names, dead: bool, mark: int) -> None:
+        """Joins another way of the text to this one; they parted where the log had `mark` entries."""
+        if dead and not self.dead:
             return
-        self.names = names if self.dead else meeting(names, self.names)
-        self.dead = False
+        if self.dead and not dead:
+            self.names = names
+            self.dead = False
+            return
+        self.names = self.common(names, self.names, mark)
+
+    def common(self, first: Names, second: Names, mark: int) -> Names:
+        """The bindings where two ways meet that parted at a mark of the log. The second one is changed to them."""
+        for name in set(self.log[mark:]):
+            one, other = first.get(name), second.get(name)
+            if one is other or one is None:
+                continue
+            second[name] = one if other is None else merged(one, other)
+        return second
 
     def branch(self, node: ast.If) -> None:
         test = node.test
         self.value(test)
-        before, dead = self.names, self.dead
+        before, dead, mark = self.names, self.dead, len(self.log)
         self.names = dict(before)
         narrowed = self.narrowing(test)
         self.block(node.body)
-        if narrowed:
-            self.widen(narrowed)
+        self.widen(narrowed)
         first, first_dead = self.names, self.dead
-        self.names, self.dead = dict(before), dead
-        if isinstance(test, ast.UnaryOp) and isinstance(test.op, ast.Not) and first_dead:
+        self.names, self.dead = before, dead
+        if first_dead and isinstance(test, ast.UnaryOp) and isinstance(test.op, ast.Not):
             self.narrow(test.operand)
         self.block(node.orelse)
-        self.meet(first, first_dead)
+        self.meet(first, first_dead, mark)
 
     def for_loop(self, node: ast.For) -> None:
-        values_before, dead = self.names, self.dead
-        self.names = dict(values_before)
+        dead = self.dead
         loop = Loop()
-        self.frame.loops.append(loop)
         self.iterate(node.target, node.iter)
+        mark = len(self.log)
         started = self.names
         self.names = dict(started)
+        self.frame.loops.append(loop)
         self.block(node.body)
         self.frame.loops.pop()
         for names in loop.continues:
-            self.meet(names, False)
-        self.meet(started, dead)
+            self.meet(names, False, mark)
+        self.meet(started, dead, mark)
         self.dead = dead
         self.block(node.orelse)
         for names in loop.breaks:
-            self.meet(names, False)
+            self.meet(names, False, mark)
 
     def while_loop(self, node: ast.While) -> None:
         self.value(node.test)
-        before, dead = self.names, self.dead
+        before, dead, mark = self.names, self.dead, len(self.log)
         self.names = dict(before)
         loop = Loop()
         self.frame.loops.append(loop)
         narrowed = self.narrowing(node.test)
         self.block(node.body)
-        if narrowed:
-            self.widen(narrowed)
+        self.widen(narrowed)
         self.frame.loops.pop()
         for names in loop.continues:
-            self.meet(names, False)
-        endless = isinstance(node.test, ast.Constant) and bool(node.test.value)
-        if endless:
-            if not self.dead:
-                loop.breaks = [meeting(names, self.names) for names in loop.breaks] or [self.names]
-            self.names = dict(before) if self.dead else self.names
+            self.meet(names, False, mark)
+        if isinstance(node.test, ast.Constant) and node.test.value:
+            # An endless loop is left by `break` alone.
             self.dead = True
         else:
-            self.meet(before, dead)
+            self.meet(before, dead, mark)
         self.block(node.orelse)
         for names in loop.breaks:
-            self.meet(names, False)
-        if dead:
-            self.dead = True
+            self.meet(names, False, mark)
+        self.dead = self.dead or dead
 
     def broken(self, node: ast.Break) -> None:
         if self.frame.loops and not self.dead:
@@ -310,9 +294,10 @@ class Statements(Scopes):
         self.block(node.body)
 
     def tried(self, node: ast.Try) -> None:
-        before, dead = dict(self.names), self.dead
+        before, dead, mark = dict(self.names), self.dead, len(self.log)
         self.block(node.body)
-        anywhere = meeting(before, self.names)
+        # A handler begins anywhere in the body.
+        anywhere = self.common(self.names, before, mark)
         self.block(node.orelse)
         after, after_dead = self.names, self.dead
         for handler in node.handlers:
@@ -320,11 +305,11 @@ class Statements(Scopes):
             self.handled(handler)
             names, names_dead = self.names, self.dead
             self.names, self.dead = after, after_dead
-            self.meet(names, names_dead)
+            self.meet(names, names_dead, mark)
             after, after_dead = self.names, self.dead
         if node.finalbody:
             if after_dead:
-                self.names = meeting(anywhere, after)
+                self.names = self.common(anywhere, after, mark)
             self.dead = dead
             self.block(node.finalbody)
             self.dead = self.dead or after_dead
@@ -343,14 +328,15 @@ class Statements(Scopes):
         self.block(handler.body)
         if handler.name is not None:
             self.names.pop(handler.name, None)
+            self.log.append(handler.name)
 
     # -- patterns ---------------------------------------------------------------------------------
 
     def match(self, node: ast.stmt) -> None:
         subject = getattr(node, "subject")
         values = self.value(subject)
-        before, dead = self.names, self.dead
-        after, after_dead = before, dead
+        before, dead, mark = self.names, self.dead, len(self.log)
+        after, after_dead = dict(before), dead
         first = True
         for case in getattr(node, "cases"):
             self.names, self.dead = dict(before), dead
@@ -363,7 +349,7 @@ class Statements(Scopes):
             else:
                 names, names_dead = self.names, self.dead
                 self.names, self.dead = after, after_dead
-                self.meet(names, names_dead)
+                self.meet(names, names_dead, mark)
                 after, after_dead = self.names, self.dead
             first = False
         self.names, self.dead = after, after_dead
@@ -409,6 +395,7 @@ class Statements(Scopes):
             bound = self.looked_up(subject.id)
             if bound is not None:
                 self.names[subject.id] = bound.with_values(instance)
+                self.log.append(subject.id)
         for part in getattr(node, "patterns"):
             self.pattern(part, NOTHING)
         for name, part in zip(getattr(node, "kwd_attrs"), getattr(node, "kwd_patterns")):
