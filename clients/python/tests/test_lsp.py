@@ -3,8 +3,9 @@
 import os
 import shutil
 import tempfile
+import time
 import unittest
-from typing import Any, Dict, List, Optional, Sequence
+from typing import Any, Dict, List, Optional, Sequence, Set
 from unittest import mock
 
 from navd_py.keeper import Keeper
@@ -12,8 +13,9 @@ from navd_py.lsp.documents import Document
 from navd_py.lsp.frames import BadFrame, Message, frame, read_messages
 from navd_py.lsp.places import character_of, column_of, word_at
 from navd_py.lsp.protocol import InvalidParams
-from navd_py.lsp.server import Options
+from navd_py.lsp.server import Options, Server
 from navd_py.lsp.uris import path_of, uri_below, uri_of
+from navd_py.session import Session
 
 from lsp_client import Editor, ServerProcess, ServerThread
 from stand_in import StandIn
@@ -202,6 +204,39 @@ class Protocol(ServerTest):
         self.assertEqual(len(editor.messages()), 1)
         self.assertEqual(editor.leave(), 0)
 
+    def test_nobody_reads_the_answers(self) -> None:
+        source, sink = os.pipe()
+        os.close(source)
+        data = [frame({"id": 1, "method": "initialize", "params": {}})]
+
+        def write(message: bytes) -> None:
+            os.write(sink, message)
+
+        server = Server(Options(program="/nowhere/navd"), lambda size: data.pop() if data else time.sleep(5) or b"", write)
+        self.assertEqual(server.serve(), 1)
+        os.close(sink)
+
+    def test_a_disk_that_fails(self) -> None:
+        path = self.write("a.py", "x = 1\n")
+        editor = self.start("/nowhere/navd")
+        failing = mock.patch.object(StandIn, "scan", side_effect=PermissionError("not for you"))
+        with failing, mock.patch("traceback.print_exception"):
+            editor.initialize([self.folder])
+            uri = editor.open(path)
+            editor.wait_for(lambda: any("not for you" in one for one in editor.messages("window/logMessage")))
+        symbols = editor.ask("textDocument/documentSymbol", {"textDocument": {"uri": uri}})
+        self.assertEqual([one["name"] for one in symbols], ["x"])
+        self.assertEqual(editor.leave(), 0)
+
+    def test_documents_of_other_kinds(self) -> None:
+        editor = self.start("/nowhere/navd")
+        editor.initialize([self.folder])
+        uri = editor.open(os.path.join(self.folder, "notes.md"), "# (\n")
+        self.assertEqual(editor.ask("textDocument/documentSymbol", {"textDocument": {"uri": uri}}), [])
+        editor.notify("textDocument/didClose", {"textDocument": {"uri": uri}})
+        self.assertEqual(editor.leave(), 0)
+        self.assertIsNone(editor.diagnostics(uri))
+
     def test_options_that_are_none(self) -> None:
         editor = self.start("/nowhere/navd")
         self.assertEqual(editor.error("initialize", {"capabilities": 3})["code"], -32602)
@@ -379,14 +414,30 @@ class Questions(ServerTest):
         self.assertIn("some references are missing", editor.messages()[0])
 
     def test_more_files_than_navd_takes(self) -> None:
-        for number in range(2_060):
-            self.write(f"m{number:04}.py", "pass\n")
+        """With a navd that takes 20 files, as far as the server sees."""
+        for number in range(32):
+            self.write(f"m{number:02}.py", "pass\n")
         last = self.write("z.py", "x = 1\nx\n")
-        editor = self.begin()
-        editor.ask("workspace/symbol", {"query": "x"})
-        editor.wait_for(lambda: any("13 files of the workspace are left out" in one for one in editor.messages()))
-        uri = editor.open(last)
-        self.assertEqual(editor.definition(uri, 1, 0), ["z.py:0:0"])
+        there: Set[str] = set()
+        request = Session.request
+
+        def request_within_room(session: Session, asked: Dict[str, Any]) -> Any:
+            edits = asked.get("edits", [])
+            wanted = there.union(edit["put"] for edit in edits if "put" in edit)
+            wanted.difference_update(edit.get("remove") for edit in edits)
+            if len(wanted) > 20:
+                return {"error": "too_many_files", "files": len(wanted)}
+            there.clear()
+            there.update(wanted)
+            return request(session, asked)
+
+        room = mock.patch("navd_py.keeper.MOST_FILES", 20)
+        with room, mock.patch.object(Session, "request", request_within_room):
+            editor = self.begin()
+            editor.ask("workspace/symbol", {"query": "x"})
+            editor.wait_for(lambda: any("13 files of the workspace are left out" in one for one in editor.messages()))
+            uri = editor.open(last)
+            self.assertEqual(editor.definition(uri, 1, 0), ["z.py:0:0"])
         self.assertEqual([one for one in editor.notifications if "publishDiagnostics" in one["method"]], [])
 
 

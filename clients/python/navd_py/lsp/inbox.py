@@ -11,7 +11,7 @@ from typing import Any, Callable, Optional, Set
 
 from . import protocol
 from .frames import BadFrame, Message, read_messages
-from .protocol import Client, Identifier, ResponseError
+from .protocol import Client, EditorGone, Identifier, ResponseError
 
 
 class End:
@@ -55,8 +55,8 @@ class Inbox:
                     self._client.refuse(None, ResponseError(protocol.PARSE_ERROR, f"parse error: {item.reason}"))
                 else:
                     self._sort(item)
-        except OSError:
-            pass  # the editor has gone
+        except (OSError, EditorGone):
+            pass  # that is the end, too
         finally:
             self._queue.put(End())
 

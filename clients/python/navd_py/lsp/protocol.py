@@ -23,6 +23,10 @@ REQUEST_FAILED = -32803
 ERROR, WARNING, INFO, LOG = 1, 2, 3, 4
 
 
+class EditorGone(BaseException):
+    """Nobody takes what is written. It isn't an Exception: no handler of faults of a request is to catch it."""
+
+
 class ResponseError(Exception):
     """An error with which a request is answered."""
 
@@ -70,7 +74,7 @@ def asked(value: Any, path: str) -> bool:
 
 
 class Client:
-    """The editor's side, to which messages are written. Several threads may write."""
+    """The editor's side, to which messages are written, by several threads. Writing raises EditorGone."""
 
     def __init__(self, write: Callable[[bytes], None]) -> None:
         self._write = write
@@ -81,7 +85,10 @@ class Client:
     def _send(self, message: Dict[str, Any]) -> None:
         data = frame({"jsonrpc": "2.0", **message})
         with self._lock:
-            self._write(data)
+            try:
+                self._write(data)
+            except (OSError, ValueError) as error:
+                raise EditorGone(str(error)) from None
 
     def answer(self, identifier: Optional[Identifier], result: Any) -> None:
         """Answers a request."""

@@ -3,6 +3,7 @@
 from __future__ import annotations
 
 import re
+import unicodedata
 from typing import Any, Callable, Dict, List, Optional, Sequence, Set, Tuple
 
 from ..keeper import Refused
@@ -110,7 +111,8 @@ class Queries:
     def _own(name: Name) -> List[Tuple[Place, Definition]]:
         """The definitions that a name is."""
         definitions = name.folder.definitions_at(name.path, name.line, name.start)
-        return [((name.path, one.span), one) for one in definitions if one.name == name.text]
+        text = unicodedata.normalize("NFKC", name.text)  # as Python reads names
+        return [((name.path, one.span), one) for one in definitions if one.name in (name.text, text)]
 
     def _same_names(self, name: Name) -> List[Name]:
         """The places in the document at which the same name stands; the place itself is among them."""

@@ -22,7 +22,7 @@ from .documents import Document
 from .folder import Folder
 from .inbox import End, Inbox
 from .places import ENCODINGS, UTF16
-from .protocol import Cancelled, Client, Identifier, ResponseError, asked, member
+from .protocol import Cancelled, Client, EditorGone, Identifier, ResponseError, asked, member
 from .queries import Queries
 from .symbols import WorkspaceSymbols, document_symbols, flat_symbols
 from .uris import uri_of
@@ -83,8 +83,8 @@ class Server:
                     return 0 if self.is_shut_down else 1
                 else:
                     self._take(message)
-        except (BrokenPipeError, ConnectionError):
-            return 1  # nobody reads the answers
+        except EditorGone:
+            return 1
         finally:
             self.keeper.close()
 
@@ -103,8 +103,6 @@ class Server:
         """Does a slice of what has to be done between messages."""
         try:
             self._between_messages()
-        except OSError:
-            raise
         except Exception as failure:  # a fault of this program; the editor isn't left without a server for it
             self._tell_of_fault("between messages", failure)
             self.loadings.clear()
@@ -163,8 +161,6 @@ class Server:
             handler(self, params)
         except ResponseError as error:
             self.client.log(protocol.WARNING, f"{method} is passed over: {error.message}")
-        except OSError:
-            raise
         except Exception as failure:
             self._tell_of_fault(method, failure)
 
@@ -175,8 +171,6 @@ class Server:
             result = self._result(identifier, method, params)
         except ResponseError as error:
             self.client.refuse(identifier, error)
-        except OSError:
-            raise
         except Exception as failure:
             self._tell_of_fault(method, failure)
             reason = f"internal error: {type(failure).__name__}: {failure}"

@@ -111,13 +111,13 @@ class Workspace:
     def close(self, uri: str) -> None:
         """The editor has closed a document."""
         place = self.locate(uri) if self.documents.pop(uri, None) else None
-        if place is not None:
+        if place is not None and place[1] in place[0].open:
             folder, path = place
             folder.set_closed(path)
 
     def _set_text(self, document: Document) -> None:
         place = self.locate(document.uri)
-        if place is not None:
+        if place is not None and place[1].endswith(".py"):
             folder, path = place
             folder.set_open(path, document.uri, document.text)
 
