@@ -1,0 +1,160 @@
+"""The command `ask` over a small folder, with a navd that it starts."""
+
+from __future__ import annotations
+
+import contextlib
+import io
+import json
+import os
+import shutil
+import subprocess
+import sys
+import tempfile
+import unittest
+from typing import Any, Dict, List, Tuple
+
+from marked import program
+
+from navd_py.__main__ import main
+from navd_py.ask import Progress
+
+FILES = {
+    "pkg/__init__.py": "from .tools import Box as Case\n",
+    "pkg/tools.py": "class Box:\n    def size(self):\n        return 1\n\n\né = 'ü'; größe = Box()\n",
+    "main.py": "from pkg import Case\nb = Case()\nb.size()\nprint(b)\n",
+    "broken.py": "def f(:\n    pass\n",
+}
+
+
+class Asking(unittest.TestCase):
+    def setUp(self) -> None:
+        program()
+        self.folder = tempfile.mkdtemp()
+        self.addCleanup(shutil.rmtree, self.folder, True)
+        for path, text in FILES.items():
+            place = os.path.join(self.folder, path)
+            os.makedirs(os.path.dirname(place), exist_ok=True)
+            with open(place, "w", encoding="utf-8") as file:
+                file.write(text)
+
+    def ask(self, *words: str) -> Tuple[int, List[str], str]:
+        """The status, the lines of standard output and the text of standard error."""
+        out, errors = io.StringIO(), io.StringIO()
+        with contextlib.redirect_stdout(out), contextlib.redirect_stderr(errors):
+            try:
+                status = main(["ask", self.folder, *words, "--no-cache"])
+            except SystemExit as end:
+                status = int(end.code or 0)
+        return status, out.getvalue().splitlines(), errors.getvalue()
+
+    def json(self, *words: str) -> Dict[str, Any]:
+        status, lines, _ = self.ask(*words, "--json")
+        self.assertEqual(len(lines), 1, lines)
+        value = json.loads(lines[0])
+        assert isinstance(value, dict)
+        return value
+
+    def test_define(self) -> None:
+        status, lines, errors = self.ask("define", "main.py:3:3")
+        self.assertEqual((status, lines), (0, ["pkg/tools.py:2:9: def size(self):"]))
+        self.assertEqual(errors, "navd-py: left out broken.py:1:7: invalid syntax\n")
+
+    def test_define_at_a_definition(self) -> None:
+        self.assertEqual(self.ask("define", "pkg/tools.py:1:8")[1], ["pkg/tools.py:1:7: class Box:"])
+
+    def test_define_of_nothing(self) -> None:
+        status, lines, errors = self.ask("define", "main.py:4:2")
+        self.assertEqual((status, lines), (1, []))
+        self.assertIn("none found in the folder", errors)
+
+    def test_columns_are_characters(self) -> None:
+        self.assertEqual(self.ask("define", "pkg/tools.py:6:10")[1], ["pkg/tools.py:6:10: é = 'ü'; größe = Box()"])
+        self.assertEqual(self.ask("define", "pkg/tools.py:6:18")[1], ["pkg/tools.py:1:7: class Box:"])
+
+    def test_references_of_a_definition(self) -> None:
+        expected = [
+            "main.py:1:17: from pkg import Case",
+            "main.py:2:5: b = Case()",
+            "pkg/__init__.py:1:20: from .tools import Box as Case",
+            "pkg/tools.py:6:18: é = 'ü'; größe = Box()",
+        ]
+        self.assertEqual(self.ask("references", "pkg/tools.py:1:7")[:2], (0, expected))
+
+    def test_references_of_what_a_name_means(self) -> None:
+        self.assertEqual(self.ask("references", "main.py:3:3")[1], ["main.py:3:3: b.size()"])
+
+    def test_paths_may_be_those_of_the_shell(self) -> None:
+        place = os.path.join(self.folder, "main.py")
+        self.assertEqual(self.ask("define", f"{place}:3:3")[0], 0)
+
+    def test_uses(self) -> None:
+        status, lines, _ = self.ask("uses", "main.py")
+        expected = [
+            "main.py:1:6: pkg: pkg/__init__.py:1:1",
+            "main.py:1:17: Case: pkg/tools.py:1:7",
+            "main.py:2:5: Case: pkg/tools.py:1:7",
+            "main.py:3:1: b: main.py:2:1",
+            "main.py:3:3: size: pkg/tools.py:2:9",
+            "main.py:4:7: b: main.py:2:1",
+        ]
+        self.assertEqual((status, lines), (0, expected))
+
+    def test_check(self) -> None:
+        status, lines, _ = self.ask("check")
+        self.assertEqual(status, 0)
+        self.assertIn("0 crowded and 0 limited", lines[-1])
+        self.assertIn("1 files left out", lines[-1])
+        counts = self.json("check", "main")["counts"]
+        self.assertEqual(counts, {"names": 6, "found": 6, "none": 0, "crowded": 0, "limited": 0})
+
+    def test_json(self) -> None:
+        place = {"path": "pkg/tools.py", "line": 2, "column": 9, "text": "def size(self):"}
+        self.assertEqual(self.json("define", "main.py:3:3"), {"limit": False, "places": [place]})
+        self.assertEqual(len(self.json("uses", "main.py")["uses"]), 6)
+        self.assertIn("error", self.json("define", "main.py:99:1"))
+
+    def test_questions_that_can_not_be_asked(self) -> None:
+        for words, part in (
+            (("define", "main.py"), "isn't PATH:LINE:COLUMN"),
+            (("define", "none.py:1:1"), "there is no Python file none.py"),
+            (("define", "main.py:9:1"), "has 5 lines"),
+            (("define", "main.py:1:99"), "has 20 characters"),
+            (("define", "main.py:0:0"), "has 5 lines"),
+            (("define",), "needs a place"),
+            (("references", "broken.py:1:5"), "broken.py is left out: invalid syntax"),
+            (("uses", "broken.py"), "broken.py is left out: invalid syntax"),
+            (("uses", "main.py", "--navd", "/no/such"), "there is no program"),
+            (("ponder", "main.py"), "invalid choice"),
+        ):
+            with self.subTest(words=words):
+                status, lines, errors = self.ask(*words)
+                self.assertEqual((status, lines), (2, []))
+                self.assertIn(part, errors)
+
+    def test_a_folder_that_is_none(self) -> None:
+        self.folder = os.path.join(self.folder, "none")
+        self.assertEqual(self.ask("check")[0], 2)
+
+    def test_as_a_program(self) -> None:
+        words = [sys.executable, "-m", "navd_py", "ask", self.folder, "define", "main.py:3:3", "--no-cache"]
+        top = os.path.join(os.path.dirname(os.path.abspath(__file__)), "..")
+        done = subprocess.run(words, cwd=top, capture_output=True, text=True, check=False)
+        self.assertEqual((done.returncode, done.stdout), (0, "pkg/tools.py:2:9: def size(self):\n"))
+        done = subprocess.run([sys.executable, "-m", "navd_py", "nothing"], cwd=top, capture_output=True, text=True, check=False)
+        self.assertEqual((done.returncode, done.stdout), (2, ""))
+
+
+class Progressing(unittest.TestCase):
+    def test_nothing_is_told_at_first(self) -> None:
+        stream = io.StringIO()
+        progress = Progress("done", stream)
+        progress(1, 2)
+        self.assertEqual(stream.getvalue(), "")
+        progress.started -= 2
+        progress(2, 2)
+        progress(2, 2)
+        self.assertEqual(stream.getvalue(), "done: 2 of 2\n")
+
+
+if __name__ == "__main__":
+    unittest.main()
