@@ -448,7 +448,7 @@ CONSTRUCTS = [
     ("del", "del x"),
     ("global", "def f():\n    global x"),
     ("nonlocal", "def f():\n    nonlocal x"),
-    ("match", "match x:"),
+    *([("match", "match x:")] if sys.version_info >= (3, 10) else []),
     ("import that begins with a dot", "from .a import b"),
     ("two statements on a line", "x = 1; y = 2"),
     ("backslash at the end of a line", "x = 1 + \\"),
