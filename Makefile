@@ -21,17 +21,20 @@ INSTALLED = $(PREFIX)/bin/navd $(SHARE)/man/man1/navd.1 $(SHARE)/man/man5/navd-p
 
 ARCHIVE = navd-$(VERSION)-$(shell uname -s -m | tr 'A-Z ' 'a-z-')
 
-.PHONY: example build test statuses users install uninstall dist
+.PHONY: kit example build test statuses users install uninstall dist
+
+kit:
+	@command -v rt > /dev/null || { echo "the kit's command rt isn't on the PATH; README.md says what it is, under Get it"; exit 1; }
 
 # Compiles the program without its proofs and answers the stored session.
-example:
+example: kit
 	cd crates/navd && rt try -- run < stdin
 
 # Proves all that the program stands on, builds it as crates/navd/out/navd, and answers the stored session.
-build:
+build: kit
 	cd crates/navd && rt run -- run < stdin
 
-test:
+test: kit
 	rt ci
 
 # Runs the program that `build` leaves with words, inputs, outputs and memory that bring about each of its statuses, and
