@@ -21,10 +21,13 @@ INSTALLED = $(PREFIX)/bin/navd $(SHARE)/man/man1/navd.1 $(SHARE)/man/man5/navd-p
 
 ARCHIVE = navd-$(VERSION)-$(shell uname -s -m | tr 'A-Z ' 'a-z-')
 
-.PHONY: example build test statuses users install uninstall dist
+.PHONY: kit example build test statuses users install uninstall dist
+
+kit:
+	@command -v rt > /dev/null || { echo "the kit's command rt isn't on the PATH; README.md says what it is, under Get it"; exit 1; }
 
 # Compiles the program without its proofs and answers the stored session.
-example:
+example: kit
 	cd crates/navd && rt try -- run < stdin
 
 # How many crates `build` proves side by side. Each takes a processor and 1 to a few gigabytes of memory.
@@ -34,11 +37,11 @@ JOBS ?= $(shell nproc)
 # session. From nothing it proves what the gate proves, but for crates of tests and of measurements, and neither tests nor
 # wrong bodies; what an earlier call proved and nothing has changed is kept. Each crate waits for those below it, so it takes
 # no less than the longest chain of them.
-build:
+build: kit
 	cd crates/navd && rt all check --jobs $(JOBS)
 	cd crates/navd && rt run -- run < stdin
 
-test:
+test: kit
 	rt ci
 
 # Runs the program that `build` leaves with words, inputs, outputs and memory that bring about each of its statuses, and

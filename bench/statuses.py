@@ -1,5 +1,5 @@
 #!/usr/bin/env python3
-"""Runs the built `navd` under outsides that bring about each of its statuses, and prints one table.
+"""Runs the built `navd` with words, inputs, outputs and memory that bring about each of its statuses; prints one table.
 
 usage: bench/statuses.py [PROGRAM ..]     (crates/navd/out/navd, as `make build` leaves it)
 

@@ -158,23 +158,29 @@ def sessions_in(path, first='{"do":'):
     return found
 
 
+def groups_of(sessions, path):
+    """The sessions of a document in groups: one that doesn't begin at version 0 goes on beside those before it."""
+    groups = []
+    for session in sessions:
+        if session[0][1] == '{"version":0}':
+            groups.append([])
+        wanted(groups, f"the first session in {path} doesn't begin at version 0")
+        groups[-1].append(session)
+    return groups
+
+
 def printed_sessions():
-    """Each printed session answers as printed; one that doesn't begin at version 0 goes on beside the one before it."""
+    """Each printed session answers as printed."""
     answered = 0
     for path in documents():
-        server, clients = None, []
-        for session in sessions_in(path):
-            if session[0][1] == '{"version":0}':
-                if server is not None:
-                    server.__exit__()
-                server, clients = Server(8, 4), []
-            wanted(server is not None, f"the first session in {path} doesn't begin at version 0")
-            clients.append(server.client())
-            for request, reply in session:
-                clients[-1].asks(request, reply)
-            answered += 1
-        if server is not None:
-            server.__exit__()
+        for group in groups_of(sessions_in(path), path):
+            with Server(8, 4) as server:
+                clients = []
+                for session in group:
+                    clients.append(server.client())
+                    for request, reply in session:
+                        clients[-1].asks(request, reply)
+            answered += len(group)
     wanted(answered > 0, "no session was found")
     return f"{answered} sessions"
 
@@ -448,7 +454,7 @@ CONSTRUCTS = [
     ("del", "del x"),
     ("global", "def f():\n    global x"),
     ("nonlocal", "def f():\n    nonlocal x"),
-    ("match", "match x:"),
+    *([("match", "match x:")] if sys.version_info >= (3, 10) else []),
     ("import that begins with a dot", "from .a import b"),
     ("two statements on a line", "x = 1; y = 2"),
     ("backslash at the end of a line", "x = 1 + \\"),
@@ -678,16 +684,24 @@ REMOVE = b'{"do":"commit","edits":[{"remove":"main.py"}]}\n'
 
 
 def sent(server, *pieces):
-    """What a connection that sends these pieces, a moment apart, is told up to its end."""
-    client = server.client()
+    """What a connection that sends these pieces, a moment apart, is told up to its end, however the server ends it."""
+    one, told = server.client().socket, b""
     try:
         for piece in pieces:
-            client.socket.sendall(piece)
+            one.sendall(piece)
             time.sleep(0.05)
-        client.socket.shutdown(socket.SHUT_WR)
-        return client.replies.read()
-    except (ConnectionResetError, BrokenPipeError):
-        return b""
+        one.shutdown(socket.SHUT_WR)
+    except OSError:
+        # It is closed already.
+        pass
+    try:
+        while piece := one.recv(65_536):
+            told += piece
+    except OSError:
+        # It was closed with bytes unread.
+        pass
+    one.close()
+    return told
 
 
 def http_guard():

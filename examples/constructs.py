@@ -54,7 +54,7 @@ def construct_at(text: str, line: int) -> Optional[str]:
     try:
         tree = ast.parse(text)
     except SyntaxError as error:
-        return f"Python doesn't read it either: {error.msg}" if error.lineno == line + 1 else None
+        return f"this Python doesn't read it either: {error.msg}" if error.lineno == line + 1 else None
     except (ValueError, RecursionError, MemoryError):
         return None
     return first_on(line, tree_forms(tree))
@@ -125,7 +125,9 @@ def tree_forms(tree: ast.AST) -> Iterator[Found]:
         elif isinstance(node, ast.expr):
             yield from expression_forms(node)
         elif isinstance(node, ast.keyword):
-            yield node.lineno - 1, node.col_offset, "keyword argument" if node.arg else "argument with two stars"
+            # Before Python 3.9 an argument by name has no place of its own.
+            place = node if hasattr(node, "lineno") else node.value
+            yield place.lineno - 1, place.col_offset, "keyword argument" if node.arg else "argument with two stars"
         elif isinstance(node, ast.arguments):
             yield from parameter_forms(node)
 
