@@ -2,6 +2,7 @@
 
 from __future__ import annotations
 
+import os
 import sys
 import unittest
 
@@ -228,6 +229,17 @@ class Modules(Marked):
 
     def test_stated_roots(self) -> None:
         self.ask({"lib/pkg/__init__.py": "<x|x> = 1\n", "t.py": "from pkg import <?x|x>\n"}, roots=["lib"])
+
+    def test_a_folder_that_is_a_package(self) -> None:
+        name = os.path.basename(self.folder)
+        self.ask(
+            {
+                "__init__.py": "from .a import <?x|x>\n",
+                "a.py": "<x|x> = 1\n",
+                "b/__init__.py": "",
+                "b/c.py": f"import {name}.a\nfrom {name} import <?x|x>\nfrom ..a import <?x|x>\n{name}.a.<?x|x>\n",
+            }
+        )
 
     def test_scripts_beside_each_other(self) -> None:
         self.ask({"tools/a.py": "<x|x> = 1\n", "tools/b.py": "from a import <?x|x>\n"})

@@ -16,28 +16,32 @@ Question = Tuple[str, str]
 STAR_DEPTH = 16
 
 
-def module_name(path: str, roots: Sequence[str]) -> Tuple[str, bool]:
+def module_name(path: str, roots: Sequence[str], package: str = "") -> Tuple[str, bool]:
     """The dotted name of the module at `path`, and whether it is a package's own.
 
-    `roots` are folders with slashes, the empty one being the project's; the longest that has the path counts."""
+    `roots` are folders with slashes; the longest that has the path counts, else the project's folder, which may be a
+    package itself: `package` is its dotted name, or empty."""
     best = ""
     for root in roots:
-        if root and len(root) > len(best) and path.startswith(root + "/"):
+        if len(root) > len(best) and path.startswith(root + "/"):
             best = root
     inner = path[len(best) + 1 :] if best else path
-    stem = inner.rsplit(".", 1)[0]
-    parts = stem.split("/")
-    package = parts[-1] == "__init__"
-    if package and len(parts) > 1:
-        parts.pop()
-    return ".".join(parts), package and stem != "__init__"
+    parts = inner.rsplit(".", 1)[0].split("/")
+    if package and not best:
+        parts = package.split(".") + parts
+    if parts[-1] == "__init__" and len(parts) > 1:
+        return ".".join(parts[:-1]), True
+    return ".".join(parts), False
 
 
 class Modules:
     """The modules of a project by name. `text_of` gives the text of the file at a path."""
 
-    def __init__(self, paths: Iterable[str], roots: Sequence[str], text_of: Callable[[str], Optional[str]]) -> None:
+    def __init__(
+        self, paths: Iterable[str], roots: Sequence[str], text_of: Callable[[str], Optional[str]], package: str = ""
+    ) -> None:
         self.roots = tuple(roots)
+        self.package = package
         self.text_of = text_of
         self.paths: Dict[str, str] = {}
         self._stars: Dict[str, Tuple[str, ...]] = {}
@@ -47,7 +51,7 @@ class Modules:
             self.add(path)
 
     def name(self, path: str) -> Tuple[str, bool]:
-        return module_name(path, self.roots)
+        return module_name(path, self.roots, self.package)
 
     def add(self, path: str) -> None:
         """Takes in a file; of two with one name the package counts, then the first by its path."""
