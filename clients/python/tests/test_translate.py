@@ -224,6 +224,9 @@ class Modules(Marked):
             }
         )
 
+    def test_star_imports_in_a_round(self) -> None:
+        self.ask({"a.py": "<x|x> = 1\nfrom b import *\n<?x|x>\n", "b.py": "from a import <?x|x>\n", "c.py": "from a import <?x|x>\n"})
+
     def test_roots(self) -> None:
         self.ask({"src/pkg/__init__.py": "<x|x> = 1\n", "tests/t.py": "from pkg import <?x|x>\n"})
 

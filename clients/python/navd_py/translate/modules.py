@@ -97,8 +97,9 @@ class Modules:
             return "yes" if self.has(name) else ""
         if kind == "is":
             return "yes" if name in self.paths else ""
-        if kind == "public":
-            return ",".join(self.public(name))
+        if kind == "star":
+            module, _, asker = name.partition("\n")
+            return ",".join(self.taken_by_star(module, asker))
         raise ValueError(f"no such question: {kind}")
 
     def public(self, name: str) -> Tuple[str, ...]:
@@ -107,6 +108,13 @@ class Modules:
         if known is None:
             known = self._stars[name] = tuple(sorted(self._public(name, 0, set())))
         return known
+
+    def taken_by_star(self, name: str, asker: str) -> Tuple[str, ...]:
+        """The names that `from NAME import *` binds in the module `asker`, without those that NAME has from there."""
+        names = self.public(name)
+        summary = self._summaries.get(name)
+        aliases = summary.aliases if summary is not None else {}
+        return tuple(word for word in names if aliases.get(word) != f"{asker}.{word}")
 
     def _public(self, name: str, depth: int, above: Set[str]) -> FrozenSet[str]:
         if depth > STAR_DEPTH or name in above:
@@ -171,8 +179,10 @@ class Asking:
         return bool(answer)
 
     def public(self, name: str) -> Tuple[str, ...]:
-        self.asked[("public", name)] = self.modules.answer(("public", name))
-        return self.modules.public(name)
+        """The names that a star import of that module binds here."""
+        names = self.modules.taken_by_star(name, self.name)
+        self.asked[("star", f"{name}\n{self.name}")] = ",".join(names)
+        return names
 
     def meant(self, level: int, dotted: str) -> Optional[str]:
         """The module that `from ..dotted` or `import dotted` means here, or None where the project has none."""
