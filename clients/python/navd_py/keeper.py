@@ -7,9 +7,9 @@ session where one has ended.
 from __future__ import annotations
 
 import time
-import zlib
 from typing import Callable, Dict, Iterable, Iterator, List, Optional, Sequence, Set, TypeVar
 
+from .packed import PackedTexts
 from .session import Reply, Request, Session, SessionEnded
 
 # So many bytes of graphs, as they stand escaped on a line, go into one commit.
@@ -79,7 +79,7 @@ class Keeper:
         self._say = say
         self._session: Optional[Session] = None
         self._user = OPERATOR
-        self._wanted: Dict[str, bytes] = {}  # packed
+        self._wanted = PackedTexts()
         self._there: Set[str] = set()
         self._changed: Dict[str, None] = {}  # in the order of the changes
         self._preferred: Set[str] = set()
@@ -90,13 +90,14 @@ class Keeper:
     def put(self, path: str, source: Optional[bytes]) -> None:
         """The file's graph is this one from now on, or it has none. Nothing is committed before `commit`."""
         fault = None if source is None else _fault_of(path, source)
-        packed = None if source is None or fault is not None else zlib.compress(source, 1)
-        if packed == self._wanted.get(path) and path not in self._changed and (fault is None or path in self.refused):
+        wanted = None if fault is not None else source
+        is_known = path not in self._changed and (fault is None or path in self.refused)
+        if is_known and wanted == self._wanted.get(path):
             return
-        if packed is None:
-            self._wanted.pop(path, None)
+        if wanted is None:
+            self._wanted.discard(path)
         else:
-            self._wanted[path] = packed
+            self._wanted.set(path, wanted)
         self.refused.pop(path, None)
         if fault is not None:
             self.refused[path] = fault
@@ -118,7 +119,7 @@ class Keeper:
     @property
     def paths(self) -> Iterable[str]:
         """The paths of the graphs that navd is to have."""
-        return self._wanted.keys()
+        return self._wanted.paths
 
     def is_up_to_date(self) -> bool:
         """Whether all is committed."""
@@ -188,13 +189,13 @@ class Keeper:
         if not self._is_shared:
             self._there = set()
         else:
-            paths = sorted(self._there.union(self._wanted, self._changed))
+            paths = sorted(self._there.union(self._wanted.paths, self._changed))
             replies = self._session.pipeline(_probes(paths))
             there = {path for path, reply in zip(paths, replies) if reply.get("error") != "no_file"}
             if self.version == before and there == self._there:
                 return  # nobody has committed anything meanwhile
             self._there = there
-        for path in self._there.union(self._wanted):
+        for path in self._there.union(self._wanted.paths):
             self._changed.setdefault(path)
             self.refused.pop(path, None)  # another session may take it
 
@@ -246,7 +247,7 @@ class Keeper:
         batch: List[Request] = []
         size = 0
         for path in [path for path in self._changed if path in self._wanted]:
-            source = zlib.decompress(self._wanted[path])
+            source = self._wanted.get(path) or b""
             escaped = len(source) + source.count(b'"') + source.count(b"\\") + 2 * len(path) + 64
             if batch and size + escaped > BATCH:
                 yield batch

@@ -93,7 +93,8 @@ class Project:
         self.cache: Optional[Cache] = Cache() if cache else None
         self._set: Dict[str, Optional[str]] = {}
         self._known: Dict[str, Tuple[str, Entry, Translated]] = {}
-        self.modules = Modules((), self.roots, self.text)
+        self.package = package_of(self.folder)
+        self.modules = Modules((), self.roots, self.text, self.package)
         self._paths: Dict[str, None] = {}
 
     def _is_layout(self, name: str) -> bool:
@@ -109,7 +110,7 @@ class Project:
                 found[path] = None
         if found.keys() != self._paths.keys():
             self._paths = found
-            self.modules = Modules(sorted(found), self.roots, self.text)
+            self.modules = Modules(sorted(found), self.roots, self.text, self.package)
         return sorted(found)
 
     def set_text(self, path: str, text: Optional[str]) -> List[str]:
@@ -174,7 +175,7 @@ class Project:
         self.roots = tuple(roots)
         self._set = dict(texts)
         self._paths = {path: None for path in paths}
-        self.modules = Modules(sorted(paths), self.roots, self.text)
+        self.modules = Modules(sorted(paths), self.roots, self.text, self.package)
 
     def entry(self, path: str) -> Tuple[str, str, Optional[Entry], Fields]:
         """The path, the cache's key and the entry of a file that was not translated before, or in place of the entry
@@ -275,6 +276,17 @@ class Project:
             return context.Pool(count, begin_worker, given)
         except (OSError, ValueError, AssertionError):
             return None
+
+
+def package_of(folder: str) -> str:
+    """The dotted name of the package that a folder is, with the packages around it; empty where it is none."""
+    parts: List[str] = []
+    while os.path.isfile(os.path.join(folder, "__init__.py")):
+        folder, name = os.path.split(folder)
+        if not name:
+            break
+        parts.insert(0, name)
+    return ".".join(parts)
 
 
 def processors() -> int:

@@ -8,13 +8,13 @@ from __future__ import annotations
 
 import json
 import re
-import zlib
-from bisect import bisect_left, bisect_right
+from bisect import bisect_left
 from collections import Counter
 from dataclasses import dataclass, replace
 from difflib import SequenceMatcher
 from typing import Any, Dict, Iterable, Iterator, List, Optional, Sequence, Tuple
 
+from .packed import PackedTexts
 from .project import Definition, Fault, Span, Translated
 
 # So many lines, from this line of the old text and from this one of the new, are the same.
@@ -33,7 +33,7 @@ def lines_of(text: str) -> List[str]:
 
     A line ends as Python and editors have it, with a newline, a carriage return or both.
     """
-    return _LINE_ENDS.split(text)
+    return _LINE_ENDS.split(text) if "\r" in text else text.split("\n")
 
 
 def same_lines(old: Sequence[str], new: Sequence[str]) -> List[Block]:
@@ -146,7 +146,10 @@ class LineMap:
 
     def __init__(self, blocks: Iterable[Block]) -> None:
         self.blocks = list(blocks)
-        self._starts = [block[0] for block in self.blocks]
+        self._places: List[Optional[int]] = []  # of each old line the new one
+        for start, new_start, size in self.blocks:
+            self._places.extend([None] * (start - len(self._places)))
+            self._places.extend(range(new_start, new_start + size))
 
     @classmethod
     def between(cls, old: str, new: str) -> "LineMap":
@@ -155,41 +158,41 @@ class LineMap:
 
     def line(self, line: int) -> Optional[int]:
         """The line of the new text that was this one of the old, or None where it was changed or taken out."""
-        place = bisect_right(self._starts, line) - 1
-        if place < 0:
-            return None
-        start, new_start, size = self.blocks[place]
-        return new_start + line - start if line < start + size else None
+        return self._places[line] if line < len(self._places) else None
 
     def span(self, span: Sequence[int]) -> Optional[Span]:
         """The span in the new text, or None where one of its lines is no longer there as it was."""
-        start, end = self.line(span[0]), self.line(span[2])
-        if start is None or end is None or end - start != span[2] - span[0]:
+        first, column, last, end = span
+        start = self.line(first)
+        if start is None:
             return None
-        if any(self.line(line) != start + line - span[0] for line in range(span[0], span[2])):
+        if first != last and any(self.line(line) != start + line - first for line in range(first, last + 1)):
             return None
-        return start, span[1], end, span[3]
+        return start, column, start + last - first, end
 
 
 def moved_graph(source: bytes, lines: LineMap) -> bytes:
     """The graph file with its spans moved. A node whose place is gone has no span, and neither asks nor answers."""
-    graph: Dict[str, Any] = json.loads(source)
-    for node in graph["nodes"]:
-        if "span" not in node:
-            continue
-        span = lines.span(node["span"])
-        if span is not None:
-            node["span"] = span
-        else:
-            for member in ("span", "reference", "definition"):
-                node.pop(member, None)
-    return json.dumps(graph, ensure_ascii=False, separators=(",", ":")).encode("utf-8")
+    return _moved(json.loads(source), lines)
+
+
+def _moved(graph: Dict[str, Any], lines: LineMap) -> bytes:
+    """The bytes of a graph with its spans moved; the graph itself stays as it is."""
+    nodes = [_moved_node(node, lines) if "span" in node else node for node in graph["nodes"]]
+    return json.dumps({**graph, "nodes": nodes}, ensure_ascii=False, separators=(",", ":")).encode("utf-8")
+
+
+def _moved_node(node: Dict[str, Any], lines: LineMap) -> Dict[str, Any]:
+    span = lines.span(node["span"])
+    if span is not None:
+        return {**node, "span": span}
+    return {member: value for member, value in node.items() if member not in ("span", "reference", "definition")}
 
 
 def moved_definitions(definitions: Iterable[Definition], lines: LineMap) -> Tuple[Definition, ...]:
     """The definitions whose places are still there, moved."""
-    moved = ((definition, lines.span(definition.span)) for definition in definitions)
-    return tuple(replace(definition, span=span) for definition, span in moved if span is not None)
+    moved = ((one, lines.span(one.span)) for one in definitions)
+    return tuple(Definition(one.name, one.kind, span, one.container) for one, span in moved if span is not None)
 
 
 @dataclass(frozen=True)
@@ -210,21 +213,14 @@ class Current:
         return self.source is not None and self.fault is not None
 
 
-@dataclass(frozen=True)
-class _Last:
-    """The last text of a file that had a graph, and the graph; both packed, since most are never needed."""
-
-    text: bytes
-    source: bytes
-    definitions: Tuple[Definition, ...]
-
-
 class LastGraphs:
     """The last graph of each file, for texts that have none."""
 
     def __init__(self) -> None:
-        self._last: Dict[str, _Last] = {}
-        self._moved: Dict[str, Tuple[List[Block], Current]] = {}
+        self._texts = PackedTexts()
+        self._sources = PackedTexts()
+        self._definitions: Dict[str, Tuple[Definition, ...]] = {}
+        self._moved: Dict[str, _Moved] = {}
 
     def current(self, translated: Translated, text: Optional[str]) -> Current:
         """What the file answers with, now that its text is this one and was translated so; None: there is no text."""
@@ -232,32 +228,52 @@ class LastGraphs:
         if translated.source is not None:
             self._keep(translated, text)
             return Current(path, translated.source, None, translated.definitions)
-        last = self._last.get(path)
-        if last is None or text is None:
+        old, source = self._texts.get(path), self._sources.get(path)
+        if old is None or source is None or text is None:
             self.forget(path)
             return Current(path, None, translated.fault, translated.definitions)
-        return self._moved_to(path, last, text, translated.fault)
+        if path not in self._moved:
+            self._moved[path] = _Moved(path, _text_of(old), json.loads(source), self._definitions[path])
+        return self._moved[path].to(text, translated.fault)
 
     def forget(self, path: str) -> None:
         """Forgets the last graph of the file."""
-        self._last.pop(path, None)
+        self._texts.discard(path)
+        self._sources.discard(path)
+        self._definitions.pop(path, None)
         self._moved.pop(path, None)
 
     def _keep(self, translated: Translated, text: Optional[str]) -> None:
-        self._moved.pop(translated.path, None)
+        path = translated.path
         if text is None or translated.source is None:
-            self._last.pop(translated.path, None)
+            self.forget(path)
             return
-        packed = zlib.compress(text.encode("utf-8", "surrogatepass"), 1)
-        self._last[translated.path] = _Last(packed, zlib.compress(translated.source, 1), translated.definitions)
+        self._moved.pop(path, None)
+        self._texts.set(path, text.encode("utf-8", "surrogatepass"))
+        self._sources.set(path, translated.source)
+        self._definitions[path] = translated.definitions
 
-    def _moved_to(self, path: str, last: _Last, text: str, fault: Optional[Fault]) -> Current:
-        old = zlib.decompress(last.text).decode("utf-8", "surrogatepass")
-        lines = LineMap.between(old, text)
-        blocks, moved = self._moved.get(path, (None, None))
-        if moved is None or blocks != lines.blocks:
-            source = moved_graph(zlib.decompress(last.source), lines)
-            moved = Current(path, source, fault, moved_definitions(last.definitions, lines))
-        moved = replace(moved, fault=fault)
-        self._moved[path] = (lines.blocks, moved)
+
+def _text_of(data: bytes) -> str:
+    return data.decode("utf-8", "surrogatepass")
+
+
+class _Moved:
+    """The last graph of a file whose text doesn't parse, read, and where it was moved last."""
+
+    def __init__(self, path: str, text: str, graph: Dict[str, Any], definitions: Tuple[Definition, ...]) -> None:
+        self._path = path
+        self._lines = lines_of(text)
+        self._graph = graph
+        self._definitions = definitions
+        self._last: Optional[Tuple[List[Block], Current]] = None
+
+    def to(self, text: str, fault: Optional[Fault]) -> Current:
+        """What the file answers with now that its text is this one."""
+        lines = LineMap(same_lines(self._lines, lines_of(text)))
+        if self._last is not None and self._last[0] == lines.blocks:
+            moved = replace(self._last[1], fault=fault)
+        else:
+            moved = Current(self._path, _moved(self._graph, lines), fault, moved_definitions(self._definitions, lines))
+        self._last = (lines.blocks, moved)
         return moved

@@ -654,6 +654,14 @@ class Box:
 
 
 class Process(ServerTest):
+    def test_it_is_told_to_end(self) -> None:
+        server = ServerProcess(["--navd", "/nowhere/navd"])
+        editor = Editor(server)
+        editor.initialize([])
+        server.process.terminate()
+        self.assertEqual(server.wait(), 1)
+        self.assertEqual(server.errors, b"")
+
     def test_as_an_editor_starts_it(self) -> None:
         editor = Editor(ServerProcess(["--navd", "/nowhere/navd", "--stdio"]))
         editor.initialize([])

@@ -6,6 +6,7 @@ import os
 import shutil
 import socket
 import subprocess
+import sys
 import tempfile
 import time
 import unittest
@@ -242,6 +243,49 @@ class Mirrors(InFolder):
         self.start_server()
         mirror.follow()
         self.assertEqual(self.rows("main.py.sg.json", 1), [("main.py.sg.json", 0)])
+
+
+@unittest.skipUnless(NAVD, "there is no navd: the environment variable NAVD names one")
+class Translator(InFolder):
+    """With the translator itself, as a user starts it."""
+
+    def test_a_project(self) -> None:
+        self.write("pkg/__init__.py", "")
+        self.write("pkg/tools.py", "class Box:\n    def size(self):\n        return 1\n")
+        self.write("main.py", "from pkg.tools import Box as B\nb = B()\nb.size()\n")
+        port = free_port()
+        words = [self.folder, "--port", str(port), "--start", "--navd", str(NAVD), "--no-cache", "--every", "0.1"]
+        clients = os.path.dirname(os.path.dirname(os.path.abspath(serve.__file__)))
+        keeper = subprocess.Popen(
+            [sys.executable, "-m", "navd_py", "serve", *words],
+            env={**os.environ, "PYTHONPATH": clients},
+            stderr=subprocess.PIPE,
+        )
+        self.addCleanup(keeper.wait)
+        self.addCleanup(keeper.kill)
+        assert keeper.stderr
+        self.addCleanup(keeper.stderr.close)
+
+        def read_up_to(part: str) -> None:
+            for line in keeper.stderr or ():
+                if part in line.decode():
+                    return
+            self.fail(f"it never says {part!r}")
+
+        question = {"do": "define", "path": "main.py.sg.json", "line": 2, "column": 2}
+        read_up_to("3 graphs committed, version 1")
+        with Session.connect(port) as session:
+            session.request({"do": "hello", "user": "operator"})
+            found = session.request(question)["rows"]
+            self.assertEqual([(row["path"], row["span"]) for row in found], [("pkg/tools.py.sg.json", [1, 8, 1, 12])])
+            self.write("pkg/tools.py", "# more\nclass Box:\n    def size(self):\n        return 1\n")
+            read_up_to("version 2")
+            session.request({"do": "pin"})
+            self.assertEqual(session.request(question)["rows"][0]["span"], [2, 8, 2, 12])
+        keeper.terminate()
+        self.assertEqual(keeper.wait(20), 0)
+        with self.assertRaises(NoConnection):
+            Session.connect(port)
 
 
 @unittest.skipUnless(NAVD, "there is no navd: the environment variable NAVD names one")

@@ -5,6 +5,7 @@ import random
 import unittest
 from typing import List, Optional
 
+from navd_py.packed import PackedTexts
 from navd_py.project import Definition, Fault, Translated
 from navd_py.stale import LastGraphs, LineMap, lines_of, moved_graph, same_lines
 
@@ -156,6 +157,23 @@ class Last(unittest.TestCase):
         self.good("a\n'\ud800'\nc")
         current = self.last.current(Translated("m.py", None, self.fault, ()), "n\na\n'\ud800'\nc")
         self.assertTrue(current.is_stale)
+
+
+class Packed(unittest.TestCase):
+    def test_texts(self) -> None:
+        texts = PackedTexts()
+        for number in range(10):
+            texts.set(f"{number}", b"text %d" % number)
+        self.assertEqual(len(texts), 10)
+        self.assertEqual([texts.get(f"{number}") for number in range(10)], [b"text %d" % n for n in range(10)])
+        texts.set("0", b"other")
+        texts.set("9", b"other")
+        texts.discard("1")
+        texts.discard("8")
+        texts.discard("none")
+        self.assertEqual([texts.get(path) for path in "0918"], [b"other", b"other", None, None])
+        self.assertEqual(sorted(texts.paths), ["0", "2", "3", "4", "5", "6", "7", "9"])
+        self.assertTrue("2" in texts and "1" not in texts)
 
 
 if __name__ == "__main__":

@@ -2,6 +2,7 @@
 
 from __future__ import annotations
 
+import os
 import sys
 import unittest
 
@@ -223,11 +224,25 @@ class Modules(Marked):
             }
         )
 
+    def test_star_imports_in_a_round(self) -> None:
+        self.ask({"a.py": "<x|x> = 1\nfrom b import *\n<?x|x>\n", "b.py": "from a import <?x|x>\n", "c.py": "from a import <?x|x>\n"})
+
     def test_roots(self) -> None:
         self.ask({"src/pkg/__init__.py": "<x|x> = 1\n", "tests/t.py": "from pkg import <?x|x>\n"})
 
     def test_stated_roots(self) -> None:
         self.ask({"lib/pkg/__init__.py": "<x|x> = 1\n", "t.py": "from pkg import <?x|x>\n"}, roots=["lib"])
+
+    def test_a_folder_that_is_a_package(self) -> None:
+        name = os.path.basename(self.folder)
+        self.ask(
+            {
+                "__init__.py": "from .a import <?x|x>\n",
+                "a.py": "<x|x> = 1\n",
+                "b/__init__.py": "",
+                "b/c.py": f"import {name}.a\nfrom {name} import <?x|x>\nfrom ..a import <?x|x>\n{name}.a.<?x|x>\n",
+            }
+        )
 
     def test_scripts_beside_each_other(self) -> None:
         self.ask({"tools/a.py": "<x|x> = 1\n", "tools/b.py": "from a import <?x|x>\n"})

@@ -41,7 +41,7 @@ class Input(Marked):
 
     def test_texts_that_have_a_fault(self) -> None:
         for data, part in (
-            (b"x = (\n", "0:4 "),
+            (b"x = (\n", "0:"),
             (b"x = 1\n  y = 2\n", "1:"),
             (b"x = '\xe9'\n", "0:5 not utf-8"),
             (b"x = 1\ny = '\xff\xfe'\n", "1:5 not utf-8"),

@@ -1,13 +1,14 @@
 #!/usr/bin/env python3
 """Compares what navd answers over the graphs of this package with jedi's answers, for names drawn by a seed.
 
-    python3 tools/measure.py FOLDER [--names N] [--seed S] [--only PREFIX] [--show K] [--all] [--navd PROGRAM]
+    python3 tools/measure.py FOLDER [--names N] [--seed S] [--only PREFIX] [--show K] [--all] [--references N] [--navd PROGRAM]
 
 FOLDER is a folder of packages, such as a copy of some of `site-packages`. A name is asked of jedi by `goto`, following
 imports; it counts where jedi gives exactly one place and this lies inside the folder. `exact` are those for which navd
 has exactly that row, `contains` those where it has it among others, `wrong` those with other rows alone.
 
-With --all every reference of the folder is asked of navd besides, and how many are crowded or limited is told.
+With --references who refers to so many definitions is compared likewise, place by place; columns of jedi are taken as
+they are, so a line with text past ASCII may differ. With --all every reference of the folder is asked of navd besides, and how many are crowded or limited is told.
 jedi has to be installed; it is no part of this package.
 """
 
@@ -26,7 +27,7 @@ from typing import Counter, Dict, Iterator, List, NamedTuple, Optional, Set, Tup
 sys.path.insert(0, os.path.join(os.path.dirname(os.path.abspath(__file__)), ".."))
 
 from navd_py.keeper import Keeper  # noqa: E402
-from navd_py.project import Project, graph_path, source_path  # noqa: E402
+from navd_py.project import Definition, Project, graph_path, source_path  # noqa: E402
 from navd_py.session import Session  # noqa: E402
 
 Where = Tuple[str, int, int]
@@ -182,6 +183,57 @@ class Answers:
         )
 
 
+def drawn_definitions(answers: Answers, only: str, count: int, seed: int) -> List[Tuple[str, Definition]]:
+    """Definitions that other files may refer to, drawn by a seed."""
+    found = []
+    for path in answers.project.scan():
+        if path.startswith(only):
+            for definition in answers.project.translated(path).definitions:
+                if definition.kind in ("class", "function", "method", "attribute"):
+                    found.append((path, definition))
+    return random.Random(seed).sample(found, min(count, len(found)))
+
+
+def jedi_references(folder: str, path: str, line: int, character: int) -> Optional[Set[Where]]:
+    """The uses inside the folder that jedi gives of a definition, or None where it fails."""
+    import jedi
+
+    try:
+        script = jedi.Script(path=os.path.join(folder, path), project=jedi.Project(folder))
+        told = script.get_references(line + 1, character, include_builtins=False)
+    except Exception:
+        return None
+    places = set()
+    for one in told:
+        place = str(one.module_path) if one.module_path else ""
+        if place.startswith(folder + os.sep) and not one.is_definition():
+            places.add((os.path.relpath(place, folder).replace(os.sep, "/"), one.line - 1, one.column))
+    return places
+
+
+def compare_references(answers: Answers, folder: str, only: str, count: int, seed: int, show: int) -> None:
+    """Compares who refers to definitions, place by place."""
+    totals: Counter[str] = collections.Counter()
+    for path, definition in drawn_definitions(answers, only, count, seed):
+        line, column = definition.span[:2]
+        text = (answers.project.text(path) or "").split("\n")[line]
+        told = jedi_references(folder, path, line, len(text.encode()[:column].decode("utf-8", "replace")))
+        request = {"do": "references", "path": graph_path(path), "line": line, "column": column}
+        reply = answers.keeper.ask([request])[0]
+        if told is None or "rows" not in reply:
+            totals["jedi fails" if told is None else str(reply.get("error"))] += 1
+            continue
+        own = set(rows_of(reply))
+        totals["definitions"] += 1
+        totals["both"] += len(own & told)
+        totals["jedi alone"] += len(told - own)
+        totals["navd alone"] += len(own - told)
+        for who, places in (("jedi", told - own), ("navd", own - told)):
+            for place in sorted(places)[:show]:
+                print(f"{who} alone: {shown(place)} refers to {path}:{line + 1}:{column + 1} {definition.name}")
+    print(f"references: {dict(totals)}")
+
+
 def rows_of(reply: Dict[str, object]) -> List[Where]:
     rows = reply.get("rows")
     places: List[Where] = []
@@ -210,6 +262,7 @@ def main() -> None:
     parser.add_argument("--only", default="", help="of files whose paths begin so")
     parser.add_argument("--show", type=int, default=0, help="show so many of those that aren't exact")
     parser.add_argument("--all", action="store_true", help="ask every use of the folder of navd")
+    parser.add_argument("--references", type=int, default=0, help="ask who refers to so many definitions besides")
     parser.add_argument("--kept", help="a file that keeps what jedi gives, for a folder that doesn't change")
     parser.add_argument("--navd", help="the program; else the environment variable NAVD, else from PATH")
     given = parser.parse_args()
@@ -225,6 +278,8 @@ def main() -> None:
         ask_all(answers, names)
     chosen = sorted(random.Random(given.seed).sample(names, min(given.names, len(names))))
     compare(answers, folder, chosen, given.show, given.kept)
+    if given.references:
+        compare_references(answers, folder, given.only, given.references, given.seed, given.show)
     answers.keeper.close()
 
 
@@ -251,10 +306,11 @@ def kept_places(folder: str, names: List[Name], kept: Optional[str]) -> Dict[Nam
         with open(kept, encoding="utf-8") as file:
             known = json.load(file)
     missing = [name for name in names if str(tuple(name)) not in known]
-    for name, places in jedi_places(folder, missing).items():
-        known[str(tuple(name))] = places
-    with open(kept, "w", encoding="utf-8") as file:
-        json.dump(known, file)
+    for start in range(0, len(missing), 25):
+        for name, places in jedi_places(folder, missing[start : start + 25]).items():
+            known[str(tuple(name))] = places
+        with open(kept, "w", encoding="utf-8") as file:
+            json.dump(known, file)
     told: Dict[Name, Optional[List[Where]]] = {}
     for name in names:
         places = known[str(tuple(name))]

@@ -4,6 +4,7 @@ from __future__ import annotations
 
 import argparse
 import os
+import signal
 import sys
 from typing import Optional, Sequence
 
@@ -31,6 +32,7 @@ def main(arguments: Optional[Sequence[str]] = None) -> int:
         while view:
             view = view[os.write(sink, view) :]
 
+    signal.signal(signal.SIGTERM, lambda *_: sys.exit(1))  # what it started ends with it
     try:
         return Server(options, lambda size: os.read(source, size), write).serve()
     except KeyboardInterrupt:

@@ -35,6 +35,11 @@ def joined(first: Values, second: Values) -> Values:
     return tuple(dict.fromkeys(first + second))[:MOST_VALUES]
 
 
+def written_symbol(symbol: str) -> str:
+    """A symbol as JSON has it. Names and the symbols of structure stand as they are."""
+    return f'"{symbol}"' if symbol.isidentifier() else json.dumps(symbol, ensure_ascii=False)
+
+
 class Graph:
     """Nodes with their edges. A node's number is its place here; `written` numbers them anew."""
 
@@ -66,10 +71,10 @@ class Graph:
         return self.node('{"exported":true,"kind":"scope"}', sinks)
 
     def pop(self, symbol: str, sinks: Iterable[int] = ()) -> int:
-        return self.node('{"kind":"pop","symbol":%s}' % json.dumps(symbol, ensure_ascii=False), sinks)
+        return self.node('{"kind":"pop","symbol":%s}' % written_symbol(symbol), sinks)
 
     def push(self, symbol: str, sinks: Iterable[int] = ()) -> int:
-        return self.node('{"kind":"push","symbol":%s}' % json.dumps(symbol, ensure_ascii=False), sinks)
+        return self.node('{"kind":"push","symbol":%s}' % written_symbol(symbol), sinks)
 
     def pushed(self, symbol: str, values: Values) -> int:
         """The one node that pushes the symbol onto what these values are asked."""
@@ -99,7 +104,7 @@ class Graph:
     def module(self, symbol: str, sinks: Iterable[int]) -> int:
         """The definition of a module, at the beginning of its text."""
         number = self.node(
-            '{"definition":true,"kind":"pop","span":[0,0,0,0],"symbol":%s}' % json.dumps(symbol, ensure_ascii=False),
+            '{"definition":true,"kind":"pop","span":[0,0,0,0],"symbol":%s}' % written_symbol(symbol),
             sinks,
         )
         self.definitions[number] = (-1, 0)

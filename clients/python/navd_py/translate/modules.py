@@ -16,28 +16,32 @@ Question = Tuple[str, str]
 STAR_DEPTH = 16
 
 
-def module_name(path: str, roots: Sequence[str]) -> Tuple[str, bool]:
+def module_name(path: str, roots: Sequence[str], package: str = "") -> Tuple[str, bool]:
     """The dotted name of the module at `path`, and whether it is a package's own.
 
-    `roots` are folders with slashes, the empty one being the project's; the longest that has the path counts."""
+    `roots` are folders with slashes; the longest that has the path counts, else the project's folder, which may be a
+    package itself: `package` is its dotted name, or empty."""
     best = ""
     for root in roots:
-        if root and len(root) > len(best) and path.startswith(root + "/"):
+        if len(root) > len(best) and path.startswith(root + "/"):
             best = root
     inner = path[len(best) + 1 :] if best else path
-    stem = inner.rsplit(".", 1)[0]
-    parts = stem.split("/")
-    package = parts[-1] == "__init__"
-    if package and len(parts) > 1:
-        parts.pop()
-    return ".".join(parts), package and stem != "__init__"
+    parts = inner.rsplit(".", 1)[0].split("/")
+    if package and not best:
+        parts = package.split(".") + parts
+    if parts[-1] == "__init__" and len(parts) > 1:
+        return ".".join(parts[:-1]), True
+    return ".".join(parts), False
 
 
 class Modules:
     """The modules of a project by name. `text_of` gives the text of the file at a path."""
 
-    def __init__(self, paths: Iterable[str], roots: Sequence[str], text_of: Callable[[str], Optional[str]]) -> None:
+    def __init__(
+        self, paths: Iterable[str], roots: Sequence[str], text_of: Callable[[str], Optional[str]], package: str = ""
+    ) -> None:
         self.roots = tuple(roots)
+        self.package = package
         self.text_of = text_of
         self.paths: Dict[str, str] = {}
         self._stars: Dict[str, Tuple[str, ...]] = {}
@@ -47,7 +51,7 @@ class Modules:
             self.add(path)
 
     def name(self, path: str) -> Tuple[str, bool]:
-        return module_name(path, self.roots)
+        return module_name(path, self.roots, self.package)
 
     def add(self, path: str) -> None:
         """Takes in a file; of two with one name the package counts, then the first by its path."""
@@ -93,8 +97,9 @@ class Modules:
             return "yes" if self.has(name) else ""
         if kind == "is":
             return "yes" if name in self.paths else ""
-        if kind == "public":
-            return ",".join(self.public(name))
+        if kind == "star":
+            module, _, asker = name.partition("\n")
+            return ",".join(self.taken_by_star(module, asker))
         raise ValueError(f"no such question: {kind}")
 
     def public(self, name: str) -> Tuple[str, ...]:
@@ -103,6 +108,13 @@ class Modules:
         if known is None:
             known = self._stars[name] = tuple(sorted(self._public(name, 0, set())))
         return known
+
+    def taken_by_star(self, name: str, asker: str) -> Tuple[str, ...]:
+        """The names that `from NAME import *` binds in the module `asker`, without those that NAME has from there."""
+        names = self.public(name)
+        summary = self._summaries.get(name)
+        aliases = summary.aliases if summary is not None else {}
+        return tuple(word for word in names if aliases.get(word) != f"{asker}.{word}")
 
     def _public(self, name: str, depth: int, above: Set[str]) -> FrozenSet[str]:
         if depth > STAR_DEPTH or name in above:
@@ -167,8 +179,10 @@ class Asking:
         return bool(answer)
 
     def public(self, name: str) -> Tuple[str, ...]:
-        self.asked[("public", name)] = self.modules.answer(("public", name))
-        return self.modules.public(name)
+        """The names that a star import of that module binds here."""
+        names = self.modules.taken_by_star(name, self.name)
+        self.asked[("star", f"{name}\n{self.name}")] = ",".join(names)
+        return names
 
     def meant(self, level: int, dotted: str) -> Optional[str]:
         """The module that `from ..dotted` or `import dotted` means here, or None where the project has none."""

@@ -49,8 +49,9 @@ class Scopes(Imports):
     def go_on(self, frame: Frame) -> None:
         """Ends a module or a function: its names are settled, and what it put off is gone through."""
         names = self.names
-        for other in frame.exits:
-            names = meeting(other, names)
+        if frame.later:
+            for other in frame.exits:
+                names = meeting(other, names)
         frame.names = names
         self.settle(frame)
         position = 0
