@@ -5,7 +5,7 @@ ghost use Rattle.graph_nodes.specs.Graph.{has_place};
 
 use crate::tables::{Telling, others};
 use aux_graph_text::{TextFault, files_of};
-use graph_nodes::{FileGraph, GraphFault, Name, Place};
+use graph_nodes::{Edge, FileGraph, GraphFault, Name, Node, NodeKind, Place};
 use std::alloc::Global;
 use std::sync::Arc;
 use std::test::Fail;
@@ -56,13 +56,51 @@ fn the_first_fault_is_told(rt: HostRuntime) -> Result<(), Fail> {
     Ok(())
 }
 
-const LIMITS: &str = "scope *16384 | 0>0 *65536 => a graph
-scope *16385 | 0>0 *65537 => 16385 nodes are too many
-scope *16384 | 0>0 *65537 => 65537 edges are too many";
+/// Tells the first fault of so many scopes with so many edges from the first to itself.
+#[derive(Drop)]
+struct Loops;
+
+impl Telling for Loops {
+    fn told(&mut self, alloc: Global, line: &str) -> Result<String, Fail> {
+        let (nodes, edges) = line.split_once(' ').unwrap_or((line, ""));
+        match loops(alloc, nodes.parse()?, edges.parse()?)? {
+            Some(fault) => Ok(format!(in alloc; "{fault}")?),
+            None => Ok(String::from_str(alloc, "a graph")?),
+        }
+    }
+}
+
+fn loops(alloc: Global, nodes: usize, edges: usize) -> Result<Option<GraphFault>, Fail> {
+    let mut list = Vec::new(alloc);
+    for _ in 0..nodes {
+        list.push(Node {
+            kind: NodeKind::Scope { exported: false },
+            span: None,
+        })?;
+    }
+    let edge = Edge {
+        source: Place::At(0),
+        sink: Place::At(0),
+        precedence: 0,
+    };
+    let edges = vec![in alloc; edge; edges]?;
+    if list.len() > 100_000 || edges.len() > 100_000 {
+        return Err(Fail::new("there are too many nodes or edges"));
+    }
+    match FileGraph::check(alloc, list, edges) {
+        Ok(_) => Ok(None),
+        Err(GraphFault::NoMemory) => Err(Fail::new("no memory")),
+        Err(fault) => Ok(Some(fault)),
+    }
+}
+
+const LIMITS: &str = "16384 65536 => a graph
+16385 65537 => 16385 nodes are too many
+16384 65537 => 65537 edges are too many";
 
 #[test]
 fn limits_are_reached_and_not_passed(rt: HostRuntime) -> Result<(), Fail> {
-    assert_eq!(rt; others(rt.alloc(), &mut Faults, LIMITS)?.as_str(), "");
+    assert_eq!(rt; others(rt.alloc(), &mut Loops, LIMITS)?.as_str(), "");
     Ok(())
 }
 
