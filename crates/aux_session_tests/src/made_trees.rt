@@ -157,8 +157,8 @@ const SUMMED: &str = r#"# 1 * 1, 2 * 2 and 3 * 1.
  => {"crowded":0,"files":3,"limited":0,"references":3,"rows":3,"sum":8}
 # The first reference is defined in the first and the third file, and so is the third: 1 * 1, 1 * 3, 2 * 2, 3 * 1 and 3 * 3.
 x: pop a0; push d2 | root>0, 0>1, 1>root => {"crowded":0,"files":3,"limited":0,"references":3,"rows":5,"sum":20}
-# The second one is crowded besides, by a ladder.
-x: pop a0; push d2 | root>0, 0>1, 1>root & y: pop a1; scope *14 | root>0, 0-14 *2, 14>root => {"crowded":1,"files":3,"limited":0,"references":3,"rows":4,"sum":16}
+# The second one is crowded besides, by 91 times 91 runs.
+x: pop a0; push d2 | root>0, 0>1, 1>root & y: pop a1; push b | root>0, 0>1 *91, 1>root & z: pop b; scope | root>0, 0>1 *91, 1>root => {"crowded":1,"files":3,"limited":0,"references":3,"rows":4,"sum":16}
 # Paths of no file of the tree add nothing.
 f0003.sg.json: pop a1 D | root>0 & f001.sg.json: pop a1 D | root>0 & f0001.sg.jsom: pop a0 D | root>0 => {"crowded":0,"files":3,"limited":0,"references":3,"rows":7,"sum":8}
 # A run of the second reference that holds 49 symbols is left out.
