@@ -58,9 +58,9 @@ fn the_first_fault_is_told(rt: HostRuntime) -> Result<(), Fail> {
 
 /// Tells the first fault of so many scopes with so many edges from the first to itself.
 #[derive(Drop)]
-struct Loops;
+struct Greatest;
 
-impl Telling for Loops {
+impl Telling for Greatest {
     fn told(&mut self, alloc: Global, line: &str) -> Result<String, Fail> {
         let (nodes, edges) = line.split_once(' ').unwrap_or((line, ""));
         match loops(alloc, nodes.parse()?, edges.parse()?)? {
@@ -100,7 +100,7 @@ const LIMITS: &str = "16384 65536 => a graph
 
 #[test]
 fn limits_are_reached_and_not_passed(rt: HostRuntime) -> Result<(), Fail> {
-    assert_eq!(rt; others(rt.alloc(), &mut Loops, LIMITS)?.as_str(), "");
+    assert_eq!(rt; others(rt.alloc(), &mut Greatest, LIMITS)?.as_str(), "");
     Ok(())
 }
 

@@ -130,12 +130,12 @@ struct Padded;
 
 impl Telling for Padded {
     fn told(&mut self, alloc: Global, line: &str) -> Result<String, Fail> {
-        let input = padded(alloc, line.parse()?)?;
+        let input = with_block(alloc, line.parse()?)?;
         frames_of(alloc, source_of(alloc, input, 4_096, None)?)
     }
 }
 
-fn padded(alloc: Global, block: usize) -> Result<Vec<u8>, Fail> {
+fn with_block(alloc: Global, block: usize) -> Result<Vec<u8>, Fail> {
     let mut input = input_of(alloc, "Content-Length: 2|x:")?;
     let front = input.len() + 4;
     for _ in front..block {
