@@ -8,3 +8,5 @@ mod commands;
 mod doors;
 #[cfg(test)]
 mod editors;
+#[cfg(test)]
+mod made_trees;

@@ -5,13 +5,27 @@
 #[cfg(test)]
 mod bare;
 #[cfg(test)]
+mod checked_graphs;
+#[cfg(test)]
+mod entered;
+#[cfg(test)]
+mod frames;
+#[cfg(test)]
 mod graph_files;
+#[cfg(test)]
+mod json_texts;
+#[cfg(test)]
+mod kept_paths;
+#[cfg(test)]
+mod leading_nodes;
 #[cfg(test)]
 mod lines;
 #[cfg(test)]
 mod messages;
 #[cfg(test)]
 mod offers;
+#[cfg(test)]
+mod open_documents;
 #[cfg(test)]
 mod python_graphs;
 #[cfg(test)]
@@ -21,6 +35,14 @@ mod replies;
 #[cfg(test)]
 mod requests;
 #[cfg(test)]
+mod rules;
+#[cfg(test)]
 mod runs;
+#[cfg(test)]
+mod shadowed;
+#[cfg(test)]
+mod tables;
+#[cfg(test)]
+mod text_places;
 #[cfg(test)]
 mod versions;

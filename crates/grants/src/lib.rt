@@ -5,8 +5,6 @@ mod access;
 mod laws;
 mod rule;
 mod rule_set;
-#[cfg(test)]
-mod tests;
 
 pub use access::{GrantFault, Grants};
 pub use laws::a_pair_comes_and_goes;

@@ -14,6 +14,3 @@ pub use fault::GraphFault;
 pub use graph::{FileGraph, MAX_EDGES, MAX_NODES};
 pub use node::{Edge, Name, Node, NodeKind, Place, Span};
 pub use steps::Steps;
-
-#[cfg(test)]
-mod tests;

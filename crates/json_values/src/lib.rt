@@ -6,8 +6,6 @@ mod forms;
 mod lists;
 mod numbers;
 mod parsing;
-#[cfg(test)]
-mod tests;
 
 pub use forms::{Form, has_only, other_member};
 pub use lists::{into_items, items};

@@ -7,8 +7,6 @@ mod held;
 mod laws;
 mod lengths;
 mod reader;
-#[cfg(test)]
-mod tests;
 mod written;
 
 pub use laws::frames_stay;

@@ -4,8 +4,6 @@
 mod locations;
 mod open_text;
 mod open_texts;
-#[cfg(test)]
-mod tests;
 
 pub use locations::location;
 pub use open_text::{MOST_BYTES, OpenText};

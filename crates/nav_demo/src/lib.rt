@@ -4,8 +4,6 @@
 mod graph;
 mod session;
 mod showing;
-#[cfg(test)]
-mod tests;
 mod totals;
 mod tree;
 

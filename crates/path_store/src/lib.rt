@@ -7,8 +7,6 @@ mod document;
 mod held;
 mod laws;
 mod store;
-#[cfg(test)]
-mod tests;
 
 pub use digested::Digested;
 pub use document::Document;

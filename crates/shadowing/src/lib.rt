@@ -6,8 +6,3 @@ mod shadow;
 
 pub use paths::{EdgeList, EdgeNo, EdgeStep};
 pub use shadow::unshadowed;
-
-#[cfg(test)]
-mod plain;
-#[cfg(test)]
-mod tests;

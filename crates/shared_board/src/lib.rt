@@ -18,6 +18,3 @@ pub use making::close;
 pub use note::Note;
 pub use seat::{Seat, SeatOf};
 pub use tying::tie;
-
-#[cfg(test)]
-mod tests;

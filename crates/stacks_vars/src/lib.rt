@@ -20,6 +20,3 @@ pub use patterns::{Post, Pre, ScopeOut, ScopePat, SymOut, SymPat, Tail};
 pub use scopes::{NodeAt, ScopeStack};
 pub use stacks::Stacks;
 pub use symbol::Symbol;
-
-#[cfg(test)]
-mod tests;

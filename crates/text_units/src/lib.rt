@@ -7,6 +7,3 @@ mod line_starts;
 
 pub use laws::units_are_those_of_utf16;
 pub use line_starts::LineStarts;
-
-#[cfg(test)]
-mod tests;

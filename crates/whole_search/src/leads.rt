@@ -124,6 +124,3 @@ fn mark_at(marks: &[bool], n: u32) -> bool
         None => true,
     }
 }
-
-#[cfg(test)]
-mod tests;

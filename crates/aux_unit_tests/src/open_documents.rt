@@ -1,5 +1,6 @@
-use crate::{OpenText, OpenTexts, location};
+//! What no clause says: that texts are kept with memory at hand, and one story of a document.
 use graph_nodes::Span;
+use lsp_texts::{OpenText, OpenTexts, location};
 use lsp_wire::Text;
 use std::alloc::{AllocError, Global};
 use std::test::Fail;

@@ -1,4 +1,4 @@
-use Rattle.shared_board.proofs.tests.seats_find_what_others_commit.Given as goal
+use Rattle.aux_board_tests.proofs.seats.seats_find_what_others_commit.Given as goal
 
 -- the board is the one that was made here
 abbrev pub ghosts-steps_of_board : goal.ghosts-steps_of_board

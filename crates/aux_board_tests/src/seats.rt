@@ -3,8 +3,8 @@
 ghost use Rattle.std.specs.Prelude.{◌≡◌};
 ghost use Rattle.shared_board.specs.Seats.{AreSeats};
 
-use super::*;
 use left_right::Absorb;
+use shared_board::{Head, Naming, Note, Seat, SeatOf, SharedBoard, Slot, close, tie};
 use std::alloc::Global;
 use std::marker::Brand;
 use std::sync::Wait;

@@ -1,9 +1,11 @@
-use crate::{Form, JsonFault, has_only, items, number, other_member, parse, u16_of};
+//! What no clause says: that texts are parsed with memory at hand, and what is told of worked texts.
+use crate::tables::{Telling, others};
+use json_values::{Form, JsonFault, has_only, items, number, other_member, parse, u16_of};
 use serde_json::Value;
-use std::alloc::{AllocError, Global};
+use std::alloc::Global;
 use std::test::Fail;
 
-// The form of objects that may have the members `a` and `c`.
+/// The form of objects that may have the members `a` and `c`.
 struct AorC;
 
 impl Form for AorC {
@@ -17,7 +19,7 @@ impl Form for AorC {
     }
 }
 
-// Texts, each with what the calls tell of it.
+/// Texts, each with what the calls tell of it.
 const TEXTS: &str = "{ => no JSON
 {\"a\":1,\"a\":2} => an object of the form
 {\"c\":1,\"a\":2} => an object of the form
@@ -36,7 +38,20 @@ const TEXTS: &str = "{ => no JSON
 \"5\" => something else
 null => something else";
 
-fn told(v: &Value) -> &str {
+#[derive(Drop)]
+struct Texts;
+
+impl Telling for Texts {
+    fn told(&mut self, alloc: Global, line: &str) -> Result<String, Fail> {
+        match parse(alloc, line.as_bytes()) {
+            Ok(value) => Ok(String::from_str(alloc, kind_of(&value))?),
+            Err(JsonFault::BadJson) => Ok(String::from_str(alloc, "no JSON")?),
+            Err(JsonFault::NoMemory) => Err(Fail::new("no memory")),
+        }
+    }
+}
+
+fn kind_of(v: &Value) -> &str {
     if has_only(v, &AorC) {
         return "an object of the form";
     }
@@ -55,28 +70,8 @@ fn told(v: &Value) -> &str {
     "something else"
 }
 
-fn is_as_told(alloc: Global, text: &str, wanted: &str) -> Result<bool, AllocError> {
-    match parse(alloc, text.as_bytes()) {
-        Ok(value) => Ok(told(&value) == wanted),
-        Err(JsonFault::BadJson) => Ok(wanted == "no JSON"),
-        Err(JsonFault::NoMemory) => Err(AllocError),
-    }
-}
-
-fn first_other(alloc: Global, rows: &str) -> Result<Option<&str>, AllocError> {
-    for row in rows.split('\n') {
-        let Some((text, wanted)) = row.split_once(" => ") else {
-            return Ok(Some(row));
-        };
-        if !is_as_told(alloc, text, wanted)? {
-            return Ok(Some(row));
-        }
-    }
-    Ok(None)
-}
-
 #[test]
 fn texts_are_told_as_they_are(rt: HostRuntime) -> Result<(), Fail> {
-    assert_eq!(rt; first_other(rt.alloc(), TEXTS)?, None);
+    assert_eq!(rt; others(rt.alloc(), &mut Texts, TEXTS)?.as_str(), "");
     Ok(())
 }

@@ -1,4 +1,4 @@
-use Rattle.shared_board.proofs.tests.threads_share_one_log.Given as goal
+use Rattle.aux_board_tests.proofs.seats.threads_share_one_log.Given as goal
 
 -- the board is the one that was made here
 abbrev pub ghosts-tied_by_board : goal.ghosts-tied_by_board
