@@ -1,4 +1,4 @@
-//! A writer that counts the lines that were written through it.
+//! The writer that counts.
 use std::cell::Cell;
 use std::io;
 use std::io::Write;

@@ -1,4 +1,4 @@
-use Rattle.navd.proofs.tests.at_once.missed.Given as goal
+use Rattle.aux_session_tests.proofs.at_once.missed.Given as goal
 
 -- the ledger is the one that was opened here
 abbrev pub ghosts-missed_on : goal.ghosts-missed_on
