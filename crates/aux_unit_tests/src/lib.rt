@@ -5,8 +5,6 @@
 #[cfg(test)]
 mod bare;
 #[cfg(test)]
-mod graph_files;
-#[cfg(test)]
 mod lines;
 #[cfg(test)]
 mod messages;
@@ -18,8 +16,6 @@ mod python_graphs;
 mod python_modules;
 #[cfg(test)]
 mod replies;
-#[cfg(test)]
-mod requests;
 #[cfg(test)]
 mod runs;
 #[cfg(test)]
