@@ -1,12 +1,12 @@
-//! Tests of the crates of one command and of the program as a function, which are dear to prove: standing there, they
-//! would have each of them proved a second time. They are no part of the server.
+//! Tests of inner calls of sessions and of doors, and of jobs that run at once: what no row of `aux_rows` can reach. They are
+//! no part of the server.
 #![tactic(auto)]
 
 #[cfg(test)]
-mod commands;
+mod at_once;
+#[cfg(test)]
+mod counted;
 #[cfg(test)]
 mod doors;
-#[cfg(test)]
-mod editors;
 #[cfg(test)]
 mod made_trees;

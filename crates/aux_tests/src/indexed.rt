@@ -1,5 +1,4 @@
-//! What no clause says: that documents are indexed with memory at hand, in which order their faults are told, and on
-//! how many threads.
+//! What no clause says: that documents are indexed with memory at hand, which jobs that makes, and on how many threads.
 ghost use Rattle.std.specs.Prelude.{◌≡◌, ◌<◌, [], OnOk, drop, length};
 ghost use Rattle.index_gate.specs.Indexed.{AreIndexed, CountsAllWalks};
 
@@ -185,78 +184,15 @@ fn figures(files: &[SharedPaths], place: usize) -> Option<(u32, usize)> {
     Some((paths.weight(), paths.paths().len()))
 }
 
-/// The first document with a fault, and its fault, as the answer says it; `none` where there is none.
-fn fault_of<R: Threads + Sync>(rt: &R, alloc: Global, docs: &[Document]) -> Result<String, Fail> {
-    match indexed(rt, alloc, docs, &Unguarded) {
-        Ok(_) => Ok(String::from_str(alloc, "none")?),
-        Err(fault) => Ok(format!(in alloc; "{fault}")?),
-    }
-}
-
-/// The fault of the document of that path and text alone.
-fn fault_at<R: Threads + Sync>(
-    rt: &R,
-    alloc: Global,
-    path: &str,
-    text: &str,
-) -> Result<String, Fail> {
-    fault_of(rt, alloc, &documents(alloc, &[(path, text)])?)
-}
-
-/// Documents, each its path, a bar and its text, with an at sign for a newline; semicolons between them; and behind
-/// an arrow what is told of them.
-const FAULTS: &str = r##"notes.txt| => notes.txt: the path has no ending that is known
-.json| => .json: the path has no ending that is known
-a.sg.json|{ => a.sg.json: not JSON
-a.sg.json|[] => a.sg.json: the graph has a wrong form
-a.sg.json|{"nodes":[{"kind":"scope"}],"edges":[["jump",0,0]]} => a.sg.json: edge 0 leaves the jump
-a.sg.json|{"nodes":[{"kind":"scope"}],"edges":[[0,1,0]]} => a.sg.json: edge 0 has an end that is no node
-a.sg.json|{"nodes":[{"kind":"scope"},{}],"edges":[]} => a.sg.json: node 1 has a wrong form
-a.sg.json|{"nodes":[{"kind":"push_scoped","symbol":"x","scope":0}],"edges":[]} => a.sg.json: node 0 names a scope that isn't exported
-a.sg.json|{"format":2,"nodes":[{"kind":"scope","name":"a"},{"kind":"drop","name":"a"}],"edges":[]} => a.sg.json: node 1 has the name of an earlier node
-a.sg.json|{"format":2,"nodes":[{"kind":"scope","name":"a"}],"edges":[["a","b",0]]} => a.sg.json: edge 0 names a node that isn't there
-a.py|x = [i for i in y] => a.py: line 0 has a form that is left out
-a.py|x = 1@  y@ => a.py: no module goes on as line 1 does
-a.py|if x:@    y@  z@ => a.py: line 2 goes back to no open block
-a.py|x = ? => a.py: line 0 has no token there
-my-tool.py| => my-tool.py: the path gives no name of a module
-.sg.json|{"nodes":[],"edges":[]} => none
-a.sg.json|{"nodes":[],"edges":[]};b.py|x =;notes.txt| => b.py: no module goes on as line 0 does
-b.py|x = 1;notes.txt|;c.py|x = => notes.txt: the path has no ending that is known
-b.py|x = 1@;a.sg.json|{"nodes":[],"edges":[]} => none"##;
-
-/// The documents that a row of the table tells.
+/// Documents, each its path, a bar and its text; semicolons between them.
 fn documents_of(alloc: Global, row: &str) -> Result<Vec<Document>, Fail> {
     let mut docs = Vec::new(alloc);
     for part in row.split(';') {
         let (path, text) = part.split_once('|').unwrap_or((part, ""));
-        let mut bytes = Vec::from_slice(alloc, text.as_bytes())?;
-        for byte in bytes.iter_mut() {
-            if *byte == b'@' {
-                *byte = b'\n';
-            }
-        }
+        let bytes = Vec::from_slice(alloc, text.as_bytes())?;
         docs.push(Document::taking(alloc, String::from_str(alloc, path)?, bytes)?)?;
     }
     Ok(docs)
-}
-
-/// The first row that is told otherwise, and what is told; else an empty text.
-fn first_wrong<R: Threads + Sync>(rt: &R, alloc: Global) -> Result<String, Fail> {
-    for row in FAULTS.split('\n') {
-        let (docs, wanted) = row.split_once(" => ").unwrap_or((row, "no arrow"));
-        let told = fault_of(rt, alloc, &documents_of(alloc, docs)?)?;
-        if told.as_str() != wanted {
-            return Ok(format!(in alloc; "{row}, but {told}")?);
-        }
-    }
-    Ok(String::new(alloc))
-}
-
-#[test]
-fn the_first_fault_of_the_first_document_is_told(rt: HostRuntime) -> Result<(), Fail> {
-    assert_eq!(rt; first_wrong(&rt, rt.alloc())?.as_str(), "");
-    Ok(())
 }
 
 /// Indexes the first documents, and then the others over the store that keeps these, with the gate; tells
@@ -306,66 +242,6 @@ fn jobs_are_numbered_among_new_documents_and_left_after_a_fault(
     };
     assert_eq!(rt; told, (2, true));
     assert_eq!(rt; gate.told(), (0x1111, 0x1111));
-    Ok(())
-}
-
-/// A graph file of so many bytes, most of them blanks.
-fn padded(alloc: Global, len: usize) -> Result<String, Fail> {
-    let mut text = String::from_str(alloc, r#"{"nodes":[],"edges":[]}"#)?;
-    for _ in text.len()..len {
-        text.push(' ')?;
-    }
-    Ok(text)
-}
-
-#[test]
-fn a_document_has_at_most_a_mebibyte(rt: HostRuntime) -> Result<(), Fail> {
-    let alloc = rt.alloc();
-    let most = padded(alloc, 1_048_576)?;
-    let more = padded(alloc, 1_048_577)?;
-    assert_eq!(rt;
-        fault_at(&rt, alloc, "a.sg.json", most.as_str())?.as_str(),
-        "none"
-    );
-    for path in ["a.sg.json", "my-tool.py"] {
-        let wanted = format!(in alloc; "{path}: 1048577 bytes are too many")?;
-        assert_eq!(rt;
-            fault_at(&rt, alloc, path, more.as_str())?.as_str(),
-            wanted.as_str()
-        );
-    }
-    Ok(())
-}
-
-/// A reference before a ladder of so many scopes, each next one reached from the one before by two edges.
-fn ladder(alloc: Global, scopes: u32) -> Result<String, Fail> {
-    let mut nodes = String::from_str(alloc, r#"{"kind":"push","symbol":"x","reference":true}"#)?;
-    let mut edges = String::from_str(alloc, "[0,1,0]")?;
-    for scope in 1..=scopes {
-        nodes.push_str(r#",{"kind":"scope"}"#)?;
-        if scope < scopes {
-            let edge = format!(in alloc; ",[{},{},0]", scope, scope.saturating_add(1))?;
-            edges.push_str(edge.as_str())?;
-            edges.push_str(edge.as_str())?;
-        }
-    }
-    Ok(format!(in alloc; "{{\"nodes\":[{nodes}],\"edges\":[{edges}]}}")?)
-}
-
-#[test]
-fn a_file_has_a_greatest_weight(rt: HostRuntime) -> Result<(), Fail> {
-    let alloc = rt.alloc();
-    let text = ladder(alloc, 16)?;
-    let docs = documents(alloc, &[("a.sg.json", text.as_str())])?;
-    let Ok((files, _)) = indexed(&rt, alloc, &docs, &Unguarded) else {
-        return Err(Fail::new("the ladder has no fault"));
-    };
-    assert_eq!(rt; figures(&files, 0), Some((983_041, 0)));
-    let text = ladder(alloc, 17)?;
-    assert_eq!(rt;
-        fault_at(&rt, alloc, "a.sg.json", text.as_str())?.as_str(),
-        "a.sg.json: the file's walks have too many edges together"
-    );
     Ok(())
 }
 

@@ -1,8 +1,6 @@
-//! Tests that cross crates, from the texts that a user has to the rows of an answer. They are no part of the server.
+//! Tests that cross crates and that no row of `aux_rows` can reach. They are no part of the server.
 #![tactic(auto)]
 
-#[cfg(test)]
-mod boards;
 #[cfg(test)]
 mod enumerated;
 #[cfg(test)]
@@ -14,14 +12,8 @@ mod meeting;
 #[cfg(test)]
 mod paths;
 #[cfg(test)]
-mod python;
-#[cfg(test)]
 mod queries;
 #[cfg(test)]
 mod roots;
 #[cfg(test)]
 mod searched;
-#[cfg(test)]
-mod stitched;
-#[cfg(test)]
-mod versions;

@@ -4,7 +4,7 @@ ghost use Rattle.std.specs.Prelude.{◌≡◌, ◌<◌};
 use aux_graph_text::files_of;
 use file_paths::{PathsFault, enumerate};
 use graph_nodes::{FileGraph, Steps};
-use partial_path::{FileList, FilePaths, SharedPaths};
+use partial_path::{FilePaths, SharedPaths};
 use std::alloc::Global;
 use std::marker::Brand;
 use std::sync::ledger::{Blank, Ledger};
@@ -36,15 +36,4 @@ pub fn paths_of(alloc: Global, text: &str) -> Result<SharedPaths, Fail> {
         return Err(Fail::new("there is no file"));
     };
     Ok(SharedPaths::of(alloc, paths_in(alloc, graph)?)?)
-}
-
-/// All paths of the graphs of the files that a text stands for.
-pub fn list_of(alloc: Global, text: &str) -> Result<FileList, Fail> {
-    let mut list = FileList::new(alloc);
-    for graph in files_of(alloc, text)? {
-        if list.len() < 100 {
-            list.push(paths_in(alloc, graph)?)?;
-        }
-    }
-    Ok(list)
 }

@@ -11,8 +11,6 @@ mod entered;
 #[cfg(test)]
 mod frames;
 #[cfg(test)]
-mod graph_files;
-#[cfg(test)]
 mod json_texts;
 #[cfg(test)]
 mod kept_paths;
@@ -32,8 +30,6 @@ mod python_graphs;
 mod python_modules;
 #[cfg(test)]
 mod replies;
-#[cfg(test)]
-mod requests;
 #[cfg(test)]
 mod rules;
 #[cfg(test)]

@@ -7,6 +7,7 @@ ghost use Rattle.nav_serve.specs.Words.{command_of, texts};
 ghost use Rattle.nav_serve.specs.Commands.{may_end};
 
 use graph_nodes::Steps;
+use line_counter::Counted;
 use nav_io::{Door, House, StdSink, StdSource, TcpHouse};
 use std::alloc::Global;
 use std::cell::Cell;
@@ -19,13 +20,8 @@ use std::thread::Threads;
 use std::{env, io};
 
 mod alone;
-mod counted;
 
 use crate::alone::run_alone;
-use crate::counted::Counted;
-
-#[cfg(test)]
-mod tests;
 
 /// What standard error tells where the words are no command.
 const USAGE: &str =

@@ -1,7 +1,6 @@
 //! The search beside the plain enumeration of all lists of edges.
-use super::answer;
 use super::plain::{Told, told_by};
-use crate::stitched::{bounds_of, told};
+use super::{answer, told};
 use aux_graph_text::{COMPARED, files_of};
 use graph_nodes::FileGraph;
 use partial_path::Bounds;
@@ -18,6 +17,16 @@ fn plain_answer(
     match told_by(alloc, files, bounds, longest)? {
         Told::Crowded => Ok(String::from_str(alloc, "crowded")?),
         Told::Found { rows, limit } => told(alloc, &rows, limit),
+    }
+}
+
+/// The bounds that a text such as `129 edges 48 symbols` says.
+fn bounds_of(text: &str) -> Bounds {
+    let (edges, rest) = text.split_once(" edges ").unwrap_or((text, ""));
+    let (depth, _) = rest.split_once(" symbols").unwrap_or((rest, ""));
+    Bounds {
+        edges: edges.parse::<u32>().unwrap_or(0),
+        depth: depth.parse::<u32>().unwrap_or(0),
     }
 }
 

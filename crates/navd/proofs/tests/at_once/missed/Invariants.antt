@@ -1,5 +1,0 @@
-use Rattle.navd.proofs.tests.at_once.missed.Given as goal
-
--- the ledger is the one that was opened here
-abbrev pub ghosts-missed_on : goal.ghosts-missed_on
-ghosts-missed_on a b = record { name = b.blank.name; parts = b.blank.parts }
