@@ -8,3 +8,4 @@ pub mod Lending
 pub mod Doors
 pub mod Reading
 pub mod Over
+pub mod Guard

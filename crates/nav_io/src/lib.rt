@@ -2,9 +2,11 @@
 #![tactic(auto)]
 
 mod gate;
+mod guard;
 mod house;
 mod lines;
 mod mem;
+mod notices;
 mod sink;
 mod source;
 mod std_io;
@@ -12,9 +14,11 @@ mod tcp;
 mod write;
 
 pub use gate::{Gate, Unguarded};
+pub use guard::Guarded;
 pub use house::{Door, House, HouseFault};
 pub use lines::{LINE_MAX, LineError, LineReader, NoMemory, TooLong};
 pub use mem::{MemDoor, MemHouse, MemSink, MemSource};
+pub use notices::{Cut, Notices};
 pub use sink::{Sink, SinkError};
 pub use source::{Failed, Source};
 pub use std_io::{StdSink, StdSource};

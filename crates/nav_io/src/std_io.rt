@@ -29,6 +29,13 @@ impl<R: Read> StdSource<R> {
     {
         StdSource { reader, faults: 0 }
     }
+
+    /// The reader that it stands over.
+    pub fn reader(&self) -> &R
+        ensures { result.now ≡ self.now.inner }
+    {
+        &self.reader
+    }
 }
 
 impl<R: Read> Source for StdSource<R> {

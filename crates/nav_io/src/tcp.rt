@@ -2,27 +2,32 @@
 ghost use Rattle.std.specs.Prelude.{◌≡◌, ◌≤◌, ℕ, None, vec_len, IfOk, OnOk, OnErr};
 ghost use Rattle.nav_io.specs.Faults.{HasRisen, counted};
 
-use crate::{Door, Failed, House, HouseFault, StdSink, StdSource};
+use crate::{Door, Failed, Guarded, House, HouseFault, Notices, StdSink, StdSource};
 use std::alloc::Global;
+use std::io;
 use std::marker::Model;
 use std::net::{Ipv4Addr, Net, OpenListener, OpenStream, SocketAddr};
 
 /// A door that accepts connections on a listener, of which other doors may have handles too. A pair is a
-/// stream and another handle of it; the connection ends once both are dropped. Contracts see its faults.
+/// stream and another handle of it; the connection ends once both are dropped. One whose first bytes begin a
+/// request of the Hypertext Transfer Protocol has no line. Contracts see its faults.
 #[derive(Drop)]
-pub struct TcpDoor<R: Net> {
+pub struct TcpDoor<'r, R: Net, N> {
     listener: R::Listener,
+    /// Which of its house's doors it is, from 1.
+    number: u32,
+    notices: &'r N,
     faults: u64,
 }
 
-impl<R: Net> Model for TcpDoor<R> {
+impl<'r, R: Net, N> Model for TcpDoor<'r, R, N> {
     ghost Value = { ℕ };
 
     ghost view = { λ door. door.faults };
 }
 
-impl<R: Net> Door for TcpDoor<R> {
-    type S = StdSource<R::Stream>;
+impl<'r, R: Net, N: Notices> Door for TcpDoor<'r, R, N> {
+    type S = StdSource<Guarded<R::Stream>>;
 
     type K = StdSink<R::Stream>;
 
@@ -33,7 +38,7 @@ impl<R: Net> Door for TcpDoor<R> {
     ghost faults = { λ door. door };
 
     /// Waits for the next connection. `Failed` where none can be accepted, or no handle is left.
-    fn accept(&mut self) -> Result<(StdSource<R::Stream>, StdSink<R::Stream>), Failed>
+    fn accept(&mut self) -> Result<(StdSource<Guarded<R::Stream>>, StdSink<R::Stream>), Failed>
         ensures count { self.old ≤ self.new }
         ensures cause { OnErr result (HasRisen self.old self.new) }
 
@@ -43,18 +48,26 @@ impl<R: Net> Door for TcpDoor<R> {
         ensures err { OnErr result (self.new ≡ counted self.old) }
     {
         match accepted::<R>(&self.listener) {
-            Some((reader, writer)) => Ok((StdSource::new(reader), StdSink::new(writer))),
-            None => {
+            Ok((reader, writer)) => Ok((
+                StdSource::new(Guarded::new(reader)),
+                StdSink::new(writer),
+            )),
+            Err(error) => {
+                self.notices.refused_connection(self.number, &error);
                 self.faults = self.faults.saturating_add(1);
                 Err(Failed)
             }
         }
     }
 
-    /// Ends the connection.
-    fn done(&mut self, source: StdSource<R::Stream>, sink: StdSink<R::Stream>)
-        ensures { self.new ≡ self.old }
+    /// Ends the connection, and tells where its client was the cause.
+    fn done(&mut self, source: StdSource<Guarded<R::Stream>>, sink: StdSink<R::Stream>)
+        ensures same { self.new ≡ self.old }
+        ensures count { self.old ≤ self.new }
     {
+        if let Some(cut) = source.reader().cut() {
+            self.notices.cut(self.number, cut);
+        }
         drop(source);
         drop(sink);
     }
@@ -63,37 +76,43 @@ impl<R: Net> Door for TcpDoor<R> {
 // The stream of the next connection, and another handle of it. Replies are small and written as soon as they
 // are there, so the stream sends each at once and doesn't hold it back until the last one is acknowledged.
 // That is a matter of speed alone: a stream that can't be told so serves as well.
-fn accepted<R: Net>(listener: &R::Listener) -> Option<(R::Stream, R::Stream)> {
-    let (stream, _) = listener.accept().ok()?;
+fn accepted<R: Net>(listener: &R::Listener) -> io::Result<(R::Stream, R::Stream)> {
+    let (stream, _) = listener.accept()?;
     let _ = stream.set_nodelay(true);
-    let other = stream.try_clone().ok()?;
-    Some((stream, other))
+    let other = stream.try_clone()?;
+    Ok((stream, other))
 }
 
 /// A house whose doors wait for connections from the machine itself, on 127.0.0.1. Contracts see its faults.
 #[derive(Drop)]
-pub struct TcpHouse<'r, R: Net> {
+pub struct TcpHouse<'r, R: Net, N> {
     net: &'r R,
+    notices: &'r N,
     faults: u64,
 }
 
-impl<'r, R: Net> Model for TcpHouse<'r, R> {
+impl<'r, R: Net, N> Model for TcpHouse<'r, R, N> {
     ghost Value = { ℕ };
 
     ghost view = { λ house. house.faults };
 }
 
-impl<'r, R: Net> TcpHouse<'r, R> {
-    /// A house with no fault yet.
-    pub fn new(net: &'r R) -> TcpHouse<'r, R>
+impl<'r, R: Net, N> TcpHouse<'r, R, N> {
+    /// A house with no fault yet, which tells there where it listens, what it was refused and which connections
+    /// ended early.
+    pub fn new(net: &'r R, notices: &'r N) -> TcpHouse<'r, R, N>
         ensures { result ≡ 0 }
     {
-        TcpHouse { net, faults: 0 }
+        TcpHouse {
+            net,
+            notices,
+            faults: 0,
+        }
     }
 }
 
-impl<'r, R: Net> House for TcpHouse<'r, R> {
-    type D = TcpDoor<R>;
+impl<'r, R: Net, N: Notices> House for TcpHouse<'r, R, N> {
+    type D = TcpDoor<'r, R, N>;
 
     ghost gave = { λ _. None };
 
@@ -102,7 +121,12 @@ impl<'r, R: Net> House for TcpHouse<'r, R> {
     ghost faults = { λ house. house };
 
     /// Listens at the port, and gives each door a handle of that one listener.
-    fn doors(&mut self, alloc: Global, port: u16, count: u32) -> Result<Vec<TcpDoor<R>>, HouseFault>
+    fn doors(
+        &mut self,
+        alloc: Global,
+        port: u16,
+        count: u32,
+    ) -> Result<Vec<TcpDoor<'r, R, N>>, HouseFault>
         ensures all { IfOk result (λ doors. vec_len doors ≡ count) }
         ensures count { self.old ≤ self.new }
         ensures cause { result ≡ Err HouseFault.Failed → HasRisen self.old self.new }
@@ -112,8 +136,11 @@ impl<'r, R: Net> House for TcpHouse<'r, R> {
         ensures failed { result ≡ Err HouseFault.Failed → self.new ≡ counted self.old }
         ensures memory { result ≡ Err HouseFault.NoMemory → self.new ≡ self.old }
     {
-        match open(self.net, alloc, port, count) {
-            Ok(doors) => Ok(doors),
+        match open(self.net, self.notices, alloc, port, count) {
+            Ok(doors) => {
+                self.notices.listens(port, count);
+                Ok(doors)
+            }
             Err(HouseFault::NoMemory) => Err(HouseFault::NoMemory),
             Err(HouseFault::Failed) => {
                 self.faults = self.faults.saturating_add(1);
@@ -123,7 +150,7 @@ impl<'r, R: Net> House for TcpHouse<'r, R> {
     }
 
     /// Lets go of the doors. The port is free once no door of it is left.
-    fn close(&mut self, doors: Vec<TcpDoor<R>>)
+    fn close(&mut self, doors: Vec<TcpDoor<'r, R, N>>)
         ensures same { self.new ≡ self.old }
         ensures count { self.old ≤ self.new }
     {
@@ -132,30 +159,42 @@ impl<'r, R: Net> House for TcpHouse<'r, R> {
 }
 
 // So many doors with handles of one listener at the port.
-fn open<R: Net>(
+fn open<'r, R: Net, N: Notices>(
     net: &R,
+    notices: &'r N,
     alloc: Global,
     port: u16,
     count: u32,
-) -> Result<Vec<TcpDoor<R>>, HouseFault>
+) -> Result<Vec<TcpDoor<'r, R, N>>, HouseFault>
     ensures { IfOk result (λ doors. vec_len doors ≡ count) }
 {
     let Ok(mut doors) = Vec::with_capacity(alloc, count as usize) else {
         return Err(HouseFault::NoMemory);
     };
-    let Ok(listener) = net.bind(SocketAddr::from((Ipv4Addr::LOCALHOST, port))) else {
-        return Err(HouseFault::Failed);
+    let listener = match net.bind(SocketAddr::from((Ipv4Addr::LOCALHOST, port))) {
+        Ok(listener) => listener,
+        Err(error) => return Err(refused(notices, port, &error)),
     };
-    while doors.len() < count as usize {
-        let Ok(listener) = listener.try_clone() else {
-            return Err(HouseFault::Failed);
-        };
-        doors
-            .push(TcpDoor {
-                listener,
-                faults: 0,
-            })
-            .unwrap();
+    for number in 0..count {
+        match listener.try_clone() {
+            Ok(listener) => doors
+                .push(TcpDoor {
+                    listener,
+                    number: number + 1,
+                    notices,
+                    faults: 0,
+                })
+                .unwrap(),
+            Err(error) => return Err(refused(notices, port, &error)),
+        }
     }
     Ok(doors)
+}
+
+// Tells why the port can't be had.
+fn refused<N: Notices>(notices: &N, port: u16, error: &io::Error) -> HouseFault
+    ensures { result ≡ HouseFault.Failed }
+{
+    notices.refused_port(port, error);
+    HouseFault::Failed
 }

@@ -20,12 +20,16 @@ use std::thread::Threads;
 use std::{env, io};
 
 mod alone;
+mod opened;
+mod told;
 
 use crate::alone::run_alone;
+use crate::opened::Opened;
+use crate::told::Told;
 
 /// What standard error tells where the words are no command.
 const USAGE: &str =
-    "usage: navd once | navd upgrade | navd run | navd lsp (each of these reads standard input) | navd demo FILES START | navd serve PORT DOORS CONNECTIONS";
+    "usage: navd run | navd lsp | navd once | navd upgrade (each of these reads standard input) | navd demo FILES START (1 to 2048, 0 to 4294967295) | navd serve PORT DOORS CONNECTIONS (1 to 65535, 1 to 32, 1 to 1000); README.md and docs/FORMATS.md say more";
 
 /// The status where the words are no command.
 const BAD_WORDS: u8 = 2;
@@ -36,16 +40,24 @@ const NO_MEMORY: u8 = 5;
 /// The status where a line or a message is too long.
 const LONG_LINE: u8 = 6;
 
+/// The status where the input isn't cut into messages.
+const NO_MESSAGES: u8 = 9;
+
 fn main(rt: HostRuntime) -> ExitCode {
-    let mut house = TcpHouse::new(&rt);
+    let told = Told { rt: &rt };
+    let mut house = TcpHouse::new(&rt, &told);
     let words = words_of(&rt);
-    let answers_lines = is_session(&words);
+    let command = named(&words);
     let replies = Cell::new(0);
+    let first = Cell::new(0);
     let status = ended::<_, _, _, _, Brand>(
         &rt,
         rt.alloc(),
         words,
-        rt.stdin(),
+        Opened {
+            reader: rt.stdin(),
+            first: &first,
+        },
         Counted {
             writer: rt.stdout(),
             lines: &replies,
@@ -53,28 +65,54 @@ fn main(rt: HostRuntime) -> ExitCode {
         &mut house,
         Blank::new(1),
     );
-    if answers_lines && status == LONG_LINE {
-        // Each line before it has one reply.
-        let line = replies.get().saturating_add(1);
-        let _ = eprintln!(rt; "navd: line {line} has more than 8388608 bytes");
-        return ExitCode::from(status);
-    }
-    let why = why(status);
-    if !why.is_empty() {
-        let _ = eprintln!(rt; "{why}");
+    match (command, status) {
+        (Spoken::Run, LONG_LINE) => {
+            // Each line before it has one reply.
+            let line = replies.get().saturating_add(1);
+            let _ = eprintln!(rt; "navd: line {line} has more than 8388608 bytes");
+        }
+        (Spoken::Lsp, NO_MESSAGES) if first.get() == b'{' => {
+            let _ = eprintln!(rt;
+                "navd: lsp reads messages, each behind a header Content-Length; navd run reads lines of JSON"
+            );
+        }
+        (Spoken::Serve, 0) => {
+            let _ = eprintln!(rt; "navd: each door has had its connections");
+        }
+        _ => {
+            let why = why(status);
+            if !why.is_empty() {
+                let _ = eprintln!(rt; "{why}");
+            }
+        }
     }
     ExitCode::from(status)
 }
 
-/// Whether the words begin a session, which answers each line with one.
-fn is_session(words: &io::Result<Vec<String>>) -> bool {
-    match words {
-        Ok(words) => words.first().is_some_and(|word| word.as_str() == "run"),
-        Err(_) => false,
+/// The commands of which standard error tells more than why a status came.
+#[derive(Clone, Copy)]
+enum Spoken {
+    Run,
+    Lsp,
+    Serve,
+    Other,
+}
+
+/// The command that the first word names.
+fn named(words: &io::Result<Vec<String>>) -> Spoken {
+    let Ok(words) = words else {
+        return Spoken::Other;
+    };
+    match words.first() {
+        Some(word) if word.as_str() == "run" => Spoken::Run,
+        Some(word) if word.as_str() == "lsp" => Spoken::Lsp,
+        Some(word) if word.as_str() == "serve" => Spoken::Serve,
+        _ => Spoken::Other,
     }
 }
 
-/// What standard error tells of a status, in one line: why the program did no more. Of 0 it tells nothing.
+/// What standard error tells of a status, in one line: why the program did no more. Of 0 it tells nothing, nor of 8, where
+/// the house told what the system refused.
 fn why(status: u8) -> &'static str {
     match status {
         BAD_WORDS => USAGE,
@@ -84,8 +122,8 @@ fn why(status: u8) -> &'static str {
         NO_MEMORY => "navd: memory was refused",
         LONG_LINE => "navd: a line or a message has more than 8388608 bytes",
         7 => "navd: 1000000 lines or messages were answered, and more input stands behind them",
-        8 => "navd: the port can't be listened at, or a connection couldn't be accepted",
-        9 => "navd: the input isn't cut into messages as the protocol has it, or ends within one",
+        NO_MESSAGES =>
+            "navd: the input isn't cut into messages as the protocol has it, or ends within one",
         _ => "",
     }
 }
