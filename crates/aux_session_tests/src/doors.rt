@@ -4,7 +4,7 @@ ghost use Rattle.std.specs.Prelude.{◌≡◌, ◌<◌};
 use graph_nodes::Steps;
 use left_right::Absorb;
 use nav_doors::serve_house;
-use nav_io::{MemDoor, MemHouse, TcpHouse, Unguarded};
+use nav_io::{MemDoor, MemHouse, NoNotices, TcpHouse, Unguarded};
 use nav_session::{Desk, answer_line};
 use shared_board::{Head, Naming, SharedBoard, Slot, close};
 use std::alloc::Global;
@@ -174,10 +174,11 @@ fn clients_are_served_over_sockets(rt: HostRuntime) -> Result<(), Fail> {
     let other = TcpListener::bind(&rt, (Ipv4Addr::LOCALHOST, 0))?;
     let port = other.local_addr()?.port();
     drop(other);
-    let (rt, alloc) = (&rt, rt.alloc());
+    let quiet = NoNotices;
+    let (rt, alloc, notices) = (&rt, rt.alloc(), &quiet);
     let (status, told) = thread::join(
         rt,
-        move || serve_house(rt, alloc, &mut TcpHouse::new(rt), port, 2, 1),
+        move || serve_house(rt, alloc, &mut TcpHouse::new(rt, notices), port, 2, 1),
         move || asked_by_two(rt, alloc, port),
     );
     let wanted = "{\"version\":0}\n{\"version\":1}\n{\"version\":1}\n{\"ok\":true}\n";

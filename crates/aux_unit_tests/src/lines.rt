@@ -3,8 +3,8 @@ ghost use Rattle.std.specs.Prelude.{◌≡◌, None};
 
 use nav_io::{
     Door, Failed, Gate, House, HouseFault, LINE_MAX, LineError, LineReader, MemDoor, MemHouse,
-    MemSink, MemSource, Sink, SinkError, Source, StdSink, StdSource, TcpHouse, TooLong, Unguarded,
-    WriteError, write_all,
+    MemSink, MemSource, NoNotices, Sink, SinkError, Source, StdSink, StdSource, TcpHouse, TooLong,
+    Unguarded, WriteError, write_all,
 };
 use std::alloc::{AllocError, Global};
 use std::io;
@@ -639,15 +639,17 @@ fn exchange<R: Net, D: Door>(
     Ok(())
 }
 
-// What two connections get back that each send a line to the port; one mark where no doors are to be had.
+// What three connections get back that each send a line to the port, of which the last is a browser's; one mark where no
+// doors are to be had.
 fn echoed<R: Net>(net: &R, alloc: Global, port: u16) -> Result<Vec<u8>, Fail> {
     let mut told = Vec::new(alloc);
-    let mut house = TcpHouse::new(net);
-    let Ok(mut doors) = house.doors(alloc, port, 2) else {
+    let notices = NoNotices;
+    let mut house = TcpHouse::new(net, &notices);
+    let Ok(mut doors) = house.doors(alloc, port, 3) else {
         told.push(b'!')?;
         return Ok(told);
     };
-    for line in [b"ab\n", b"cd\n"] {
+    for line in [b"abcdef\n", b"cdefgh\n", b"POST /\n"] {
         if let Some(mut door) = doors.pop() {
             exchange(net, alloc, port, &mut door, line, &mut told)?;
         }
@@ -664,14 +666,18 @@ fn a_house_over_sockets_serves_by_each_door(rt: HostRuntime) -> Result<(), Fail>
     // The port is in use, and then free.
     assert_eq!(rt; echoed(&rt, alloc, port)?.as_slice(), b"!".as_slice());
     drop(other);
-    assert_eq!(rt; echoed(&rt, alloc, port)?.as_slice(), b"ab|cd|".as_slice());
+    assert_eq!(rt;
+        echoed(&rt, alloc, port)?.as_slice(),
+        b"abcdef|cdefgh||".as_slice()
+    );
     Ok(())
 }
 
 // Whether a door at the port is reached by another address than 127.0.0.1, as it would be if the house listened
 // at all addresses of the machine.
 fn is_reached_elsewhere<R: Net>(net: &R, alloc: Global, port: u16) -> bool {
-    let mut house = TcpHouse::new(net);
+    let notices = NoNotices;
+    let mut house = TcpHouse::new(net, &notices);
     let Ok(doors) = house.doors(alloc, port, 1) else {
         return true;
     };

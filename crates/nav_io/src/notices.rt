@@ -36,3 +36,17 @@ pub trait Notices {
     /// A connection of the door ended early. Doors count from 1.
     fn cut(&self, door: u32, cut: Cut);
 }
+
+/// Notices that nobody reads.
+#[derive(Clone, Copy, Debug, PartialEq, Eq)]
+pub struct NoNotices;
+
+impl Notices for NoNotices {
+    fn listens(&self, _port: u16, _doors: u32) {}
+
+    fn refused_port(&self, _port: u16, _error: &io::Error) {}
+
+    fn refused_connection(&self, _door: u32, _error: &io::Error) {}
+
+    fn cut(&self, _door: u32, _cut: Cut) {}
+}
