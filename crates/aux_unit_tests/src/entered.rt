@@ -33,8 +33,9 @@ fn text_of(alloc: Global, stacks: Stacks) -> Result<String, Fail> {
 }
 
 fn push_item(alloc: Global, text: &mut String, item: SymbolItem) -> Result<(), Fail> {
-    text.push_str(str::from_utf8(item.symbol.as_bytes())?)?;
-    if let Some(scopes) = item.scopes {
+    let SymbolItem { symbol, scopes } = item;
+    text.push_str(str::from_utf8(symbol.as_bytes())?)?;
+    if let Some(scopes) = scopes {
         text.push('[')?;
         push_scopes(alloc, text, scopes.into_items())?;
         text.push(']')?;
