@@ -9,7 +9,7 @@ from .annotations import Annotations, last_name
 from .bindings import Bound, ClassParts, Frame, Names, meeting
 from .graph import NOTHING, Values, joined
 from .places import Place
-from .state import CALL, EACH, ITEM
+from .state import CALL, EACH, PARAMETER
 
 # Calls of builtins that pass on what they are given, of which the items are the same.
 PASSING = frozenset(["list", "sorted", "set", "frozenset", "tuple", "iter", "reversed", "deque", "copy", "deepcopy"])
@@ -105,14 +105,25 @@ class Expressions(Annotations):
         elif isinstance(function, ast.Attribute):
             return self.called_method(function, node)
         values = self.value(function)
-        self.arguments(node)
+        self.arguments(node, values)
         return self.call(values)
 
-    def arguments(self, node: ast.Call) -> List[Values]:
+    def arguments(self, node: ast.Call, function: Values = NOTHING) -> List[Values]:
+        """Goes through the arguments of a call of these values, and answers those without a name."""
         given = [self.value(argument) for argument in node.args]
         for keyword in node.keywords:
+            if function and keyword.arg is not None:
+                self.named_argument(keyword, keyword.arg, function)
             self.value(keyword.value)
         return given
+
+    def named_argument(self, keyword: ast.keyword, name: str, function: Values) -> None:
+        """The name of an argument is a reference of the parameter."""
+        line, start = keyword.lineno - 1, keyword.col_offset
+        end = start + len(name.encode("utf-8", "replace"))
+        if self.lines.slice(line, start, end) == name.encode("utf-8", "replace"):
+            sources = tuple(self.by_name.get(value, value) for value in function)
+            self.graph.reference(name, line, start, end, (self.graph.pushed(PARAMETER, sources),))
 
     def called_name(self, name: str, node: ast.Call) -> Optional[Values]:
         """What a call of a builtin gives, or of a name that tells what it does; None where the name says nothing."""
@@ -140,7 +151,7 @@ class Expressions(Annotations):
             return result
         place = self.attribute_place(function) if owner else None
         values = self.member(owner, function.attr, place) if place is not None else NOTHING
-        self.arguments(node)
+        self.arguments(node, values)
         result = self.call(values)
         if owner:
             if function.attr in GIVING:

@@ -18,8 +18,9 @@ OWN, OWN_VALUE, BODY, BODY_VALUE, INHERITED = 7, 6, 5, 4, 1
 # The precedences of what a module has, and of the module before another's entry for it as a member of its package.
 MEMBER, MEMBER_VALUE = 1, 0
 
-# The symbols of structure: a member of, what a call gives, what a subscript and what iterating gives.
-DOT, CALL, ITEM, EACH = ".", "()", "[]", "*"
+# The symbols of structure: a member of, what a call gives, what a subscript and what iterating gives, and a parameter
+# of, by its name.
+DOT, CALL, ITEM, EACH, PARAMETER = ".", "()", "[]", "*", "="
 
 
 class State:
@@ -45,6 +46,8 @@ class State:
         # The scope of members that a value has, where the class is known.
         self.scopes: Dict[int, int] = {}
         self.classes: Dict[int, ClassParts] = {}
+        # For the node that a function's calls lead to, the one from which its parameters are looked up by name.
+        self.by_name: Dict[int, int] = {}
         # Names of the module that functions bind by `global`: the scopes of their definitions and of their values.
         self.shared: Dict[str, Tuple[int, int]] = {}
         self.evaluators: Dict[type, Callable[..., Values]] = {}
