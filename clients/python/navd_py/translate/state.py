@@ -199,9 +199,7 @@ class State:
         sources = self.sources(values)
         line, start, end = place
         node = self.graph.reference(name, line, start, end, sources)
-        for source in sources:
-            if source in self.graph.members:
-                self.graph.asked[node] = name
+        self.graph.pushes[node] = name
         return (node,)
 
     def member_value(self, values: Values, name: str) -> Values:
@@ -209,11 +207,7 @@ class State:
         if not values:
             return NOTHING
         sources = self.sources(values)
-        node = self.graph.pushed(name, tuple(sources))
-        for source in sources:
-            if source in self.graph.members:
-                self.graph.asked[node] = name
-        return (node,)
+        return (self.graph.pushed(name, tuple(sources)),)
 
     # -- modules ----------------------------------------------------------------------------------
 
