@@ -218,7 +218,9 @@ class Graph:
                     inherited.append(sink)
         return inherited
 
-    def _written_edges(self, order: List[int], number: Dict[int, int], useful: List[bool], met: List[bool]) -> List[str]:
+    def _written_edges(
+        self, order: List[int], number: Dict[int, int], useful: List[bool], met: List[bool]
+    ) -> List[str]:
         edges: List[str] = []
         append = edges.append
         out, ranked = self.out, self.ranked

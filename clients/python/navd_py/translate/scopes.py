@@ -3,13 +3,13 @@
 from __future__ import annotations
 
 import ast
-from typing import Callable, List, Optional, Sequence, Set, Tuple, TypeVar, Union
+from typing import Callable, List, Optional, Sequence, Tuple, TypeVar, Union
 
 from .annotations import last_name, parts_of
-from .bindings import DEFINED, VARIABLE, Attribute, Bound, ClassParts, Frame, Names, meeting, merged
-from .expressions import all_arguments
-from .graph import NOTHING, Values, joined
+from .bindings import DEFINED, VARIABLE, Attribute, Bound, ClassParts, Frame, meeting
+from .graph import NOTHING, Values
 from .imports import Imports
+from .inner import all_arguments
 from .places import Place
 from .state import BODY, BODY_VALUE, CALL, DOT, EACH, INHERITED, ITEM, OWN, OWN_VALUE, PARAMETER
 
@@ -115,7 +115,9 @@ class Scopes(Imports):
         graph = self.graph
         scope = graph.cut_scope()
         dot = graph.pop(DOT, (scope,))
-        special = any(isinstance(part, (ast.FunctionDef, ast.AsyncFunctionDef)) and part.name in SPECIAL for part in node.body)
+        special = any(
+            isinstance(part, (ast.FunctionDef, ast.AsyncFunctionDef)) and part.name in SPECIAL for part in node.body
+        )
         instance = graph.scope((dot,)) if special else dot
         value = graph.scope((dot, graph.pop(CALL, (instance,)), self.fields(node, scope)))
         inherited = graph.cut_scope()
@@ -250,7 +252,12 @@ class Scopes(Imports):
         return found
 
     def body(
-        self, node: Function, call: int, home: Frame, decorators: Sequence[str], defaults: Sequence[Tuple[ast.arg, Values]]
+        self,
+        node: Function,
+        call: int,
+        home: Frame,
+        decorators: Sequence[str],
+        defaults: Sequence[Tuple[ast.arg, Values]],
     ) -> None:
         """Goes through the text of a function, once the text around it is."""
         told = self.within(home, lambda: self.signature(node, decorators, defaults))

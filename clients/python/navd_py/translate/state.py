@@ -3,9 +3,9 @@
 from __future__ import annotations
 
 import ast
-from typing import Callable, Dict, List, Optional, Sequence, Set, Tuple
+from typing import Callable, Dict, List, Optional, Tuple
 
-from .bindings import DEFINED, IMPORTED, VARIABLE, Attribute, Bound, ClassParts, Frame, Names, merged
+from .bindings import IMPORTED, VARIABLE, Bound, ClassParts, Frame, Names, merged
 from .graph import MOST_VALUES, NOTHING, ROOT, Graph, Values, joined
 from .modules import Asking
 from .places import Lines, Place
@@ -139,7 +139,27 @@ class State:
             for value in bound.values:
                 self.graph.edge(values, value)
 
+    # -- places -----------------------------------------------------------------------------------
+
+    def place_of(self, node: ast.Name) -> Place:
+        return node.lineno - 1, node.col_offset, node.end_col_offset or node.col_offset
+
+    def attribute_place(self, node: ast.Attribute) -> Optional[Place]:
+        line, end = (node.end_lineno or node.lineno) - 1, node.end_col_offset or 0
+        name = node.attr
+        if name.isascii():
+            return line, end - len(name), end
+        return self.lines.ending(line, end, name)
+
     # -- values -----------------------------------------------------------------------------------
+
+    def assign(self, target: ast.expr, values: Values) -> None:
+        """Binds what a target names to these values."""
+        raise NotImplementedError
+
+    def arguments(self, node: ast.Call, function: Values = NOTHING) -> List[Values]:
+        """Goes through the arguments of a call of these values, and answers those without a name."""
+        raise NotImplementedError
 
     def value(self, node: ast.expr) -> Values:
         """Goes through an expression and answers its value."""
@@ -214,7 +234,7 @@ class State:
     def module_value(self, name: str) -> Values:
         return (self.graph.pushed(name, (ROOT,)),)
 
-    def members_of(self, scope: int, names: Names, definition: int, value: int, parts: Sequence[str] = ()) -> None:
+    def members_of(self, scope: int, names: Names, definition: int, value: int) -> None:
         """Makes the names of a frame members of a scope, by the precedences of definitions and values."""
         graph = self.graph
         known = graph.members.setdefault(scope, {})
