@@ -188,7 +188,8 @@ class Project:
             return path, "", None, (told.line, told.column, told.message)
         key = self._key(path, text)
         entry = entry_for(text, Asking(self.modules, path))
-        if self.cache is not None:
+        # What an editor has open changes with each key, and isn't kept.
+        if self.cache is not None and path not in self._set:
             self.cache.keep(key, entry)
         return path, key, entry, (0, 0, "")
 
