@@ -142,7 +142,8 @@ class Folder:
             raise Unanswerable(f"{point.path} has {len(lines)} lines, none of number {point.line}")
         text = lines[point.line - 1]
         if not 1 <= point.column <= len(text) + 1:
-            raise Unanswerable(f"line {point.line} of {point.path} has {len(text)} characters, none of number {point.column}")
+            where = f"line {point.line} of {point.path}"
+            raise Unanswerable(f"{where} has {len(text)} characters, none of number {point.column}")
         column = len(text[: point.column - 1].encode("utf-8", "replace"))
         return {"do": do, "path": graph_path(point.path), "line": point.line - 1, "column": column}
 
@@ -297,8 +298,9 @@ def check(folder: Folder, prefix: str, as_json: bool) -> int:
             print(f"{at['path']}:{at['line']}:{at['column']}: {fault['name']}: {fault['fault']}")
         modules = len({fault["at"]["path"] for fault in faults})
         print(
-            f"{counts['names']} names in {len(chosen)} files: {counts['found']} with definitions, {counts['none']} without,"
-            f" {counts['crowded']} crowded and {counts['limited']} limited in {modules} modules;"
+            f"{counts['names']} names in {len(chosen)} files: {counts['found']} with definitions,"
+            f" {counts['none']} without, {counts['crowded']} crowded and {counts['limited']} limited"
+            f" in {modules} modules;"
             f" {len(folder.left_out)} files left out"
         )
     return NOTHING if faults else FOUND
@@ -341,9 +343,10 @@ def parser() -> argparse.ArgumentParser:
     words.add_argument("question", choices=("define", "references", "uses", "check"))
     words.add_argument("place", nargs="?", help="PATH:LINE:COLUMN, of `uses` PATH, of `check` a prefix of paths")
     words.add_argument("--json", action="store_true", help="write one JSON object")
-    words.add_argument("--navd", metavar="PROGRAM", help="the program; else the environment variable NAVD, else from PATH")
-    words.add_argument("--root", action="append", default=[], metavar="PATH", help="a folder from which modules are named")
-    words.add_argument("--exclude", action="append", default=[], metavar="PATTERN", help="leave out, as of a .gitignore")
+    several: Dict[str, Any] = {"action": "append", "default": []}
+    words.add_argument("--navd", metavar="PROGRAM", help="else the environment variable NAVD says, or PATH")
+    words.add_argument("--root", metavar="PATH", help="a folder from which modules are named", **several)
+    words.add_argument("--exclude", metavar="PATTERN", help="leave out, as of a .gitignore", **several)
     words.add_argument("--no-cache", action="store_true", help="don't keep graphs in the user's cache folder")
     return words
 
@@ -353,7 +356,8 @@ def answer(given: argparse.Namespace) -> int:
     if not os.path.isdir(given.folder):
         raise Unanswerable(f"there is no folder {given.folder}")
     if given.place is None and given.question != "check":
-        raise Unanswerable(f"`{given.question}` needs a place: {'PATH' if given.question == 'uses' else 'PATH:LINE:COLUMN'}")
+        form = "PATH" if given.question == "uses" else "PATH:LINE:COLUMN"
+        raise Unanswerable(f"`{given.question}` needs a place: {form}")
     project = Project(given.folder, roots=given.root, excludes=given.exclude, cache=not given.no_cache)
     folder = Folder(project, given.navd)
     try:

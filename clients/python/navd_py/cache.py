@@ -117,7 +117,7 @@ def entry_of(data: bytes) -> Optional[Entry]:
         return Entry(
             None if head["source"] is None else source,
             None if fault is None else (int(fault[0]), int(fault[1]), str(fault[2])),
-            [(name, kind, (span[0], span[1], span[2], span[3]), inside) for name, kind, span, inside in head["defined"]],
+            [(name, kind, (at[0], at[1], at[2], at[3]), inside) for name, kind, at, inside in head["defined"]],
             {(kind, name): answer for kind, name, answer in head["asked"]},
         )
     except (ValueError, KeyError, TypeError, IndexError):

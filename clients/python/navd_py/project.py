@@ -18,7 +18,7 @@ from typing import Callable, Dict, Generator, Iterable, Iterator, List, Optional
 
 from .cache import Cache, Entry, key_of
 from .folders import Walker
-from .translate import Asking, Modules, Question, TooLarge, translate
+from .translate import Asking, Modules, TooLarge, translate
 
 # The line and the column of the start and of the end; lines count from 0, columns are UTF-8 bytes from 0.
 Span = Tuple[int, int, int, int]
@@ -81,7 +81,9 @@ class Translated:
 class Project:
     """The Python files below a folder. One thread at a time may use it."""
 
-    def __init__(self, folder: str, *, roots: Sequence[str] = (), excludes: Sequence[str] = (), cache: bool = True) -> None:
+    def __init__(
+        self, folder: str, *, roots: Sequence[str] = (), excludes: Sequence[str] = (), cache: bool = True
+    ) -> None:
         """`roots` are folders, relative to `folder`, from which modules are named; where there is none they are found:
         the folder itself, and `src` below it where that exists. `excludes` are patterns as of a `.gitignore`. With
         `cache` graphs are kept in the user's cache folder."""
@@ -186,7 +188,8 @@ class Project:
             return path, "", None, (told.line, told.column, told.message)
         key = self._key(path, text)
         entry = entry_for(text, Asking(self.modules, path))
-        if self.cache is not None:
+        # What an editor has open changes with each key, and isn't kept.
+        if self.cache is not None and path not in self._set:
             self.cache.keep(key, entry)
         return path, key, entry, (0, 0, "")
 

@@ -10,11 +10,13 @@ from unittest import mock
 
 from navd_py.keeper import Keeper
 from navd_py.lsp.documents import Document
+from navd_py.lsp.folder import Folder
 from navd_py.lsp.frames import BadFrame, Message, frame, read_messages
 from navd_py.lsp.places import character_of, column_of, word_at
 from navd_py.lsp.protocol import InvalidParams
 from navd_py.lsp.server import Options, Server
 from navd_py.lsp.uris import path_of, uri_below, uri_of
+from navd_py.project import Definition
 from navd_py.session import Session
 
 from lsp_client import Editor, ServerProcess, ServerThread
@@ -566,6 +568,23 @@ class Workspaces(ServerTest):
         kinds = [one["params"]["value"]["kind"] for one in editor.notifications if one["method"] == "$/progress"]
         self.assertEqual((kinds[0], kinds[-1], kinds.count("begin"), kinds.count("end")), ("begin", "end", 1, 1))
 
+    def test_an_import_waits_for_what_it_means(self) -> None:
+        main = self.write("a.py", "x\n")
+        for number in range(10):
+            self.write(f"m{number:02}.py", "pass\n")
+        self.write("z.py", "x = 1\n")
+        imported = (Definition("x", "import", (0, 0, 0, 1), ""),)
+        with mock.patch.object(StandIn, "seconds_a_file", 0.02), mock.patch.object(Folder, "definitions_at") as at:
+            at.side_effect = lambda path, line, column: imported if path == "a.py" else ()
+            editor = self.start()
+            editor.initialize([self.folder])
+            uri = editor.open(main)
+            self.assertEqual(editor.definition(uri, 0, 0), ["z.py:0:0"])
+            os.remove(os.path.join(self.folder, "z.py"))
+            gone = {"uri": uri_of(os.path.join(self.folder, "z.py")), "type": 3}
+            editor.notify("workspace/didChangeWatchedFiles", {"changes": [gone]})
+            editor.wait_for(lambda: editor.definition(uri, 0, 0) == ["a.py:0:0"])
+
     def test_progress_is_not_wanted(self) -> None:
         for number in range(20):
             self.write(f"m{number:02}.py", "pass\n")
@@ -646,6 +665,7 @@ class Box:
             names = [one["name"] for one in tree[0]["children"]]
             self.assertEqual(names, ["limit", "__init__", "size", "area"])
             self.assertEqual([one["name"] for one in editor.ask("workspace/symbol", {"query": "are"})], ["area"])
+            self.assertEqual(editor.definition(main, 0, 22), ["tools.py:3:6"])
             editor.change(main, "x = (\n" + self.FILES["main.py"])
             self.assertEqual(editor.definition(main, 6, 24), ["tools.py:11:8"])
             self.assertEqual(editor.references(tools, 11, 8), ["main.py:6:23"])

@@ -154,6 +154,16 @@ class Members(Marked):
         )
         self.ask({"m.py": text})
 
+    def test_names_of_arguments(self) -> None:
+        text = (
+            "from lib import g, D\ndef f(<x|x>, *<y|y>, <z|z>=1, **<w|w>): pass\nclass C:\n    def __init__(self, <a|a>): pass\n"
+            "    def m(self, <b|b>): pass\n    @classmethod\n    def k(cls, <c|c>): pass\nclass B(C): pass\n"
+            "f(<?x|x>=1, <?z|z>=2, <?|w>=3, <?|y>=4)\nC(<?a|a>=1).m(<?b|b>=1)\nC.k(<?c|c>=1)\nB(<?a|a>=2)\n"
+            "g(<?p|p>=1, <?|q>=2)\nD(<?n|n>=1)\nprint(<?|end>='')\n"
+        )
+        lib = "from dataclasses import dataclass\ndef g(<p|p>): return <?p|p>\n@dataclass\nclass D:\n    <n|n>: int\n"
+        self.ask({"m.py": text, "lib.py": lib})
+
     def test_cycles_of_values_are_no_paths(self) -> None:
         text = (
             "class A:\n    def __init__(self, o):\n        self.<a|a> = o\n        self.<b|b> = self.<?a|a>.<?|x>\n"

@@ -1,14 +1,15 @@
 #!/usr/bin/env python3
 """Compares what navd answers over the graphs of this package with jedi's answers, for names drawn by a seed.
 
-    python3 tools/measure.py FOLDER [--names N] [--seed S] [--only PREFIX] [--show K] [--all] [--references N] [--navd PROGRAM]
+    python3 tools/measure.py FOLDER [--names N] [--seed S] [--only PREFIX] [--show K] [--all] [--references N]
 
 FOLDER is a folder of packages, such as a copy of some of `site-packages`. A name is asked of jedi by `goto`, following
 imports; it counts where jedi gives exactly one place and this lies inside the folder. `exact` are those for which navd
 has exactly that row, `contains` those where it has it among others, `wrong` those with other rows alone.
 
 With --references who refers to so many definitions is compared likewise, place by place; columns of jedi are taken as
-they are, so a line with text past ASCII may differ. With --all every reference of the folder is asked of navd besides, and how many are crowded or limited is told.
+they are, so a line with text past ASCII may differ. With --all every use in the folder is asked of navd besides, and
+how many are crowded or limited is told.
 jedi has to be installed; it is no part of this package.
 """
 
@@ -178,9 +179,10 @@ class Answers:
         self.refused.extend((source_path(path), reason) for path, reason in self.keeper.refused.items())
 
     def define(self, names: List[Name]) -> List[Dict[str, object]]:
-        return self.keeper.ask(
-            [{"do": "define", "path": graph_path(name.path), "line": name.line, "column": name.column} for name in names]
-        )
+        return self.keeper.ask([self.request(name) for name in names])
+
+    def request(self, name: Name) -> Dict[str, object]:
+        return {"do": "define", "path": graph_path(name.path), "line": name.line, "column": name.column}
 
 
 def drawn_definitions(answers: Answers, only: str, count: int, seed: int) -> List[Tuple[str, Definition]]:
@@ -294,7 +296,8 @@ def ask_all(answers: Answers, names: List[Name]) -> None:
             counts["limited"] += 1
         if reply.get("limit") or state == "crowded":
             modules[name.path] += 1
-    print(f"all uses: {dict(counts)} in {time.monotonic() - started:.1f} s; limited or crowded in {modules.most_common(8)}")
+    print(f"all uses: {dict(counts)} in {time.monotonic() - started:.1f} s")
+    print(f"limited or crowded in {modules.most_common(8)}")
 
 
 def kept_places(folder: str, names: List[Name], kept: Optional[str]) -> Dict[Name, Optional[List[Where]]]:
@@ -326,7 +329,7 @@ def compare(answers: Answers, folder: str, chosen: List[Name], show: int, kept: 
     for name, reply in zip(chosen, replies):
         places = told[name]
         if places is None or len(set(places)) != 1 or not places[0][0]:
-            group = "jedi fails" if places is None else "none" if not places else "outside" if not places[0][0] else "several"
+            group = group_of(places)
             rows = "rows" if rows_of(reply) else str(reply.get("error", "none"))
             others[f"{group}: {'none' if rows == 'no_reference' else rows}"] += 1
             continue
@@ -343,6 +346,15 @@ def compare(answers: Answers, folder: str, chosen: List[Name], show: int, kept: 
         counts = table[kind]
         print(f"{kind:26}{sum(counts.values()):6}" + "".join(f"{counts[head]:10}" for head in heads))
     print(f"jedi gives not exactly one place inside: {dict(others)}")
+
+
+def group_of(places: Optional[List[Where]]) -> str:
+    """Why what jedi gives doesn't count."""
+    if places is None:
+        return "jedi fails"
+    if not places:
+        return "none"
+    return "several" if places[0][0] else "outside"
 
 
 def shown(place: Where) -> str:

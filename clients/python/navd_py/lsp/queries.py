@@ -38,14 +38,15 @@ class Queries:
         self.warn = warn
         self._has_callers: Optional[bool] = None
 
-    def definition(self, name: Name) -> List[Dict[str, Any]]:
-        """The locations at which a name is defined; of a name that is a definition alone, its own. Raises
-        ResponseError."""
+    def definition(self, name: Name, is_read: bool = True) -> List[Dict[str, Any]]:
+        """The locations at which a name is defined; of a name that is a definition alone, its own. Where not all files
+        are read yet an import isn't its own definition: what it means may still come. Raises ResponseError."""
         reply = self._ask(name.folder, [_at("define", name)])[0]
         places = _places(name.folder, reply)
         if reply.get("error") == "crowded":
             raise ResponseError(REQUEST_FAILED, CROWDED_DEFINITION)
-        places = places or [place for place, _ in self._own(name)]
+        own = [place for place, one in self._own(name) if is_read or one.kind != "import"]
+        places = places or own
         return [self.workspace.location(name.folder, *place) for place in places]
 
     def references(self, name: Name, with_declarations: bool, check: Callable[[], None]) -> List[Dict[str, Any]]:

@@ -262,7 +262,6 @@ class Server:
         self.loadings.clear()
         self.watches.clear()
         self._to_load.clear()
-        self.keeper.close()
         self.is_shut_down = True
 
     # Folders
@@ -359,9 +358,10 @@ class Server:
         name = self._name(params)
         if name is None:
             return []
-        found = self.queries.definition(name)
+        is_read = not self._is_reading()
+        found = self.queries.definition(name, is_read)
         check()
-        return found if found or not self._is_reading() else _LATER
+        return found if found or is_read else _LATER
 
     def _references(self, params: Any, check: Callable[[], None]) -> Any:
         name = self._name(params)

@@ -16,7 +16,7 @@ from .state import DOT, MEMBER, MEMBER_VALUE, Defined
 from .statements import Statements
 
 # Raised with each change of what a text's graph is, so that graphs kept by earlier ones are not taken.
-VERSION = 3
+VERSION = 5
 # How deep expressions may nest here: a call for each level, and some more.
 RECURSION = 3_000
 GLOBAL = re.compile(r"^\s+global\s", re.MULTILINE)
@@ -60,6 +60,7 @@ class Translation(Statements):
     def add_shared(self) -> None:
         """Makes what functions bind by `global` names of the module."""
         for name, (definitions, values) in self.shared.items():
+            self.graph.slots.add(values)
             bound = Bound(self.order, VARIABLE, (definitions,), (values,))
             before = self.names.get(name)
             self.names[name] = bound if before is None else merged(before, bound)

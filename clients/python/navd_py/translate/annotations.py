@@ -17,8 +17,9 @@ ONE_OF = frozenset(
 LAST_OF = frozenset(["Coroutine"])
 CLASS_OF = frozenset(["Type", "type"])
 LISTS = frozenset(
-    "List list Set set FrozenSet frozenset Sequence MutableSequence Iterable Iterator Collection Container Deque deque"
-    " Generator AsyncIterator AsyncIterable AsyncGenerator AbstractSet MutableSet KeysView ValuesView Reversible".split()
+    "List list Set set FrozenSet frozenset Sequence MutableSequence Iterable Iterator Collection Container Deque"
+    " deque Generator AsyncIterator AsyncIterable AsyncGenerator AbstractSet MutableSet KeysView ValuesView"
+    " Reversible".split()
 )
 MAPPINGS = frozenset(
     "Dict dict Mapping MutableMapping DefaultDict defaultdict OrderedDict ChainMap WeakValueDictionary".split()

@@ -18,7 +18,12 @@ MOST_NODES = 16_384
 MOST_EDGES = 65_536
 MOST_BYTES = 1_048_576
 
+# How far values are followed to find those that lead back to themselves: steps, and symbols that are open.
+MOST_STEPS = 200
+MOST_SYMBOLS = 8
+
 Values = Tuple[int, ...]
+Symbols = Tuple[str, ...]
 NOTHING: Values = ()
 
 
@@ -51,9 +56,9 @@ class Graph:
         self.references: List[int] = []
         # The nodes whose edges say what a name, an attribute or a call has as its value.
         self.slots: Set[int] = set()
-        # The symbol that a node asks a scope of members for, by node and scope.
-        self.asked: Dict[int, str] = {}
-        # What a scope of members has by symbol, for finding cycles.
+        # The symbols that nodes push and pop, and what scopes of members have by symbol: for finding cycles.
+        self.pushes: Dict[int, str] = {}
+        self.pops: Dict[int, str] = {}
         self.members: Dict[int, Dict[str, List[int]]] = {}
         self.shared: Dict[Tuple[str, Values], int] = {}
 
@@ -71,10 +76,14 @@ class Graph:
         return self.node('{"exported":true,"kind":"scope"}', sinks)
 
     def pop(self, symbol: str, sinks: Iterable[int] = ()) -> int:
-        return self.node('{"kind":"pop","symbol":%s}' % written_symbol(symbol), sinks)
+        number = self.node('{"kind":"pop","symbol":%s}' % written_symbol(symbol), sinks)
+        self.pops[number] = symbol
+        return number
 
     def push(self, symbol: str, sinks: Iterable[int] = ()) -> int:
-        return self.node('{"kind":"push","symbol":%s}' % written_symbol(symbol), sinks)
+        number = self.node('{"kind":"push","symbol":%s}' % written_symbol(symbol), sinks)
+        self.pushes[number] = symbol
+        return number
 
     def pushed(self, symbol: str, values: Values) -> int:
         """The one node that pushes the symbol onto what these values are asked."""
@@ -99,6 +108,7 @@ class Graph:
             f'{{"definition":true,"kind":"pop","span":[{line},{start},{line},{end}],"symbol":"{name}"}}', sinks
         )
         self.definitions[number] = (line, start)
+        self.pops[number] = name
         return number
 
     def module(self, symbol: str, sinks: Iterable[int]) -> int:
@@ -146,34 +156,71 @@ class Graph:
 
     def _cut_cycles(self) -> None:
         """Takes away the values of slots that lead back to their slot: following them only makes stacks grow."""
-        part = nodes_in_cycles(self.slots, self._following)
+        leads: Dict[int, List[Tuple[int, Set[int]]]] = {}
         for slot in self.slots:
-            group = part.get(slot)
-            if group is not None:
-                self.out[slot] = [sink for sink in self.out[slot] if part.get(sink) != group]
+            if self.out[slot]:
+                leads[slot] = [(sink, self._slots_from(sink)) for sink in self.out[slot]]
 
-    def _following(self, node: int) -> Iterable[int]:
-        """Where a path may go on from a node: of a scope of members only what was asked for."""
-        members = self.members
-        symbol = self.asked.get(node)
-        for sink in self.out[node]:
-            if sink == ROOT:
+        def following(slot: int) -> Iterable[int]:
+            return [other for _, others in leads.get(slot, ()) for other in others]
+
+        part = nodes_in_cycles(leads, following)
+        for slot, group in part.items():
+            self.out[slot] = [
+                sink for sink, others in leads[slot] if not any(part.get(other) == group for other in others)
+            ]
+
+    def _slots_from(self, start: int) -> Set[int]:
+        """The slots that a value asks by what it pushes itself, as far as this file tells."""
+        found: Set[int] = set()
+        begin: Tuple[int, Symbols] = (start, ())
+        seen = {begin}
+        waiting = [begin]
+        while waiting and len(seen) < MOST_STEPS:
+            node, symbols = waiting.pop()
+            if node == ROOT:
                 continue
-            if sink not in members:
-                yield sink
-            elif symbol is not None:
-                yield from self._found(sink, symbol, 0)
+            popped = self.pops.get(node)
+            if popped is not None:
+                if not symbols or symbols[0] != popped:
+                    continue
+                symbols = symbols[1:]
+                if node in self.slots:
+                    found.add(node)
+            elif node in self.pushes:
+                symbols = (self.pushes[node],) + symbols
+                if len(symbols) > MOST_SYMBOLS:
+                    continue
+            elif node in self.slots:
+                found.add(node)
+            if node in self.members:
+                sinks: Iterable[int] = self._found(node, symbols[0], 0) if symbols else ()
+            else:
+                sinks = self.out[node]
+            for sink in sinks:
+                step = (sink, symbols)
+                if step not in seen:
+                    seen.add(step)
+                    waiting.append(step)
+        return found
 
-    def _found(self, scope: int, symbol: str, depth: int) -> Iterable[int]:
+    def _found(self, scope: int, symbol: str, depth: int) -> List[int]:
+        """What a scope of members has under a symbol: its own, else what it inherits, in this file or by way of it."""
         found = self.members[scope].get(symbol)
         if found:
-            yield from found
-        elif depth < 8:
+            return found
+        inherited: List[int] = []
+        if depth < 8:
             for sink, _ in self.ranked.get(scope, ()):
                 if sink in self.members:
-                    yield from self._found(sink, symbol, depth + 1)
+                    inherited.extend(self._found(sink, symbol, depth + 1))
+                elif sink in self.pushes:
+                    inherited.append(sink)
+        return inherited
 
-    def _written_edges(self, order: List[int], number: Dict[int, int], useful: List[bool], met: List[bool]) -> List[str]:
+    def _written_edges(
+        self, order: List[int], number: Dict[int, int], useful: List[bool], met: List[bool]
+    ) -> List[str]:
         edges: List[str] = []
         append = edges.append
         out, ranked = self.out, self.ranked

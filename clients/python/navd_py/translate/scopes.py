@@ -3,15 +3,15 @@
 from __future__ import annotations
 
 import ast
-from typing import Callable, List, Optional, Sequence, Set, Tuple, TypeVar, Union
+from typing import Callable, List, Optional, Sequence, Tuple, TypeVar, Union
 
 from .annotations import last_name, parts_of
-from .bindings import DEFINED, VARIABLE, Attribute, Bound, ClassParts, Frame, Names, meeting, merged
-from .expressions import all_arguments
-from .graph import NOTHING, Values, joined
+from .bindings import DEFINED, VARIABLE, Attribute, Bound, ClassParts, Frame, meeting
+from .graph import NOTHING, Values
 from .imports import Imports
+from .inner import all_arguments
 from .places import Place
-from .state import BODY, BODY_VALUE, CALL, DOT, EACH, INHERITED, ITEM, OWN, OWN_VALUE
+from .state import BODY, BODY_VALUE, CALL, DOT, EACH, INHERITED, ITEM, OWN, OWN_VALUE, PARAMETER
 
 Function = Union[ast.FunctionDef, ast.AsyncFunctionDef]
 Result = TypeVar("Result")
@@ -115,9 +115,11 @@ class Scopes(Imports):
         graph = self.graph
         scope = graph.cut_scope()
         dot = graph.pop(DOT, (scope,))
-        special = any(isinstance(part, (ast.FunctionDef, ast.AsyncFunctionDef)) and part.name in SPECIAL for part in node.body)
+        special = any(
+            isinstance(part, (ast.FunctionDef, ast.AsyncFunctionDef)) and part.name in SPECIAL for part in node.body
+        )
         instance = graph.scope((dot,)) if special else dot
-        value = graph.scope((dot, graph.pop(CALL, (instance,))))
+        value = graph.scope((dot, graph.pop(CALL, (instance,)), self.fields(node, scope)))
         inherited = graph.cut_scope()
         graph.members[scope] = {}
         graph.members[inherited] = {}
@@ -133,6 +135,16 @@ class Scopes(Imports):
         self.scopes[instance] = scope
         self.scopes[inherited] = inherited
         return parts
+
+    def fields(self, node: ast.ClassDef, scope: int) -> int:
+        """From where the names of arguments are looked up with which a class is called: among the parameters of its
+        `__init__`, or where it has none of its own and annotates names, as a data class does, among these too."""
+        graph = self.graph
+        ways = [graph.pushed(PARAMETER, (graph.pushed("__init__", (scope,)),))]
+        own = any(isinstance(part, ast.FunctionDef) and part.name == "__init__" for part in node.body)
+        if not own and any(isinstance(part, ast.AnnAssign) for part in node.body):
+            ways.append(scope)
+        return graph.pop(PARAMETER, ways)
 
     def rank_edge(self, source: int, sink: int, precedence: int) -> None:
         """An edge that is also followed where cycles are looked for."""
@@ -206,19 +218,20 @@ class Scopes(Imports):
         graph = self.graph
         call = graph.pop(CALL)
         graph.slots.add(call)
+        names = self.by_name[call] = graph.pop(PARAMETER)
         home_is_class = home.kind == "class"
         if place is not None:
             line, start, end = place
             self.told(node.name, "method" if home_is_class else "function", place)
             self.order += 1
-            if any(name in PROPERTIES for name in decorators):
+            if any(word in PROPERTIES for word in decorators):
                 definition = graph.definition(node.name, line, start, end)
                 self.put(node.name, Bound(self.order, VARIABLE, (definition,), self.call((call,))))
-            elif any(name in ACCESSORS for name in decorators) and node.name in self.names:
+            elif any(word in ACCESSORS for word in decorators) and node.name in self.names:
                 definition = graph.definition(node.name, line, start, end)
                 self.put(node.name, Bound(self.order, VARIABLE, (definition,), self.names[node.name].values))
             else:
-                definition = graph.definition(node.name, line, start, end, (call,))
+                definition = graph.definition(node.name, line, start, end, (call, names))
                 self.put(node.name, Bound(self.order, DEFINED, (definition,), (call,)))
         self.finishing(home).later.append(lambda: self.body(node, call, home, decorators, defaults))
 
@@ -239,7 +252,12 @@ class Scopes(Imports):
         return found
 
     def body(
-        self, node: Function, call: int, home: Frame, decorators: Sequence[str], defaults: Sequence[Tuple[ast.arg, Values]]
+        self,
+        node: Function,
+        call: int,
+        home: Frame,
+        decorators: Sequence[str],
+        defaults: Sequence[Tuple[ast.arg, Values]],
     ) -> None:
         """Goes through the text of a function, once the text around it is."""
         told = self.within(home, lambda: self.signature(node, decorators, defaults))
@@ -256,7 +274,7 @@ class Scopes(Imports):
             self.add_to(call, result)
         saved = self.frame, self.names, self.dead
         self.frame, self.names, self.dead = frame, {}, False
-        self.parameters(node, home, decorators, told[1])
+        self.parameters(node, home, decorators, told[1], self.by_name[call])
         self.block(node.body)
         self.go_on(frame)
         self.frame, self.names, self.dead = saved
@@ -292,13 +310,22 @@ class Scopes(Imports):
         result = self.instance_of(node.returns) if node.returns is not None else NOTHING
         return result, told
 
-    def parameters(self, node: Function, home: Frame, decorators: Sequence[str], told: Sequence[Tuple[ast.arg, Values]]) -> None:
+    def parameters(
+        self, node: Function, home: Frame, decorators: Sequence[str], told: Sequence[Tuple[ast.arg, Values]], names: int
+    ) -> None:
+        """Binds the parameters of a function; those that calls may name are found from `names`."""
         first = home.kind == "class" and "staticmethod" not in decorators
-        has_self = bool(getattr(node.args, "posonlyargs", None) or node.args.args)
+        unnamed = list(getattr(node.args, "posonlyargs", []))
+        has_self = bool(unnamed or node.args.args)
         for argument, values in told:
-            if first and has_self and home.owner is not None:
+            is_self = first and has_self and home.owner is not None
+            if is_self and home.owner is not None:
                 of_class = "classmethod" in decorators or node.name in OF_CLASS
                 values = values or ((home.owner.value,) if of_class else (home.owner.instance,))
                 self.frame.self_name = argument.arg
             first = False
-            self.bind(argument.arg, self.argument_place(argument), values, "parameter")
+            bound = self.bind(argument.arg, self.argument_place(argument), values, "parameter")
+            if bound is None or is_self or argument in unnamed:
+                continue
+            if argument is not node.args.vararg and argument is not node.args.kwarg:
+                self.graph.edge(names, bound.targets[0])

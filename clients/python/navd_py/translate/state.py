@@ -3,9 +3,9 @@
 from __future__ import annotations
 
 import ast
-from typing import Callable, Dict, List, Optional, Sequence, Set, Tuple
+from typing import Callable, Dict, List, Optional, Tuple
 
-from .bindings import DEFINED, IMPORTED, VARIABLE, Attribute, Bound, ClassParts, Frame, Names, merged
+from .bindings import IMPORTED, VARIABLE, Bound, ClassParts, Frame, Names, merged
 from .graph import MOST_VALUES, NOTHING, ROOT, Graph, Values, joined
 from .modules import Asking
 from .places import Lines, Place
@@ -18,8 +18,9 @@ OWN, OWN_VALUE, BODY, BODY_VALUE, INHERITED = 7, 6, 5, 4, 1
 # The precedences of what a module has, and of the module before another's entry for it as a member of its package.
 MEMBER, MEMBER_VALUE = 1, 0
 
-# The symbols of structure: a member of, what a call gives, what a subscript and what iterating gives.
-DOT, CALL, ITEM, EACH = ".", "()", "[]", "*"
+# The symbols of structure: a member of, what a call gives, what a subscript and what iterating gives, and a parameter
+# of, by its name.
+DOT, CALL, ITEM, EACH, PARAMETER = ".", "()", "[]", "*", "="
 
 
 class State:
@@ -45,6 +46,8 @@ class State:
         # The scope of members that a value has, where the class is known.
         self.scopes: Dict[int, int] = {}
         self.classes: Dict[int, ClassParts] = {}
+        # For the node that a function's calls lead to, the one from which its parameters are looked up by name.
+        self.by_name: Dict[int, int] = {}
         # Names of the module that functions bind by `global`: the scopes of their definitions and of their values.
         self.shared: Dict[str, Tuple[int, int]] = {}
         self.evaluators: Dict[type, Callable[..., Values]] = {}
@@ -136,7 +139,27 @@ class State:
             for value in bound.values:
                 self.graph.edge(values, value)
 
+    # -- places -----------------------------------------------------------------------------------
+
+    def place_of(self, node: ast.Name) -> Place:
+        return node.lineno - 1, node.col_offset, node.end_col_offset or node.col_offset
+
+    def attribute_place(self, node: ast.Attribute) -> Optional[Place]:
+        line, end = (node.end_lineno or node.lineno) - 1, node.end_col_offset or 0
+        name = node.attr
+        if name.isascii():
+            return line, end - len(name), end
+        return self.lines.ending(line, end, name)
+
     # -- values -----------------------------------------------------------------------------------
+
+    def assign(self, target: ast.expr, values: Values) -> None:
+        """Binds what a target names to these values."""
+        raise NotImplementedError
+
+    def arguments(self, node: ast.Call, function: Values = NOTHING) -> List[Values]:
+        """Goes through the arguments of a call of these values, and answers those without a name."""
+        raise NotImplementedError
 
     def value(self, node: ast.expr) -> Values:
         """Goes through an expression and answers its value."""
@@ -196,9 +219,7 @@ class State:
         sources = self.sources(values)
         line, start, end = place
         node = self.graph.reference(name, line, start, end, sources)
-        for source in sources:
-            if source in self.graph.members:
-                self.graph.asked[node] = name
+        self.graph.pushes[node] = name
         return (node,)
 
     def member_value(self, values: Values, name: str) -> Values:
@@ -206,18 +227,14 @@ class State:
         if not values:
             return NOTHING
         sources = self.sources(values)
-        node = self.graph.pushed(name, tuple(sources))
-        for source in sources:
-            if source in self.graph.members:
-                self.graph.asked[node] = name
-        return (node,)
+        return (self.graph.pushed(name, tuple(sources)),)
 
     # -- modules ----------------------------------------------------------------------------------
 
     def module_value(self, name: str) -> Values:
         return (self.graph.pushed(name, (ROOT,)),)
 
-    def members_of(self, scope: int, names: Names, definition: int, value: int, parts: Sequence[str] = ()) -> None:
+    def members_of(self, scope: int, names: Names, definition: int, value: int) -> None:
         """Makes the names of a frame members of a scope, by the precedences of definitions and values."""
         graph = self.graph
         known = graph.members.setdefault(scope, {})

@@ -424,6 +424,5 @@ def is_starred(node: ast.expr) -> bool:
 def is_any(case: ast.AST) -> bool:
     """Whether a case takes whatever there is."""
     pattern = getattr(case, "pattern")
-    return (
-        pattern.__class__.__name__ == "MatchAs" and getattr(pattern, "pattern") is None and getattr(case, "guard") is None
-    )
+    is_name = pattern.__class__.__name__ == "MatchAs" and getattr(pattern, "pattern") is None
+    return is_name and getattr(case, "guard") is None
