@@ -24,7 +24,10 @@ QUIT = b'{"do":"quit"}\n'
 COMMIT = b'{"do":"commit","edits":[{"put":"a.py","text":"x = 1\\nx"}]}\n'
 DEFINE = b'{"do":"define","path":"a.py","line":1,"column":0}\n'
 ROWS = b'{"limit":false,"rows":[{"node":3,"path":"a.py","span":[0,0,0,1]}]}\n'
-CANT_SERVE = b"navd: the port can't be listened at, or a connection couldn't be accepted\n"
+# What standard error tells, each a line that begins so.
+LISTENS = b"navd: listening at 127.0.0.1:%d, doors: %d"
+CANT_LISTEN = b"navd: can't listen at 127.0.0.1:%d: "
+SERVED = b"navd: each door has had its connections"
 
 
 def version(number):
@@ -42,6 +45,7 @@ class Server:
 
     def __init__(self, doors, connections, port=None):
         self.port = port or free_port()
+        self.doors = doors
         words = [PROGRAM, "serve", str(self.port), str(doors), str(connections)]
         self.process = subprocess.Popen(words, stdin=subprocess.DEVNULL, stdout=subprocess.PIPE, stderr=subprocess.PIPE)
 
@@ -88,11 +92,17 @@ def closes(client):
     one.close()
 
 
-def ends(server, status, said=b""):
-    """The server ends with that status, and wrote nothing but that on standard error."""
-    found = server.ended()
-    if found != (status, b"", said):
-        raise Unwanted(f"the server ended with {found!r}")
+def ends(server, status, *told):
+    """The server ends with that status. On standard error it told where it listens, then what these pieces begin or end
+    lines of, and then that it served all."""
+    ended, wrote, said = server.ended()
+    wanted = [LISTENS % (server.port, server.doors), *told, SERVED] if status == 0 else told
+    lines = said.splitlines()
+    fits = len(lines) == len(wanted) and all(
+        line.startswith(piece) or line.endswith(piece) for line, piece in zip(lines, wanted)
+    )
+    if (ended, wrote) != (status, b"") or not fits:
+        raise Unwanted(f"the server ended with {(ended, wrote, said)!r}")
 
 
 def one_client():
@@ -129,7 +139,8 @@ def port_in_use():
     with socket.socket() as other:
         other.bind(("127.0.0.1", 0))
         other.listen()
-        ends(Server(1, 1, other.getsockname()[1]), 8, CANT_SERVE)
+        port = other.getsockname()[1]
+        ends(Server(1, 1, port), 8, CANT_LISTEN % port)
 
 
 def half_a_line():
@@ -161,7 +172,17 @@ def line_without_end():
     sender.start()
     asks(other, (HELLO, version(0)), (COMMIT, version(1)), (DEFINE, ROWS), (QUIT, b'{"ok":true}\n'))
     sender.join()
-    ends(server, 0)
+    ends(server, 0, b" was ended: a line has more than 8388608 bytes")
+
+
+def request_of_a_browser():
+    server = Server(1, 2)
+    one, replies = server.client()
+    one.sendall(b"POST / HTTP/1.1\r\nContent-Type: text/plain\r\n\r\n" + HELLO + COMMIT)
+    if replies.read() != b"":
+        raise Unwanted("a request of a browser was answered")
+    asks(server.client(), (HELLO, version(0)), (QUIT, b'{"ok":true}\n'))
+    ends(server, 0, b" was ended: it began as an HTTP request, of which nothing was carried out")
 
 
 def sends_long(one):
@@ -200,6 +221,7 @@ TABLE = [
     ("a client that is gone within a line", gone_within_a_line),
     (f"a line of {LONG:,} bytes without an end, beside another client", line_without_end),
     ("a client that never reads, beside another client", never_reads),
+    ("a browser's request, whose lines aren't carried out", request_of_a_browser),
 ]
 
 

@@ -5,7 +5,7 @@ usage: bench/users.py [--http-guard] [PROGRAM]     (crates/navd/out/navd, as `ma
 
 Each row is one thing that is tried, in a temporary folder. A row that goes otherwise is marked, and the script ends with
 1. What this machine can't try, for want of a shell or of a program that shows man pages, is told as not shown, and fails
-nothing. With --http-guard it is also tried that `navd serve` closes a connection which begins as an HTTP request.
+nothing.
 
 It needs `make` and Python's standard library alone.
 """
@@ -22,9 +22,8 @@ import tempfile
 import time
 
 TOP = os.path.abspath(os.path.join(os.path.dirname(os.path.abspath(__file__)), ".."))
-NAMED = [word for word in sys.argv[1:] if not word.startswith("-")]
+NAMED = sys.argv[1:]
 PROGRAM = os.path.abspath(NAMED[0] if NAMED else os.path.join(TOP, "crates", "navd", "out", "navd"))
-HTTP_GUARD = "--http-guard" in sys.argv[1:]
 SECONDS = 60
 LONGEST_CELL = 300
 
@@ -890,6 +889,7 @@ TABLE = [
     ("the man pages, installed and shown", man_pages),
     ("the systemd unit", unit),
     ("the completions", completions),
+    ("navd serve closes what begins as an HTTP request", http_guard),
 ]
 
 
@@ -905,8 +905,8 @@ def main():
     if not os.access(PROGRAM, os.X_OK):
         print(f"there is no program {PROGRAM}; `make build` leaves one at crates/navd/out/navd")
         return 1
-    wrong, table = 0, [*TABLE, *([("navd serve closes what begins as an HTTP request", http_guard)] if HTTP_GUARD else [])]
-    for what, row in table:
+    wrong = 0
+    for what, row in TABLE:
         try:
             verdict = carried_out(row) or "so it is"
         except NotShown as why:
@@ -914,7 +914,7 @@ def main():
         except (Unwanted, OSError, ValueError, subprocess.SubprocessError) as error:
             verdict, wrong = f"OTHERWISE: {str(error)[:400]}", wrong + 1
         print(f"{what:54} {verdict}", flush=True)
-    print(f"{len(table)} rows, {wrong} of them other than wanted")
+    print(f"{len(TABLE)} rows, {wrong} of them other than wanted")
     return 1 if wrong else 0
 
 
