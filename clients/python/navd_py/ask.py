@@ -380,7 +380,9 @@ def main(words: Optional[Sequence[str]] = None) -> int:
         if hasattr(stream, "reconfigure"):
             stream.reconfigure(errors="backslashreplace")
     try:
-        return answer(given)
+        status = answer(given)
+        sys.stdout.flush()
+        return status
     except (Unanswerable, Refused, NoProgram) as error:
         if given.json:
             print(json.dumps({"error": str(error)}, ensure_ascii=False))
@@ -389,6 +391,6 @@ def main(words: Optional[Sequence[str]] = None) -> int:
     except KeyboardInterrupt:
         return 130
     except BrokenPipeError:
-        # Whoever read the answer has enough.
-        sys.stderr.close()
+        # Whoever read the answer has enough; what is still to be written goes nowhere.
+        os.dup2(os.open(os.devnull, os.O_WRONLY), sys.stdout.fileno())
         return FOUND

@@ -140,6 +140,13 @@ class Asking(unittest.TestCase):
         top = os.path.join(os.path.dirname(os.path.abspath(__file__)), "..")
         done = subprocess.run(words, cwd=top, capture_output=True, text=True, check=False)
         self.assertEqual((done.returncode, done.stdout), (0, "pkg/tools.py:2:9: def size(self):\n"))
+        closed, writer = os.pipe()
+        os.close(closed)
+        words[5:7] = ["uses", "main.py"]
+        done = subprocess.run(words, cwd=top, stdout=writer, stderr=subprocess.PIPE, text=True, check=False)
+        os.close(writer)
+        self.assertNotIn("Traceback", done.stderr)
+        self.assertNotIn("Exception", done.stderr)
         done = subprocess.run([sys.executable, "-m", "navd_py", "nothing"], cwd=top, capture_output=True, text=True, check=False)
         self.assertEqual((done.returncode, done.stdout), (2, ""))
 
