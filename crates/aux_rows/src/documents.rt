@@ -21,7 +21,7 @@ struct Stated<'a> {
 }
 
 /// What a line says; its text has escapes where the word in front of it ends with a backslash.
-fn stated<'a>(alloc: Global, word: &str, line: &'a str) -> Result<Stated<'a>, TextFault> {
+fn stated_by<'a>(alloc: Global, word: &str, line: &'a str) -> Result<Stated<'a>, TextFault> {
     let Some((given, wanted)) = line.split_once(" => ") else {
         return Err(TextFault::Word);
     };
@@ -58,7 +58,7 @@ pub fn put_line<R: Threads + Wait + Sync>(
     line: &str,
     tally: &mut Tally,
 ) -> Result<(), TextFault> {
-    let stated = stated(alloc, word, line)?;
+    let stated = stated_by(alloc, word, line)?;
     let input = session(alloc, &stated)?;
     let came = written(rt, alloc, "run", &input)?;
     let wanted = format!(in alloc; "{HELLO}{}\n", stated.wanted)?;
@@ -86,7 +86,7 @@ pub fn document_line(
     line: &str,
     tally: &mut Tally,
 ) -> Result<(), TextFault> {
-    let stated = stated(alloc, word, line)?;
+    let stated = stated_by(alloc, word, line)?;
     let came = graph_of(alloc, &stated)?;
     tally.compare(alloc, name, line, stated.wanted.as_bytes(), &came)?;
     Ok(())

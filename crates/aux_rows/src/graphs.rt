@@ -38,7 +38,7 @@ struct Question<'a> {
 }
 
 /// The question of a text.
-fn question(alloc: Global, text: &str) -> Result<Question<'_>, TextFault> {
+fn question_of(alloc: Global, text: &str) -> Result<Question<'_>, TextFault> {
     let Some((graphs, rest)) = text.split_once(" within ") else {
         return Ok(Question {
             graphs: text,
@@ -199,7 +199,7 @@ pub fn graph_line<R: Threads + Wait + Sync>(
     let Some((asked, wanted)) = text.split_once(" => ") else {
         return Err(TextFault::Word);
     };
-    let question = question(alloc, asked)?;
+    let question = question_of(alloc, asked)?;
     let case = format!(in alloc; "{name}, {asked}")?;
     ask_each(rt, alloc, case.as_str(), &question, wanted, stored, tally)
 }

@@ -101,7 +101,7 @@ fn ask_definitions(alloc: Global, files: &[FileGraph], asked: &mut Asked) -> Res
 
 /// Asks each reference and each definition of the graphs in a session, and compares the replies with what the search
 /// of the whole graph tells.
-pub fn asked<R: Threads + Wait + Sync>(
+pub fn ask_all<R: Threads + Wait + Sync>(
     rt: &R,
     alloc: Global,
     name: &str,

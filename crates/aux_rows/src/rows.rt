@@ -3,7 +3,7 @@ use crate::asks::{ask_line, request_line};
 use crate::counts::Tally;
 use crate::documents::{document_line, put_line};
 use crate::graphs::{Stored, command_line, graph_line};
-use crate::in_sessions::asked;
+use crate::in_sessions::ask_all;
 use crate::lines::take_line;
 use crate::orders::alike;
 use crate::row::{Row, Way};
@@ -101,7 +101,7 @@ fn run_line<R: Threads + Wait + Sync>(
         "ask" => ask_line(rt, alloc, name, rest, tally),
         "request" => request_line(alloc, name, rest, tally),
         "alike" => alike(alloc, name, rest, tally),
-        "asked" => asked(rt, alloc, name, rest, tally),
+        "asked" => ask_all(rt, alloc, name, rest, tally),
         "command" => command_line(alloc, name, rest, tally),
         _ => take_line(alloc, row, line),
     }

@@ -113,7 +113,7 @@ fn written_at(alloc: Global, house: MemHouse) -> Result<Vec<Vec<u8>>, AllocError
 }
 
 /// What the row's command gives on this exchange, where a read gives and a write takes so many bytes at most.
-pub fn given<R: Threads + Wait + Sync>(
+pub fn given_by<R: Threads + Wait + Sync>(
     rt: &R,
     alloc: Global,
     row: &Row,

@@ -1,7 +1,7 @@
 //! The ways in which a row's input comes and its output goes, and what is to be written then.
 use crate::counts::Tally;
 use crate::row::{Exchange, Row};
-use crate::sessions::{Given, given, given_typed};
+use crate::sessions::{Given, given_by, given_typed};
 use std::alloc::{AllocError, Global};
 use std::sync::Wait;
 use std::thread::Threads;
@@ -90,7 +90,7 @@ fn whole_by<R: Threads + Wait + Sync>(
     let Some(exchange) = row.exchanges.first() else {
         return tally.differ(alloc, name, "it has no input");
     };
-    let given = given(rt, alloc, row, exchange, piece, row.takes.unwrap_or(piece))?;
+    let given = given_by(rt, alloc, row, exchange, piece, row.takes.unwrap_or(piece))?;
     let wanted = wanted(alloc, row, &given)?;
     tally.compare(alloc, name, case, &wanted, &came(alloc, &given)?)
 }
@@ -195,7 +195,7 @@ fn cut_at<R: Threads + Wait + Sync>(
     let case = format!(in alloc; "cut at byte {cut}")?;
     let input = exchange.input.get(..cut).unwrap_or(&[]);
     let cut_one = changed(alloc, input, Vec::new(alloc), Vec::new(alloc))?;
-    let given = given(rt, alloc, row, &cut_one, 4_096, 4_096)?;
+    let given = given_by(rt, alloc, row, &cut_one, 4_096, 4_096)?;
     let due = due(alloc, exchange, cut, true)?;
     let wanted = told(alloc, row.status, &due)?;
     tally.compare(alloc, name, case.as_str(), &wanted, &came(alloc, &given)?)
@@ -249,7 +249,7 @@ fn read_at<R: Threads + Wait + Sync>(
     let case = format!(in alloc; "failing read {read} of {piece} bytes")?;
     let failing = vec![in alloc; read]?;
     let failing_one = changed(alloc, &exchange.input, failing, Vec::new(alloc))?;
-    let given = given(rt, alloc, row, &failing_one, piece, 4_096)?;
+    let given = given_by(rt, alloc, row, &failing_one, piece, 4_096)?;
     let wanted = due_at_read(alloc, exchange, piece, read)?;
     tally.compare(alloc, name, case.as_str(), &wanted, &came(alloc, &given)?)
 }
@@ -313,7 +313,7 @@ fn write_at<R: Threads + Wait + Sync>(
     let case = format!(in alloc; "failing write {write} of {piece} bytes")?;
     let failing = vec![in alloc; write]?;
     let failing_one = changed(alloc, &exchange.input, Vec::new(alloc), failing)?;
-    let given = given(rt, alloc, row, &failing_one, 4_096, piece)?;
+    let given = given_by(rt, alloc, row, &failing_one, 4_096, piece)?;
     let wanted = due_at_write(alloc, &exchange.wanted, piece, write)?;
     tally.compare(alloc, name, case.as_str(), &wanted, &came(alloc, &given)?)
 }
