@@ -65,6 +65,9 @@ const TREE: &str =
 f0001.sg.json {"edges":[["root",0,0],[1,"root",0],["root",2,0],[2,3,0],[3,"root",0]],"nodes":[{"definition":true,"kind":"pop","symbol":"d1"},{"kind":"push","reference":true,"symbol":"a1"},{"kind":"pop","symbol":"a1"},{"kind":"push","symbol":"d1"}]}
 f0002.sg.json {"edges":[["root",0,0],[1,"root",0],["root",2,0],[2,3,0],[3,"root",0]],"nodes":[{"definition":true,"kind":"pop","symbol":"d2"},{"kind":"push","reference":true,"symbol":"a0"},{"kind":"pop","symbol":"a2"},{"kind":"push","symbol":"d1"}]}"#;
 
+/// As many bytes as a graph file may have.
+const MOST_BYTES: usize = 1_048_576;
+
 /// The text behind the path in `TREE`.
 fn text_at(path: &str) -> &'static str {
     for row in TREE.split('\n') {
@@ -80,13 +83,17 @@ fn text_at(path: &str) -> &'static str {
 /// Whether the file is that of the text, node by node, edge by edge and path by path, and the text the one that is
 /// printed of its graph.
 fn is_of_text(alloc: Global, file: &FilePaths, text: &str) -> Result<bool, Fail> {
-    let Ok(graph) = read_graph(alloc, text.as_bytes()) else {
+    let bytes = text.as_bytes();
+    if bytes.len() > MOST_BYTES {
+        return Ok(false);
+    }
+    let Ok(graph) = read_graph(alloc, bytes) else {
         return Ok(false);
     };
     let printed = print_graph(alloc, &graph)?;
     let paths = paths_of(alloc, graph)?;
     let same = format!(in alloc; "{file:?}")? == format!(in alloc; "{paths:?}")?;
-    Ok(same && printed.as_slice() == text.as_bytes())
+    Ok(same && printed.as_slice() == bytes)
 }
 
 /// The paths of the version's files, in order, each with a blank before it; behind one whose file isn't that of its text
