@@ -7,6 +7,7 @@ ghost use Rattle.std.specs.List.{prefix_len};
 ghost use Rattle.std.specs.List.Sorted.{IsPartitionedBy};
 ghost use Rattle.partial_path.specs.Keys.{IsByKey, key, key_cmp, key_size, rules_asking, slot_cmp, slot_of, texts};
 ghost use Rattle.partial_path.specs.Inside.{slot_side, is_before_slot, is_at_slot};
+ghost use Rattle.partial_path.specs.Starts.{rules_at};
 
 use crate::path::PartialPath;
 use crate::rule::Start;
@@ -59,7 +60,7 @@ fn texts_cmp(a: Option<&Symbol>, b: Option<&Symbol>) -> Ordering
         (None, None) => Ordering::Equal,
         (None, Some(_)) => Ordering::Less,
         (Some(_), None) => Ordering::Greater,
-        (Some(a), Some(b)) => a.as_bytes().cmp(b.as_bytes()),
+        (Some(a), Some(b)) => a.order(b),
     }
 }
 
@@ -103,7 +104,7 @@ fn symbol_at(symbols: &SymbolStack, count: usize, i: usize) -> Option<&Symbol>
 
 /// Where the paths stand that begin there and whose key is made of the texts of the stack's first symbols,
 /// so many of them: from which place on, and before which. The paths are in the order of their keys.
-pub fn run_asking(
+fn run_asking(
     paths: &[PartialPath],
     start: Start,
     symbols: &SymbolStack,
@@ -117,6 +118,27 @@ pub fn run_asking(
     let low = count_before(paths, start, symbols, count);
     let many = count_at(&paths[low..], start, symbols, count);
     (low, low + many)
+}
+
+/// The same, of paths whose start's run is known: it stands between those two places, and nothing else is
+/// looked at.
+pub fn run_within(
+    paths: &[PartialPath],
+    low: usize,
+    high: usize,
+    start: Start,
+    symbols: &SymbolStack,
+    count: usize,
+) -> (usize, usize)
+    requires order { IsByKey paths.now }
+    requires count { count ≤ key_size }
+    requires bounds { (low ≤ high) × (high ≤ length paths.now) }
+    requires starts { take (high - low) (drop low paths.now) ≡ rules_at start paths.now }
+    ensures run { take (result.1 - result.0) (drop result.0 paths.now) ≡ rules_asking start (take count (texts symbols.now)) paths.now }
+    ensures bounds { (result.0 ≤ result.1) × (result.1 ≤ length paths.now) }
+{
+    let (place, end) = run_asking(&paths[low..high], start, symbols, count);
+    (low + place, low + end)
 }
 
 /// How many of the paths, which are in the order of their keys, stand before that slot.

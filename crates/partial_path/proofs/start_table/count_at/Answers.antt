@@ -2,7 +2,7 @@ use Rattle.std.proofs.Common.{rules}
 use Rattle.std.proofs.lemmas.List.Sorted.{IsPartitionPoint-from_clause}
 use Rattle.partial_path.specs.Starts.{begins_at}
 use Rattle.partial_path.proofs.Halved.{prefix_from_point}
-use Rattle.partial_path.proofs.file_paths.count_at.Goals as goal
+use Rattle.partial_path.proofs.start_table.count_at.Goals as goal
 
 pub returns-clause-value : goal.returns-clause-value
 returns-clause-value c =
