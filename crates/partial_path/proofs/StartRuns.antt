@@ -1,5 +1,5 @@
 -- The run of a start among rules in order: told by the rules at its ends, and where what is asked of the start stands.
-use Rattle.std.proofs.Common.{◌≡◌, refl, sym, ◌∙◌, ap, ℕ, ◌+◌, ◌-◌, ◌<◌, ◌≤◌, ◌⊎◌, inl, inr, List, [], ◌∷◌, length, take, drop, get_or, Bool, true, false, cond, arith, min}
+use Rattle.std.proofs.Common.{◌≡◌, refl, sym, ◌∙◌, ap, ℕ, ◌+◌, ◌-◌, ◌<◌, ◌≤◌, inl, inr, List, [], ◌∷◌, length, take, drop, get_or, Bool, true, false, cond, arith, min}
 use Rattle.std.specs.Prelude.{filter}
 use Rattle.std.specs.Ordering.{ordering_index, is_lt, is_eq, is_gt}
 use Rattle.std.specs.declared.cmp.Ordering.{Ordering}
@@ -56,7 +56,7 @@ shifted rules low n p e rise within =
     ∙ ap (take (e - p)) (drop-drop p low rules)
     ∙ ap (λ m. take m (drop (low + p) rules)) (sym size)
 
-lt_index : (o : Ordering) → is_lt o ≡ true → ordering_index o ≡ 0
+pub lt_index : (o : Ordering) → is_lt o ≡ true → ordering_index o ≡ 0
 lt_index Less e = refl
 lt_index Equal e = absurd (false≢true e)
 lt_index Greater e = absurd (false≢true e)
@@ -66,7 +66,7 @@ index_lt Less e = refl
 index_lt Equal e = absurd (omega (arith, e))
 index_lt Greater e = absurd (omega (arith, e))
 
-index_eq : (o : Ordering) → ordering_index o ≡ 1 → is_eq o ≡ true
+pub index_eq : (o : Ordering) → ordering_index o ≡ 1 → is_eq o ≡ true
 index_eq Less e = absurd (omega (arith, e))
 index_eq Equal e = refl
 index_eq Greater e = absurd (omega (arith, e))

@@ -17,7 +17,7 @@ pub struct FilePaths {
     /// In the order of their starts, those of one start in the order of their keys.
     paths: Vec<PartialPath>,
     weight: u32,
-    /// Where the paths of each start stand.
+    /// Where the paths of each start and first symbol stand.
     starts: StartTable,
 }
 
@@ -44,8 +44,8 @@ impl FilePaths {
     ghost use Rattle.partial_path.specs.Offers.{offers_left};
 
     /// The paths of this file, sorted by their starts, and those of one start by their keys. It takes memory
-    /// for the sort by starts, which moves each path once, and for a table of two numbers a node that tells
-    /// where the paths of a start stand; where that is refused it does without.
+    /// for the sort by starts, which moves each path once, and for a table of two numbers a node and one a path
+    /// that tells where the paths of a start and a first symbol stand; where that is refused it does without.
     pub fn new(graph: FileGraph, mut paths: Vec<PartialPath>, weight: u32) -> FilePaths
         requires paths { IsPathSet graph paths.items }
         requires weight { IsWeight graph weight }
@@ -86,14 +86,15 @@ impl FilePaths {
     }
 
     /// The paths that begin there and whose key is made of the texts of the stack's first symbols, so many
-    /// of them, found by halving among those that begin there.
+    /// of them, found by halving among those that begin there, first over the heads of their first symbols.
     pub fn paths_asking(&self, start: Start, symbols: &SymbolStack, count: usize) -> &[PartialPath]
         requires { count ≤ key_size }
         ensures value { result.now ≡ rules_asking start (take count (texts symbols.now)) self.now.rules }
         ensures sets { AreFileRules self.now }
     {
-        let (low, high) = self.starts.run(self.paths.as_slice(), start);
-        let (place, end) = run_within(self.paths.as_slice(), low, high, start, symbols, count);
+        let run = self.starts.run(self.paths.as_slice(), start);
+        let heads = self.starts.heads(run.0, run.1);
+        let (place, end) = run_within(self.paths.as_slice(), heads, run, start, symbols, count);
         &self.paths.as_slice()[place..end]
     }
 

@@ -98,9 +98,10 @@ fn next_run<'a>(
     ensures start { IfSome result (λ found. found.1.start ≡ at.start) }
 {
     let most = KEY_SIZE.min(symbols.len());
-    let (low, high) = starts.run(paths, at.start);
+    let run = starts.run(paths, at.start);
+    let heads = starts.heads(run.0, run.1);
     for asked in at.asked..most + 1 {
-        let (place, end) = run_within(paths, low, high, at.start, symbols, asked);
+        let (place, end) = run_within(paths, heads, run, at.start, symbols, asked);
         if place < end {
             let after = FileOffers {
                 start: at.start,

@@ -10,15 +10,18 @@ ghost use Rattle.partial_path.specs.Starts.{IsByStart, begins_at, is_before, rul
 use crate::config::Spot;
 use crate::path::PartialPath;
 use crate::rule::Start;
+use crate::slots::first_head;
 use std::alloc::{AllocError, Global};
 use std::cmp::Ordering;
 
 /// How many of a file's paths stand before those of each start, by the start's place: first the references,
-/// then the root and the nodes. It has nothing where there was no memory for it.
+/// then the root and the nodes; and of each path the head of the first symbol that it asks for. It has nothing
+/// where there was no memory for it.
 #[derive(Debug, Drop)]
 pub struct StartTable {
     before: Vec<u32>,
     nodes: u32,
+    heads: Vec<u64>,
 }
 
 impl StartTable {
@@ -26,14 +29,29 @@ impl StartTable {
     ghost use Rattle.partial_path.specs.Starts.{IsByStart, rules_at};
 
     /// The table of these paths, which are in the order of their starts, of a file with so many nodes. It
-    /// takes memory for two numbers a node, and does without a table where that is refused.
+    /// takes memory for two numbers a node and one a path, and does without a table where that is refused.
     pub fn of(alloc: Global, paths: &[PartialPath], nodes: u32) -> StartTable {
-        match counts_of(alloc, paths, nodes) {
-            Ok(before) => StartTable { before, nodes },
-            Err(_) => StartTable {
-                before: Vec::new(alloc),
-                nodes,
-            },
+        let before = match counts_of(alloc, paths, nodes) {
+            Ok(before) => before,
+            Err(_) => Vec::new(alloc),
+        };
+        let heads = match heads_of(alloc, paths) {
+            Ok(heads) => heads,
+            Err(_) => Vec::new(alloc),
+        };
+        StartTable {
+            before,
+            nodes,
+            heads,
+        }
+    }
+
+    /// The heads of the first symbols of the paths between those two places; none where the table doesn't tell.
+    pub fn heads(&self, low: usize, high: usize) -> &[u64] {
+        if low <= high && high <= self.heads.len() {
+            &self.heads[low..high]
+        } else {
+            &[]
         }
     }
 
@@ -75,6 +93,15 @@ fn counts_of(alloc: Global, paths: &[PartialPath], nodes: u32) -> Result<Vec<u32
         before.resize(places, count_of(paths.len()))?;
     }
     Ok(before)
+}
+
+/// The heads of the paths' first symbols. The one error is want of memory.
+fn heads_of(alloc: Global, paths: &[PartialPath]) -> Result<Vec<u64>, AllocError> {
+    let mut heads = Vec::with_capacity(alloc, paths.len())?;
+    for path in paths {
+        heads.push(first_head(path))?;
+    }
+    Ok(heads)
 }
 
 /// The number as the table keeps it; its greatest number for one that is greater.
