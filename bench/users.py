@@ -306,7 +306,7 @@ def readme_in_neovim():
 
 def checkout(folder):
     """The parts of the repository that people use without a kit, in a folder, with the program on a path of its own."""
-    for part in ("Makefile", "README.md", "CHANGELOG.md", "docs", "examples", "share"):
+    for part in ("Makefile", "README.md", "CHANGELOG.md", "docs", "examples", "share", "clients"):
         source, target = os.path.join(TOP, part), os.path.join(folder, part)
         ignored = shutil.ignore_patterns("__pycache__")
         shutil.copytree(source, target, ignore=ignored) if os.path.isdir(source) else shutil.copy(source, target)
@@ -448,6 +448,40 @@ def ask_at_a_port(folder):
         other.asks('{"do":"hello","user":"operator"}', '{"version":1}')
     out, said = ran([*words, str(free_port()), folder, "define", "a.py:2:1"], 1)
     wanted("nobody answers at port" in said and not out, f"it says {said!r}")
+
+
+# The client for real projects, as the documents begin with it.
+
+
+def client_environment(folder):
+    """Where the client keeps nothing outside of the folder, and finds the program."""
+    if sys.version_info < (3, 9):
+        raise NotShown("the client needs Python 3.9")
+    return {**checkout(folder), "NAVD": PROGRAM, "PYTHONPATH": "clients/python", "XDG_CACHE_HOME": os.path.join(folder, "cache")}
+
+
+def client_asks(folder):
+    """The README's command for a folder of one's own answers, over the project of the examples."""
+    (words,) = re.findall(r"^NAVD=\S+ PYTHONPATH=clients/python (python3 .*)$", read(TOP, "README.md"), re.MULTILINE)
+    wanted(words.endswith(" ask ~/src/project define app/main.py:12:9"), f"it is another command: {words}")
+    question = words.replace("~/src/project", "examples/project").replace("app/main.py:12:9", "main.py:3:3").split()
+    out, _ = ran([sys.executable, *question[1:]], folder=folder, **client_environment(folder))
+    wanted(out == "pkg/tools.py:2:9: def size(self):\n", f"it answers {out!r}")
+
+
+def client_keeps_a_server(folder):
+    """The session beside `navd-py serve` that the guide for editors prints is answered so."""
+    guide = read(TOP, "docs", "EDITORS.md")
+    (session,) = re.findall(r"```text\n(\{.*?)```", guide, re.DOTALL)
+    lines, environment = session.splitlines(), client_environment(folder)
+    wanted("\nnavd-py serve examples/project --port 4711\n" in guide, "it prints another command")
+    with Server(2, 4) as server:
+        words = ["-m", "navd_py", "serve", "examples/project", "--port", str(server.port), "--once"]
+        _, said = ran([sys.executable, *words], folder=folder, **environment)
+        wanted("3 graphs committed, version 1" in said, f"it says {said!r}")
+        client = server.client()
+        for request, reply in zip(lines[::2], lines[1::2]):
+            client.asks(request, reply)
 
 
 # Each text is refused at its last line but those that are marked, for a construct with this name.
@@ -831,6 +865,10 @@ def archive(folder):
     prefix = os.path.join(folder, "prefix")
     make(os.path.join(away, inside), {}, "install", f"PREFIX={prefix}")
     wanted(files_below(prefix) == sorted(INSTALLED), f"it installs {files_below(prefix)}")
+    for words in (["examples/ask.py", "--navd", "./navd"], ["-m", "navd_py", "ask"]):
+        out, _ = ran([sys.executable, "-B", *words, "examples/project", "define", "main.py:3:3"], folder=os.path.join(away, inside),
+                     NAVD="./navd", PYTHONPATH="clients/python", XDG_CACHE_HOME=os.path.join(folder, "cache"))
+        wanted(out.startswith("pkg/tools.py:2:9"), f"{words} answer {out!r}")
     return os.path.basename(path)
 
 
@@ -937,6 +975,8 @@ TABLE = [
     ("ask.py: wrong programs", wrong_programs),
     ("ask.py: at a port", ask_at_a_port),
     ("ask.py: the construct that isn't read", constructs),
+    ("the client: the README's question", client_asks),
+    ("the client: a server kept at a folder", client_keeps_a_server),
     ("front.py: the sessions that the README prints", front_as_printed),
     ("front.py: in a network namespace", front_in_a_namespace),
     ("front.py: two users", front_with_two_users),
