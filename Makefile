@@ -72,13 +72,13 @@ install: $(PROGRAM)
 uninstall:
 	rm -f $(foreach file,$(INSTALLED),"$(DESTDIR)$(file)")
 
-# Leaves out/navd-VERSION-SYSTEM.tar.gz: the program with what `install` needs, the documents and the examples.
+# Leaves out/navd-VERSION-SYSTEM.tar.gz: the program with what `install` needs, the documents, the examples and the client.
 dist: $(PROGRAM)
 	rm -rf "out/$(ARCHIVE)"
 	install -d "out/$(ARCHIVE)"
 	install -m 755 $(PROGRAM) "out/$(ARCHIVE)/navd"
-	cp -R Makefile README.md CHANGELOG.md docs examples share "out/$(ARCHIVE)"
-	rm -rf "out/$(ARCHIVE)/examples/__pycache__"
+	cp -R Makefile README.md CHANGELOG.md docs examples share clients "out/$(ARCHIVE)"
+	find "out/$(ARCHIVE)" -name __pycache__ -prune -exec rm -rf {} +
 	tar -C out -czf "out/$(ARCHIVE).tar.gz" "$(ARCHIVE)"
 	rm -rf "out/$(ARCHIVE)"
 	@echo "out/$(ARCHIVE).tar.gz"

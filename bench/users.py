@@ -1,7 +1,7 @@
 #!/usr/bin/env python3
-"""Tries what users and operators meet: the printed sessions of the documents, the examples, the front, the installation.
+"""Tries what users and operators meet: the documents and their printed sessions, the examples, the installation.
 
-usage: bench/users.py [--http-guard] [PROGRAM]     (crates/navd/out/navd, as `make build` leaves it)
+usage: bench/users.py [PROGRAM]     (crates/navd/out/navd, as `make build` leaves it)
 
 Each row is one thing that is tried, in a temporary folder. A row that goes otherwise is marked, and the script ends with
 1. What this machine can't try, for want of a shell or of a program that shows man pages, is told as not shown, and fails
@@ -12,7 +12,9 @@ It needs `make` and Python's standard library alone.
 
 import json
 import os
+import pty
 import re
+import select
 import shutil
 import signal
 import socket
@@ -238,6 +240,48 @@ def cells():
     return f"{seen} cells"
 
 
+def sections_of_crates():
+    """The sections of crates.txt, each with its title up to its first stop and its crates in their order."""
+    sections = []
+    for paragraph in read(TOP, "crates.txt").split("\n\n")[1:]:
+        title = re.split(r"[.:;]", paragraph.lstrip("# "))[0]
+        sections.append((title, re.findall(r"^(\w+):", paragraph, re.MULTILINE)))
+    return [(title, crates) for title, crates in sections if not crates[0].startswith("aux_")]
+
+
+def crates_in_order():
+    """The README and the page on the layers show the crates in the sections of crates.txt, and in their order."""
+    sections, seen = sections_of_crates(), 0
+    proved = read(TOP, "README.md").split("\n## What is proved\n")[1].split("\n## ")[0]
+    shown = [part.split("\n", 1) for part in proved.split("\n### ")[1:]]
+    wanted([title for title, _ in shown][: len(sections)] == [title for title, _ in sections], "the README has other sections")
+    for (title, crates), (_, part) in zip(sections, shown):
+        rows = [re.findall(r"\[`(\w+)`\]", line.split(" | ")[0]) for line in part.splitlines() if line.startswith("| [")]
+        wanted(sorted(sum(rows, [])) == sorted(crates), f"the README has other crates in {title}")
+        firsts = [row[0] for row in rows]
+        wanted(firsts == [crate for crate in crates if crate in firsts], f"the README has another order in {title}")
+        seen += len(crates)
+    rows = re.findall(r"^\| ([^|]+) \| (`[^|]+) \|$", read(TOP, "docs", "ARCHITECTURE.md"), re.MULTILINE)
+    layers = [(re.split(r"[:;]", title)[0].lower(), re.findall(r"`(\w+)`", crates)) for title, crates in rows]
+    wanted(layers == [(title.lower(), crates) for title, crates in sections], "ARCHITECTURE.md shows them otherwise")
+    return f"{seen} crates"
+
+
+def files_named():
+    """Each file of the repository that a document names, by its path or its last part, is there."""
+    there, seen = set(), 0
+    for place, folders, names in os.walk(TOP):
+        folders[:] = [name for name in folders if name not in (".git", "out")]
+        there.update(os.path.join("/", os.path.relpath(os.path.join(place, name), TOP)) for name in names)
+    ends = {path[at:] for path in there for at in range(len(path)) if path[at] == "/"}
+    for path in documents():
+        for name in re.findall(r"`([\w./-]+\.(?:rt|antt|rows|sh))`", read(TOP, path)):
+            wanted(f"/{name}" in ends, f"{path} names {name}, which isn't there")
+            seen += 1
+    wanted(seen > 0, "no file was named")
+    return f"{seen} names"
+
+
 def readme_in_neovim():
     """The README's lines for Neovim answer as those of the editors' guide do."""
     if not shutil.which("nvim"):
@@ -262,7 +306,7 @@ def readme_in_neovim():
 
 def checkout(folder):
     """The parts of the repository that people use without a kit, in a folder, with the program on a path of its own."""
-    for part in ("Makefile", "README.md", "CHANGELOG.md", "docs", "examples", "share"):
+    for part in ("Makefile", "README.md", "CHANGELOG.md", "docs", "examples", "share", "clients"):
         source, target = os.path.join(TOP, part), os.path.join(folder, part)
         ignored = shutil.ignore_patterns("__pycache__")
         shutil.copytree(source, target, ignore=ignored) if os.path.isdir(source) else shutil.copy(source, target)
@@ -404,6 +448,40 @@ def ask_at_a_port(folder):
         other.asks('{"do":"hello","user":"operator"}', '{"version":1}')
     out, said = ran([*words, str(free_port()), folder, "define", "a.py:2:1"], 1)
     wanted("nobody answers at port" in said and not out, f"it says {said!r}")
+
+
+# The client for real projects, as the documents begin with it.
+
+
+def client_environment(folder):
+    """Where the client keeps nothing outside of the folder, and finds the program."""
+    if sys.version_info < (3, 9):
+        raise NotShown("the client needs Python 3.9")
+    return {**checkout(folder), "NAVD": PROGRAM, "PYTHONPATH": "clients/python", "XDG_CACHE_HOME": os.path.join(folder, "cache")}
+
+
+def client_asks(folder):
+    """The README's command for a folder of one's own answers, over the project of the examples."""
+    (words,) = re.findall(r"^NAVD=\S+ PYTHONPATH=clients/python (python3 .*)$", read(TOP, "README.md"), re.MULTILINE)
+    wanted(words.endswith(" ask ~/src/project define app/main.py:12:9"), f"it is another command: {words}")
+    question = words.replace("~/src/project", "examples/project").replace("app/main.py:12:9", "main.py:3:3").split()
+    out, _ = ran([sys.executable, *question[1:]], folder=folder, **client_environment(folder))
+    wanted(out == "pkg/tools.py:2:9: def size(self):\n", f"it answers {out!r}")
+
+
+def client_keeps_a_server(folder):
+    """The session beside `navd-py serve` that the guide for editors prints is answered so."""
+    guide = read(TOP, "docs", "EDITORS.md")
+    (session,) = re.findall(r"```text\n(\{.*?)```", guide, re.DOTALL)
+    lines, environment = session.splitlines(), client_environment(folder)
+    wanted("\nnavd-py serve examples/project --port 4711\n" in guide, "it prints another command")
+    with Server(2, 4) as server:
+        words = ["-m", "navd_py", "serve", "examples/project", "--port", str(server.port), "--once"]
+        _, said = ran([sys.executable, *words], folder=folder, **environment)
+        wanted("3 graphs committed, version 1" in said, f"it says {said!r}")
+        client = server.client()
+        for request, reply in zip(lines[::2], lines[1::2]):
+            client.asks(request, reply)
 
 
 # Each text is refused at its last line but those that are marked, for a construct with this name.
@@ -787,6 +865,10 @@ def archive(folder):
     prefix = os.path.join(folder, "prefix")
     make(os.path.join(away, inside), {}, "install", f"PREFIX={prefix}")
     wanted(files_below(prefix) == sorted(INSTALLED), f"it installs {files_below(prefix)}")
+    for words in (["examples/ask.py", "--navd", "./navd"], ["-m", "navd_py", "ask"]):
+        out, _ = ran([sys.executable, "-B", *words, "examples/project", "define", "main.py:3:3"], folder=os.path.join(away, inside),
+                     NAVD="./navd", PYTHONPATH="clients/python", XDG_CACHE_HOME=os.path.join(folder, "cache"))
+        wanted(out.startswith("pkg/tools.py:2:9"), f"{words} answer {out!r}")
     return os.path.basename(path)
 
 
@@ -833,31 +915,46 @@ def unit(folder):
     wanted(f"ExecStart={prefix}/bin/navd serve " in read(path), "it starts another program")
 
 
-def completed(shell, words):
-    if not shutil.which(shell):
-        raise NotShown(f"there is no {shell}")
-    return ran([shell, *words])[0].split()
+def typed(shell, words, line, answer):
+    """Types the line into a shell at a terminal, until what it shows has the answer."""
+    child, terminal = pty.fork()
+    if child == 0:
+        os.environ["TERM"] = "dumb"
+        os.execvp(shell, [shell, *words])
+    shown, until = b"", time.monotonic() + SECONDS
+    try:
+        os.write(terminal, line)
+        while answer not in shown and time.monotonic() < until and select.select([terminal], [], [], SECONDS)[0]:
+            shown += os.read(terminal, 65_536)
+    except OSError:
+        # The shell has ended.
+        pass
+    finally:
+        os.kill(child, signal.SIGKILL)
+        os.close(terminal)
+        os.waitpid(child, 0)
+    wanted(answer in shown, f"{shell} shows {shown[-200:]!r}, without {answer!r}")
 
 
 def completions():
     """Each shell completes the commands."""
     folder, commands = os.path.join(TOP, "share", "completions"), ["demo", "lsp", "once", "run", "serve", "upgrade"]
-    ask = f"source {folder}/navd.bash; COMP_WORDS=(navd ''); COMP_CWORD=1; _navd; echo ${{COMPREPLY[@]}}"
-    shown = {}
-    fish = f"source {folder}/navd.fish; complete -C 'navd ' | cut -f 1"
-    for shell, words in (("bash", ["--norc", "-c", ask]), ("fish", ["-N", "-c", fish])):
-        try:
-            found = sorted(completed(shell, words))
-            wanted(found == commands, f"{shell} completes {found}")
-            shown[shell] = "completes"
-        except NotShown as why:
-            shown[shell] = str(why)
-    try:
-        completed("zsh", ["-f", "-n", os.path.join(folder, "_navd")])
-        shown["zsh"] = "takes it"
-    except NotShown as why:
-        shown["zsh"] = str(why)
-    return ", ".join(f"{shell} {what}" for shell, what in shown.items())
+    line = "; navd() { echo \"so: $*.\"; }\nnavd upg\t; navd ser\t47\t\n"
+    setups = {
+        "bash": (["--norc", "--noprofile", "-i"], f"source {folder}/navd.bash{line}"),
+        "zsh": (["-f", "-i"], f"fpath=({folder} $fpath); autoload -Uz compinit; compinit -u -D{line}"),
+    }
+    shown = [shell for shell in setups if shutil.which(shell)]
+    for shell in shown:
+        words, lines = setups[shell]
+        typed(shell, words, lines.encode(), b"so: upgrade.\r\nso: serve 47.\r\n")
+    if shutil.which("fish"):
+        out, _ = ran(["fish", "-N", "-c", f"source {folder}/navd.fish; complete -C 'navd ' | cut -f 1"])
+        wanted(sorted(out.split()) == commands, f"fish completes {out.split()}")
+        shown.append("fish")
+    if not shown:
+        raise NotShown("there is neither bash nor zsh nor fish")
+    return f"{', '.join(shown)}{'' if len(shown) == 3 else '; the others are not here'}"
 
 
 TABLE = [
@@ -866,6 +963,8 @@ TABLE = [
     ("the examples of the man pages", man_page_examples),
     ("the links of the documents", links),
     ("the cells of their tables", cells),
+    ("the crates, as crates.txt has them", crates_in_order),
+    ("the files that they name", files_named),
     ("the README's lines for Neovim", readme_in_neovim),
     ("the questions of ask.py that the README prints", printed_questions),
     ("ask.py: wrong folders, paths and places", wrong_questions),
@@ -876,6 +975,8 @@ TABLE = [
     ("ask.py: wrong programs", wrong_programs),
     ("ask.py: at a port", ask_at_a_port),
     ("ask.py: the construct that isn't read", constructs),
+    ("the client: the README's question", client_asks),
+    ("the client: a server kept at a folder", client_keeps_a_server),
     ("front.py: the sessions that the README prints", front_as_printed),
     ("front.py: in a network namespace", front_in_a_namespace),
     ("front.py: two users", front_with_two_users),
