@@ -906,6 +906,8 @@ def man_pages(folder):
             wanted(piece in shown, f"{page} doesn't show {piece!r}")
     page = read(prefix, "share/man/man5/navd-protocol.5")
     said = set(re.findall(r"`([a-z_]+)`", read(TOP, "docs", "FORMATS.md").split("# Replies")[1].split("The faults of a document")[0]))
+    faults = read(TOP, "docs", "FORMATS.md").split("The faults of a document")[1].split("# Errors of editors")[0]
+    said |= {word for row in faults.splitlines() if row.startswith("| `") for word in re.findall(r"`(\w+)`", row.split(" | ")[0])}
     missing = sorted(word for word in said - {"once", "upgrade"} if word not in page)
     wanted(not missing, f"navd-protocol(5) lacks {missing}")
 
