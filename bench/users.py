@@ -93,10 +93,11 @@ def is_listened_at(port):
 class Server:
     """A `navd serve` with so many doors, each for so many connections, that listens; ended with its block."""
 
-    def __init__(self, doors, connections):
+    def __init__(self, doors, connections, environment=None):
         self.port = free_port()
         words = [PROGRAM, "serve", str(self.port), str(doors), str(connections)]
-        self.process = subprocess.Popen(words, stdin=subprocess.DEVNULL, stdout=subprocess.PIPE, stderr=subprocess.PIPE)
+        self.process = subprocess.Popen(words, stdin=subprocess.DEVNULL, stdout=subprocess.PIPE, stderr=subprocess.PIPE,
+                                        env={**os.environ, **(environment or {})})
         until = time.monotonic() + SECONDS
         while not is_listened_at(self.port):
             wanted(time.monotonic() < until and self.process.poll() is None, "navd serve doesn't listen")
@@ -369,17 +370,21 @@ def left_out_files(folder):
     os.symlink("nowhere", os.path.join(folder, "g.py"))
     os.symlink("h.py", os.path.join(folder, "h.py"))
     os.mkfifo(os.path.join(folder, "i.py"))
+    write("x = 1\né = 1 # \x1b[2J\n", folder, "k.py")
+    write("def f(:\n    pass\n", folder, "l.py")
     os.makedirs(os.path.join(folder, "j.py"))
     reasons = [
         "left out b.py: line 4: unsupported: keyword argument\n    f(y, size=1)\n",
         "left out c.py: line 1: it isn't UTF-8\n",
         "left out d.py: large",
-        "left out e.sg.json: json\n",
+        "left out e.sg.json: json: it isn't JSON\n",
         "left out g.py: it can't be read: No such file or directory\n",
         "left out h.py: it can't be read: Too many levels of symbolic links\n",
         "left out i.py: it isn't a file\n",
-        "left out my-tool.py: bad_name\n",
-        "left out \x01/f.py: its path isn't one that navd takes\n",
+        "left out my-tool.py: bad_name: its path is no name of a module\n",
+        "left out \\x01/f.py: its path isn't one that navd takes\n",
+        "left out k.py: line 2: not_ascii: a byte order mark, or a letter outside of ASCII in a name\n    é = 1 # \\x1b[2J\n",
+        "left out l.py: line 3: bad_token: this Python doesn't read it either (line 1): ",
     ]
     asks(folder, "define a.py:2:1", 0, "a.py:1:1\n", reasons)
     for question in ("uses b.py", "define b.py:1:1", "references b.py:1:1"):
@@ -436,7 +441,7 @@ def wrong_programs(folder):
 
 
 def ask_at_a_port(folder):
-    """With --port the files are committed to a server, together, and stay there."""
+    """With --port the files are committed to a server, together, and stay there; where all doors are taken that is said."""
     write("x = 1\nx\n", folder, "a.py")
     write("f(a=1)\n", folder, "b.py")
     words = [sys.executable, "-B", os.path.join(TOP, "examples", "ask.py"), "--port"]
@@ -446,6 +451,10 @@ def ask_at_a_port(folder):
         wanted(out == "a.py:1:1\n", f"it answers {out!r}")
         other = server.client()
         other.asks('{"do":"hello","user":"operator"}', '{"version":1}')
+        second = server.client()
+        second.asks('{"do":"pin"}', error("no_user"))
+        out, said = ran([*words, str(server.port), folder, "define", "a.py:2:1"], 1)
+        wanted("each of its doors may have another client" in said and not out, f"where no door is free it says {said!r}")
     out, said = ran([*words, str(free_port()), folder, "define", "a.py:2:1"], 1)
     wanted("nobody answers at port" in said and not out, f"it says {said!r}")
 
@@ -710,6 +719,11 @@ def front_with_a_hostile_client(folder):
             stranger = front.client()
             stranger.asks(first, error("unknown_token"))
             stranger.is_at_the_end()
+        hasty = front.client()
+        hasty.socket.sendall(json.dumps({"token": TOKENS["ann"]}).encode() + b"\n" + HELLO + KEYS.encode() + b"\n" + HELLO[:-1])
+        hasty.socket.shutdown(socket.SHUT_WR)
+        told = hasty.replies.read().decode().splitlines()
+        wanted(told == ['{"version":2}', error("not_passed_on"), error("no_file"), error("not_passed_on")], f"at once: {told}")
         stranger = front.client()
         stranger.asks(b" " * 2_000, error("long_line"))
         stranger.is_at_the_end()
@@ -897,6 +911,8 @@ def man_pages(folder):
             wanted(piece in shown, f"{page} doesn't show {piece!r}")
     page = read(prefix, "share/man/man5/navd-protocol.5")
     said = set(re.findall(r"`([a-z_]+)`", read(TOP, "docs", "FORMATS.md").split("# Replies")[1].split("The faults of a document")[0]))
+    faults = read(TOP, "docs", "FORMATS.md").split("The faults of a document")[1].split("# Errors of editors")[0]
+    said |= {word for row in faults.splitlines() if row.startswith("| `") for word in re.findall(r"`(\w+)`", row.split(" | ")[0])}
     missing = sorted(word for word in said - {"once", "upgrade"} if word not in page)
     wanted(not missing, f"navd-protocol(5) lacks {missing}")
 
@@ -934,6 +950,27 @@ def typed(shell, words, line, answer):
         os.close(terminal)
         os.waitpid(child, 0)
     wanted(answer in shown, f"{shell} shows {shown[-200:]!r}, without {answer!r}")
+
+
+def memory_of(process, what):
+    """So many megabytes of a process, as Linux tells them."""
+    try:
+        return int(re.search(rf"^{what}:\s+(\d+) kB", read("/proc", str(process.pid), "status"), re.MULTILINE).group(1)) / 1_000
+    except OSError as why:
+        raise NotShown("the system doesn't tell a program's memory") from why
+
+
+def memory_given_back():
+    """In the environment of the systemd unit the memory of a long line goes back to the system, behind its reply."""
+    settings = re.findall(r"^Environment=(.*)$", read(TOP, "share", "systemd", "navd.service"), re.MULTILINE)
+    environment = dict(setting.split("=", 1) for line in settings for setting in line.split())
+    with Server(1, 1, environment) as server:
+        client = server.client()
+        client.asks(b"[" + b",".join([b'{"a":1}'] * 250_000) + b"]", '{"error":"bad_request","field":"do"}')
+        client.asks('{"do":"pin"}', error("no_user"))
+        most, left = memory_of(server.process, "VmHWM"), memory_of(server.process, "VmRSS")
+        wanted(left < most / 4, f"{left:.0f} MB stay of {most:.0f}")
+    return f"{most:.0f} MB, {left:.0f} afterwards"
 
 
 def completions():
@@ -989,6 +1026,7 @@ TABLE = [
     ("make dist", archive),
     ("the man pages, installed and shown", man_pages),
     ("the systemd unit", unit),
+    ("the unit's environment and the memory of a long line", memory_given_back),
     ("the completions", completions),
     ("navd serve closes what begins as an HTTP request", http_guard),
 ]
