@@ -98,6 +98,7 @@ class Navd:
         except socket.timeout:
             raise
         except OSError as error:
+            self.let_go()
             raise Failed(f"navd ended: {error.strerror or error}") from error
         if not reply:
             raise Failed("navd ended before it answered")
@@ -108,6 +109,13 @@ class Navd:
         if not isinstance(told, dict):
             raise Failed(f"what answers there isn't navd: it says {reply[:60]!r}")
         return told
+
+    def let_go(self) -> None:
+        """Closes what nobody reads, so that Python doesn't try to write the rest at its end."""
+        try:
+            self.requests.close()
+        except OSError:
+            pass
 
 
 class Started(Navd):
