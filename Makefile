@@ -21,7 +21,7 @@ INSTALLED = $(PREFIX)/bin/navd $(SHARE)/man/man1/navd.1 $(SHARE)/man/man5/navd-p
 
 ARCHIVE = navd-$(VERSION)-$(shell uname -s -m | tr 'A-Z ' 'a-z-')
 
-.PHONY: kit example build test statuses users install uninstall dist
+.PHONY: kit example build test statuses users costs install uninstall dist
 
 kit:
 	@command -v rt > /dev/null || { echo "the kit's command rt isn't on the PATH; README.md says what it is, under Get it"; exit 1; }
@@ -53,6 +53,10 @@ statuses: build
 # Runs what the documents print, the examples and the installation, as people use them.
 users: $(PROGRAM)
 	python3 bench/users.py $(PROGRAM)
+
+# Counts the instructions of fixed sessions, and compares them with what is kept, as the gate does.
+costs: $(PROGRAM)
+	python3 bench/costs.py $(PROGRAM)
 
 crates/navd/out/navd:
 	$(MAKE) build

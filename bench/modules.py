@@ -15,9 +15,9 @@ files of a folder. The columns are, each the middle one of the rounds (five):
   change          an editor's change of one module and the definition asked behind it, in milliseconds
   an editor's     its references behind these changes
 
-With --beside another program of the same protocol does the same in each round, by turns. Its figures stand in the line below,
-and under these how many times as much the first one took; it has to answer alike. The program is crates/navd/out/navd, as
-`make build` leaves it.
+With --beside another program of the same protocol does the same in each round, by turns. Its figures stand in the line
+below, and under these how many times as much the first one took; it has to answer alike. The program is
+crates/navd/out/navd, as `make build` leaves it.
 """
 
 from __future__ import annotations
@@ -170,7 +170,8 @@ def row(name: str, figures: list[float], form: str = "{:>16.3f}") -> str:
 
 
 def main() -> int:
-    parser = argparse.ArgumentParser(usage="bench/modules.py [--program PROGRAM] [--beside PROGRAM] [--rounds N] [FILES or FOLDER ..]")
+    usage = "bench/modules.py [--program PROGRAM] [--beside PROGRAM] [--rounds N] [FILES or FOLDER ..]"
+    parser = argparse.ArgumentParser(usage=usage)
     parser.add_argument("--program", type=Path, default=PROGRAM)
     parser.add_argument("--beside", type=Path)
     parser.add_argument("--rounds", type=int, default=5)
@@ -190,7 +191,8 @@ def main() -> int:
         if len(middles) > 1:
             print(row("  beside it", middles[1]))
             print(row("  times as much", [one / max(two, 1e-9) for one, two in zip(*middles)], "{:>16.2f}"))
-        print(f"  a definition costs {middles[0][2] / max(first[2], 1e-9):.2f} times what it costs in the first project", flush=True)
+        grown = middles[0][2] / max(first[2], 1e-9)
+        print(f"  a definition costs {grown:.2f} times what it costs in the first project", flush=True)
     return 0
 
 

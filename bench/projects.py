@@ -35,7 +35,7 @@ VERBS = (
     "pay place plan post pull quote reach rent repair reserve return_to save seal search send settle ship sort split start "
     "stop store supply take test trade trim turn unload verify wait_for weigh"
 ).split()
-LOCALS = "amount batch current found given held kept latest listed noted part rest share shown stock sum_of taken third used".split()
+LOCALS = "amount batch current found given held kept latest noted part rest share shown stock sum_of taken used".split()
 
 
 class Draw:
