@@ -128,6 +128,14 @@ impl Desk {
         }
     }
 
+    /// Lets go of the documents that are kept, but for such as cost nothing. What the pinned version holds of them stays
+    /// there, so a session that commits one text at a time keeps no more than its version. It takes no memory.
+    pub fn let_documents_go(&mut self)
+        ensures { self.new ≡ record { store = swept 0 self.old.store; user = self.old.user; view = self.old.view } }
+    {
+        self.store.sweep(0);
+    }
+
     /// Drops the oldest documents until all cost at most `MAX_COST`, where the reply accepts a commit. It takes no memory.
     pub(crate) fn sweep_after(&mut self, reply: &Reply)
         ensures { self.new ≡ record { store = if is_accepted reply.now then swept max_cost self.old.store else self.old.store; user = self.old.user; view = self.old.view } }
