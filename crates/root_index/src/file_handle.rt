@@ -15,6 +15,8 @@ struct Stored {
 #[derive(Drop)]
 pub(crate) struct FileHandle {
     stored: Arc<Stored, Global>,
+    // The number of its row in the version of which it was taken up, where its row in a view is looked for first.
+    row: u32,
 }
 
 impl Model for FileHandle {
@@ -30,11 +32,12 @@ impl FileHandle {
     ghost use Rattle.std.specs.Prelude.{◌≡◌, IfOk};
     ghost use Rattle.version_tree.specs.Contents.{file_row};
 
-    /// The file at the path; the one error is want of memory.
+    /// The file at the path, whose row has that number; the one error is want of memory.
     pub(crate) fn of(
         alloc: Global,
         path: &str,
         paths: &SharedPaths,
+        row: u32,
     ) -> Result<FileHandle, AllocError>
         ensures { IfOk result (λ file. file ≡ file_row path.now paths.now) }
     {
@@ -44,6 +47,7 @@ impl FileHandle {
         };
         Ok(FileHandle {
             stored: Arc::new(alloc, stored)?,
+            row,
         })
     }
 
@@ -53,7 +57,13 @@ impl FileHandle {
     {
         Ok(FileHandle {
             stored: Arc::try_clone(&self.stored)?,
+            row: self.row,
         })
+    }
+
+    /// The number of its row in the version of which it was taken up.
+    pub(crate) fn row(&self) -> u32 {
+        self.row
     }
 
     /// The file's path.

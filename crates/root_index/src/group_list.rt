@@ -101,6 +101,20 @@ impl GroupList {
         (slot, group)
     }
 
+    /// How many paths seem to stand before the key with these heads, where it is closed with those that have it,
+    /// and the group of the last of them. It is found by halving over heads alone, and may be wrong where long
+    /// texts have one head.
+    pub(crate) fn told(&self, wanted: &[u64; 6], closed: bool) -> (usize, usize) {
+        let groups = self.groups.groups();
+        let found = groups_told(groups, wanted, closed);
+        if found == 0 {
+            return (0, 0);
+        }
+        let group = found - 1;
+        let place = groups[group].slots().told(wanted, closed);
+        (self.starts[group].saturating_add(place), group)
+    }
+
     /// How many paths stand before the key that the texts of the stack's first symbols make, so many of
     /// them; where it is closed, with those that have this key. They are found by halving.
     pub(crate) fn end_of(&self, symbols: &SymbolStack, count: usize, closed: bool) -> usize
@@ -127,6 +141,13 @@ fn groups_within(groups: &[Group], symbols: &SymbolStack, count: usize, closed: 
     ensures bound { result ≤ length groups.now }
 {
     groups.partition_point(|group| begins_within(group, symbols, count, closed))
+}
+
+/// How many groups seem to begin within the key with these heads, by halving.
+fn groups_told(groups: &[Group], wanted: &[u64; 6], closed: bool) -> usize
+    ensures { result ≤ length groups.now }
+{
+    groups.partition_point(|group| group.first().seems_within(wanted, closed))
 }
 
 /// Whether the group's first path stands within the key.

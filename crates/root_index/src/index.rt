@@ -157,8 +157,8 @@ impl RootIndex {
 
     /// The path that comes next in the look-up, with its file's number in the view, and where the look-up
     /// stands after it; None where no more is offered. It takes no memory. The index is halved for each of at
-    /// most seven runs of equal keys; within a run a step takes constant time, and that of halving over the
-    /// view for the file's number. A path whose file isn't seen is passed over.
+    /// most seven runs of equal keys; within a run a step takes constant time, and where the view doesn't have
+    /// the file at its row's number in the version that of halving over the view. A path whose file isn't seen is passed over.
     pub fn next_offer(
         &self,
         view: &View,
@@ -170,7 +170,7 @@ impl RootIndex {
         let mut at = at;
         while let Some((slot, after)) = next_slot(&self.slots, symbols, at) {
             at = after;
-            if let Some(file) = number_in(view, slot.path()) {
+            if let Some(file) = number_in(view, slot.path(), slot.row()) {
                 return Some((file, slot.rule(), after));
             }
         }
@@ -178,8 +178,9 @@ impl RootIndex {
     }
 }
 
-ghost use Rattle.std.specs.Prelude.{◌≡◌, ◌≤◌, ◌++◌, length, drop, take, IfOk, OnOk, IsPermutation, option_copied};
+ghost use Rattle.std.specs.Prelude.{◌≡◌, ◌≤◌, ◌++◌, Some, length, drop, take, IfOk, OnOk, IsTrue, IsPermutation, option_copied};
 ghost use Rattle.version_tree.specs.Contents.{FileRow};
+ghost use Rattle.version_tree.specs.Views.{path_at};
 ghost use Rattle.root_index.specs.Roots.{AreByRank, IsIndexOf, all_roots, roots_of, roots_from, root};
 ghost use Rattle.root_index.specs.Offers.{number_in};
 ghost use Rattle.root_index.specs.Amended.{AreFrom, AreOf, edit_path, names, is_touched, other_paths, rows_at, touched_rows, without_file};
@@ -187,12 +188,46 @@ ghost use Rattle.root_index.specs.Blocks.{IsStrict, all_paths};
 ghost use Rattle.std.specs.List.{prefix_len};
 ghost use Rattle.partial_path.specs.Starts.{IsByStart, begins_at, is_before};
 
-/// The number of the file at the path in the view, by halving; None where it isn't seen.
-fn number_in(view: &View, path: &str) -> Option<u32>
+/// The number of the file at the path in the view: the one told where the file stands there, as in a view of all
+/// files, else found by halving; None where it isn't seen.
+fn number_in(view: &View, path: &str, near: u32) -> Option<u32>
     ensures { result ≡ number_in view.now path.now }
 {
     let _count = view.row_count();
+    if is_row(view, path, near) {
+        return Some(near);
+    }
     view.find(path)
+}
+
+/// Whether the view's file of that number has the path.
+fn is_row(view: &View, path: &str, number: u32) -> bool
+    ensures { IsTrue result → path_at view.now number ≡ Some path.now }
+{
+    number < view.row_count() && view.path(number) == path
+}
+
+/// The number of the version's row with the path, by halving; that of a row beside its place where there is none.
+fn row_with(version: &Version, path: &str) -> u32 {
+    let mut low = 0;
+    let mut high = version.row_count();
+    while low < high {
+        let middle = low + (high - low) / 2;
+        if is_row_before(version, middle, path) {
+            low = middle + 1;
+        } else {
+            high = middle;
+        }
+    }
+    low
+}
+
+/// Whether the version's row of that number stands before the path.
+fn is_row_before(version: &Version, number: u32, path: &str) -> bool {
+    match version.row(number) {
+        Some((other, _)) => other < path,
+        None => false,
+    }
 }
 
 /// The paths from the root of all files of the version, by file and then by place.
@@ -202,7 +237,7 @@ fn slots_of(alloc: Global, version: &Version) -> Result<Vec<Slot>, AllocError>
     let mut slots = Vec::new(alloc);
     for i in 0..version.row_count() {
         if let Some((path, paths)) = version.row(i) {
-            let file = FileHandle::of(alloc, path, paths)?;
+            let file = FileHandle::of(alloc, path, paths, i)?;
             add_slots(&file, &mut slots)?;
         }
     }
@@ -264,7 +299,7 @@ fn without_path(
     let _count = old.row_count();
     match old.paths_at(path) {
         Some(paths) => {
-            let file = FileHandle::of(alloc, path, paths)?;
+            let file = FileHandle::of(alloc, path, paths, 0)?;
             without_file(alloc, groups, &file)
         }
         None => Ok(groups),
@@ -320,7 +355,7 @@ fn with_path(alloc: Global, groups: Groups, new: &Version, path: &str) -> Result
     let _count = new.row_count();
     match new.paths_at(path) {
         Some(paths) => {
-            let file = FileHandle::of(alloc, path, paths)?;
+            let file = FileHandle::of(alloc, path, paths, row_with(new, path))?;
             with_file(alloc, groups, &file)
         }
         None => Ok(groups),
@@ -393,7 +428,7 @@ fn add_path(
     let _count = new.row_count();
     match new.paths_at(path) {
         Some(paths) => {
-            let file = FileHandle::of(alloc, path, paths)?;
+            let file = FileHandle::of(alloc, path, paths, row_with(new, path))?;
             add_slots(&file, slots)
         }
         None => Ok(()),

@@ -36,6 +36,29 @@ fn head_at(path: &PartialPath, i: usize) -> u64
     }
 }
 
+/// The heads of the stack's first symbols, so many of them; 0 where there are fewer.
+pub(crate) fn heads_wanted(symbols: &SymbolStack, count: usize) -> [u64; 6] {
+    [
+        wanted_head(symbols, count, 0),
+        wanted_head(symbols, count, 1),
+        wanted_head(symbols, count, 2),
+        wanted_head(symbols, count, 3),
+        wanted_head(symbols, count, 4),
+        wanted_head(symbols, count, 5),
+    ]
+}
+
+/// Whether heads stand before others, or are the same where that is closed: an order of numbers alone, in which
+/// long texts of one head are the same.
+pub(crate) fn stand_within(heads: &[u64; 6], wanted: &[u64; 6], closed: bool) -> bool {
+    for i in 0..KEY_SIZE {
+        if heads[i] != wanted[i] {
+            return heads[i] < wanted[i];
+        }
+    }
+    closed
+}
+
 /// How a key with these heads stands to the texts of the stack's first symbols, so many of them; None where the
 /// heads don't tell.
 pub(crate) fn heads_side(heads: &[u64; 6], symbols: &SymbolStack, count: usize) -> Option<Ordering>

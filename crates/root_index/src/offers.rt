@@ -9,6 +9,7 @@ ghost use Rattle.root_index.specs.Blocks.{is_within_key};
 ghost use Rattle.root_index.specs.Inside.{is_at_key};
 
 use crate::group_list::GroupList;
+use crate::key_heads::heads_wanted;
 use crate::slot::Slot;
 use crate::slot_list::is_within_key;
 use partial_path::KEY_SIZE;
@@ -93,7 +94,7 @@ fn next_run<'a>(
 /// Where the paths stand whose key is made of the texts of the stack's first symbols, so many of them: from
 /// which place on, and before which. It is tried first whether they begin at the place that is told, as they do
 /// behind a shorter key where no path stands between; else the first of them is found by halving. That there is
-/// none, or one alone, is seen there, and the end of more is found by halving once more.
+/// none, or one alone, is seen there, and the end of more is found by halving too.
 fn run_asking(
     slots: &GroupList,
     symbols: &SymbolStack,
@@ -127,31 +128,49 @@ fn run_start(
     if count == 0 {
         return 0;
     }
-    if starts_at(slots, symbols, count, behind, near) {
+    if is_end(slots, symbols, count, false, behind, near) {
         return behind;
     }
-    slots.end_of(symbols, count, false)
+    end_of(slots, symbols, count, false)
 }
 
-/// Whether the path at the place doesn't stand before that key, and the one before it does, where there are such.
-fn starts_at(
+/// How many paths stand before that key, or have it where that is closed: so many as the heads of symbols tell,
+/// where the paths there say the same, else found by halving over the paths.
+fn end_of(slots: &GroupList, symbols: &SymbolStack, count: usize, closed: bool) -> usize
+    requires order { AreByRank slots.now }
+    requires count { count ≤ key_size }
+    ensures value { result ≡ prefix_len (is_within_key closed (take count (texts symbols.now))) slots.now }
+    ensures bound { result ≤ length slots.now }
+{
+    let _count = slots.len();
+    let (place, near) = slots.told(&heads_wanted(symbols, count), closed);
+    if is_end(slots, symbols, count, closed, place, near) {
+        return place;
+    }
+    slots.end_of(symbols, count, closed)
+}
+
+/// Whether the path at the place doesn't stand before that key, nor has it where that is closed, and the one
+/// before it does, where there are such.
+fn is_end(
     slots: &GroupList,
     symbols: &SymbolStack,
     count: usize,
+    closed: bool,
     place: usize,
     near: usize,
 ) -> bool
     requires order { AreByRank slots.now }
     requires count { count ≤ key_size }
-    ensures { IsTrue result → place ≡ prefix_len (is_within_key false (take count (texts symbols.now))) slots.now }
+    ensures { IsTrue result → place ≡ prefix_len (is_within_key closed (take count (texts symbols.now))) slots.now }
 {
-    if is_within(slots, symbols, count, false, place, near) {
+    if is_within(slots, symbols, count, closed, place, near) {
         return false;
     }
     if place == 0 {
         return true;
     }
-    is_within(slots, symbols, count, false, place - 1, near)
+    is_within(slots, symbols, count, closed, place - 1, near)
 }
 
 /// How many paths stand before that key or have it, where so many stand before it.
@@ -175,7 +194,7 @@ fn run_end(
     if !is_within(slots, symbols, count, true, place + 1, near) {
         return place + 1;
     }
-    slots.end_of(symbols, count, true)
+    end_of(slots, symbols, count, true)
 }
 
 /// Whether there is a path at the place, and it stands before that key, or has it where that is closed.

@@ -1,5 +1,5 @@
 use crate::file_handle::FileHandle;
-use crate::key_heads::{heads_of, heads_order, heads_side};
+use crate::key_heads::{heads_of, heads_order, heads_side, stand_within};
 use partial_path::{PartialPath, key_side, keys_cmp};
 use stacks_vars::SymbolStack;
 use std::alloc::AllocError;
@@ -67,6 +67,16 @@ impl Slot {
         ensures { self.now.rule ≡ Some result.now }
     {
         &self.file.paths().get().paths()[self.place]
+    }
+
+    /// The number of its file's row in the version of which its file was taken up.
+    pub(crate) fn row(&self) -> u32 {
+        self.file.row()
+    }
+
+    /// Whether the heads of its symbols stand before these, or are the same where that is closed.
+    pub(crate) fn seems_within(&self, wanted: &[u64; 6], closed: bool) -> bool {
+        stand_within(&self.heads, wanted, closed)
     }
 
     /// How its key stands to the texts of the stack's first symbols, so many of them: as the heads of its symbols

@@ -90,6 +90,18 @@ impl SlotList {
         &self.blocks.blocks()[block].slots()[place - self.starts[block]]
     }
 
+    /// How many paths seem to stand before the key with these heads; where it is closed, with those that have it.
+    /// It is found by halving over heads alone, and may be wrong where long texts have one head.
+    pub(crate) fn told(&self, wanted: &[u64; 6], closed: bool) -> usize {
+        let blocks = self.blocks.blocks();
+        let found = blocks_told(blocks, wanted, closed);
+        if found == 0 {
+            return 0;
+        }
+        let block = found - 1;
+        self.starts[block].saturating_add(paths_told(blocks[block].slots(), wanted, closed))
+    }
+
     /// How many paths stand before the key that the texts of the stack's first symbols make, so many of
     /// them; where it is closed, with those that have this key. They are found by halving.
     pub(crate) fn end_of(&self, symbols: &SymbolStack, count: usize, closed: bool) -> usize
@@ -163,6 +175,18 @@ fn paths_within(slots: &[Slot], symbols: &SymbolStack, count: usize, closed: boo
     ensures bound { result ≤ length slots.now }
 {
     slots.partition_point(|slot| is_within_key(slot, symbols, count, closed))
+}
+
+/// How many blocks seem to begin within the key with these heads, by halving.
+fn blocks_told(blocks: &[Block], wanted: &[u64; 6], closed: bool) -> usize
+    ensures { result ≤ length blocks.now }
+{
+    blocks.partition_point(|block| block.first().seems_within(wanted, closed))
+}
+
+/// How many of the paths seem to stand within the key with these heads, by halving.
+fn paths_told(slots: &[Slot], wanted: &[u64; 6], closed: bool) -> usize {
+    slots.partition_point(|slot| slot.seems_within(wanted, closed))
 }
 
 /// Whether the block's first path stands within the key.

@@ -1,9 +1,9 @@
-use Rattle.std.proofs.Common.{refl, sym, ◌≤◌, length, take, false, true, arith}
+use Rattle.std.proofs.Common.{refl, sym, ◌≤◌, length, take, false, arith}
 use Rattle.std.specs.List.{prefix_len}
 use Rattle.std.proofs.lemmas.List.Sums.{prefix_len-le-length}
 use Rattle.partial_path.specs.Keys.{texts}
 use Rattle.root_index.specs.Blocks.{is_within_key}
-use Rattle.root_index.proofs.KeyRuns.{parted_within, run_is_none, run_is_one}
+use Rattle.root_index.proofs.KeyRuns.{run_is_none, run_is_one}
 use Rattle.root_index.proofs.offers.run_end.Goals as goal
 
 pub returns-then-not-is_within-clause-value : goal.returns-then-not-is_within-clause-value
@@ -20,6 +20,3 @@ pub returns-then-not-is_within-2-clause-value : goal.returns-then-not-is_within-
 returns-then-not-is_within-2-clause-value c =
     run_is_one c.args.slots.now (take c.args.count (texts c.args.symbols.now)) c.args.place c.requires.before
     (c.if-not-is_within.ensures.there refl) (sym c.if-not-is_within.ensures.value) (sym c.if-not-is_within-2.ensures.value)
-
-pub end_of-requires-clause-parted : goal.end_of-requires-clause-parted
-end_of-requires-clause-parted c = parted_within c.args.slots.now true (take c.args.count (texts c.args.symbols.now)) c.requires.order

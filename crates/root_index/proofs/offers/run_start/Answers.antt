@@ -2,7 +2,7 @@ use Rattle.std.proofs.Common.{◌≡◌, sym, ◌∙◌, ap, take, false, arith}
 use Rattle.std.specs.List.{prefix_len}
 use Rattle.partial_path.specs.Keys.{texts}
 use Rattle.root_index.specs.Blocks.{is_within_key}
-use Rattle.root_index.proofs.KeyRuns.{none_before, parted_within}
+use Rattle.root_index.proofs.KeyRuns.{none_before}
 use Rattle.root_index.proofs.offers.run_start.Goals as goal
 
 pub returns-then-count-eq0 : goal.returns-then-count-eq0
@@ -10,6 +10,3 @@ returns-then-count-eq0 c =
     let none : c.args.count ≡ 0 = omega (arith, c.if-count-eq0.true) in
     none_before c.args.slots.now
     ∙ ap (λ n. prefix_len (is_within_key false (take n (texts c.args.symbols.now))) c.args.slots.now) (sym none)
-
-pub end_of-requires-clause-parted : goal.end_of-requires-clause-parted
-end_of-requires-clause-parted c = parted_within c.args.slots.now false (take c.args.count (texts c.args.symbols.now)) c.requires.order
