@@ -21,8 +21,8 @@ use std::thread::Threads;
 use version_board::Commits;
 use version_tree::PathText;
 
-/// Commits one edit. It tells whether it was accepted; the one error is want of memory, and then no entry of it is in the
-/// log.
+/// Commits one edit, and keeps no document beside the version. It tells whether it was accepted; the one error is want of
+/// memory, and then no entry of it is in the log.
 #[tactic(auto, using(crate::proofs::Committed::commits_one, crate::proofs::Committed::still_named))]
 fn commit<R: Threads + Sync, B: Commits<R>, G: Gate + Sync, L: Ledger>(
     rt: &R,
@@ -49,6 +49,8 @@ fn commit<R: Threads + Sync, B: Commits<R>, G: Gate + Sync, L: Ledger>(
         edits: Edits::of(edits),
     };
     let reply = reply_to(rt, alloc, desk, board, gate, request, steps)?;
+    // The version holds the open documents, and an editor seldom changes one back: all else would only grow with use.
+    desk.let_documents_go();
     Ok(is_accepted(&reply))
 }
 
