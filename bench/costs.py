@@ -26,7 +26,7 @@ import tempfile
 from concurrent.futures import ThreadPoolExecutor
 from functools import cache
 from pathlib import Path
-from typing import Callable, NamedTuple
+from typing import Callable, Iterable, NamedTuple
 
 import places
 import projects
@@ -131,6 +131,14 @@ def edited_and_referred(project: Project) -> Session:
 # -- what is counted
 
 
+class Run(NamedTuple):
+    """A session of a command on a project of so many files."""
+
+    command: str
+    session: Callable[[Project], Session]
+    files: int
+
+
 class Step(NamedTuple):
     """A step of a command: the session with it, the one without it, and how often it is done at so many files."""
 
@@ -154,13 +162,12 @@ STEPS = [
     Step("changed there and asked", "lsp", edited, open_documents, lambda _: EDITS, (64, 512), 1.5),
     Step("references there, a file", "lsp", edited_and_referred, edited, lambda files: files, (32, 128), 1.5),
 ]
-# The sessions whose threads are counted, on so many files.
+# The sessions whose threads are counted.
 THREADED = {
-    "a commit": ("run", committed),
-    "a commit and references": ("run", referred),
-    "an editor's references": ("lsp", edited_and_referred),
+    "a commit": Run("run", committed, 64),
+    "a commit and references": Run("run", referred, 64),
+    "an editor's references": Run("lsp", edited_and_referred, 64),
 }
-THREADED_FILES = 64
 
 
 def input_of(command: str, session: Session) -> bytes:
@@ -177,15 +184,20 @@ def fault_in(command: str, session: Session, told: bytes) -> str | None:
     return None if replies == wanted else f"{replies} replies in place of {wanted}"
 
 
-def pinned(sets: list[set[int]]) -> ThreadPoolExecutor:
-    """As many threads, each of which starts its programs on the processors of one of these sets."""
+def each(work: Callable[[Run], int], runs: Iterable[Run], sets: list[set[int]]) -> dict[Run, int]:
+    """What the work tells of each run; as many at once as there are sets of processors, each on those of one set."""
     left = list(sets)
-    return ThreadPoolExecutor(len(sets), initializer=lambda: os.sched_setaffinity(0, left.pop()))
+    pool = ThreadPoolExecutor(len(sets), initializer=lambda: os.sched_setaffinity(0, left.pop()))
+    try:
+        return dict(zip(runs, pool.map(work, runs)))
+    finally:
+        pool.shutdown(cancel_futures=True)
 
 
-def run_under(program: Path, tool: list[str], command: str, session: Session) -> str:
-    """What valgrind says of a session. All that it reads is there at the start, so that no read is cut short, and its
+def run_under(program: Path, tool: list[str], run: Run) -> str:
+    """What valgrind says of a run. All that it reads is there at the start, so that no read is cut short, and its
     environment is empty, so that the same instructions are carried out each time."""
+    command, session = run.command, run.session(project_of(run.files))
     with tempfile.TemporaryDirectory() as name:
         folder = Path(name)
         (folder / "in").write_bytes(input_of(command, session))
@@ -202,35 +214,33 @@ def run_under(program: Path, tool: list[str], command: str, session: Session) ->
         return (folder / "said").read_text(errors="replace")
 
 
-def instructions(program: Path, command: str, session: Session) -> int:
-    said = run_under(program, ["--tool=callgrind", "--callgrind-out-file=/dev/null"], command, session)
+def instructions(program: Path, run: Run) -> int:
+    said = run_under(program, ["--tool=callgrind", "--callgrind-out-file=/dev/null"], run)
     found = re.search(r"Collected : (\d+)", said)
     if not found:
         raise SystemExit(f"costs: valgrind tells no count of instructions:\n{said}")
     return int(found[1])
 
 
-def threads(program: Path, command: str, session: Session) -> int:
-    """How many threads the session starts."""
-    said = run_under(program, ["--tool=none", "--trace-syscalls=yes"], command, session)
-    return len(re.findall(r"\) sys_clone3? \(", said))
+def threads(program: Path, run: Run) -> int:
+    """How many threads the run starts."""
+    said = run_under(program, ["--tool=none", "--trace-syscalls=yes"], run)
+    return len(re.findall(r"\) sys_clone3? \([^\n]*Success", said))
 
 
 def counted(program: Path) -> dict[str, list[int]]:
     """The instructions of each step, on the smaller and on the larger project, for each time that it is done."""
-    wanted = {(step.command, session, files) for step in STEPS for session in (step.session, step.without) if session
+    wanted = {Run(step.command, session, files) for step in STEPS for session in (step.session, step.without) if session
               for files in step.files}
     # The longest first, so that no processor is left to do them at the end.
-    runs = sorted(wanted, key=lambda run: (-run[2], run[1].__name__))
-    for files in {run[2] for run in runs}:
-        project_of(files)
-    with pinned([{processor} for processor in sorted(os.sched_getaffinity(0))]) as pool:
-        counts = pool.map(lambda run: instructions(program, run[0], run[1](project_of(run[2]))), runs)
-        found = dict(zip(runs, counts))
+    runs = sorted(wanted, key=lambda run: (-run.files, run.session.__name__))
+    for run in runs:
+        project_of(run.files)
+    found = each(lambda run: instructions(program, run), runs, [{one} for one in sorted(os.sched_getaffinity(0))])
 
     def cost(step: Step, files: int) -> int:
-        without = found[step.command, step.without, files] if step.without else 0
-        return (found[step.command, step.session, files] - without) // step.times(files)
+        without = found[Run(step.command, step.without, files)] if step.without else 0
+        return (found[Run(step.command, step.session, files)] - without) // step.times(files)
 
     return {step.name: [cost(step, files) for files in step.files] for step in STEPS}
 
@@ -249,10 +259,8 @@ def threads_started(program: Path) -> dict[str, int]:
     two = set(sorted(os.sched_getaffinity(0))[:2])
     if len(two) < 2 or share_of_processors() < 2:
         return {}
-    project = project_of(THREADED_FILES)
-    with pinned([two]) as pool:
-        counts = pool.map(lambda run: threads(program, run[0], run[1](project)), THREADED.values())
-        return dict(zip(THREADED, counts))
+    found = each(lambda run: threads(program, run), THREADED.values(), [two])
+    return {name: found[run] for name, run in THREADED.items()}
 
 
 # -- what is said of it
@@ -289,6 +297,16 @@ def judged(found: dict[str, list[int]], started: dict[str, int], kept: dict) -> 
     return fine
 
 
+def keep(found: dict[str, list[int]], started: dict[str, int]) -> int:
+    """Keeps these figures, if threads could be counted; the status."""
+    if not started:
+        print("costs: nothing is kept, since threads are counted on two processors")
+        return 1
+    KEPT.write_text(json.dumps({"instructions": found, "threads": started}, indent=1) + "\n")
+    print(f"costs: kept in {KEPT.name}")
+    return 0
+
+
 def main() -> int:
     parser = argparse.ArgumentParser(usage="bench/costs.py [--write] [PROGRAM]")
     parser.add_argument("--write", action="store_true", help="keep the figures of this run")
@@ -300,13 +318,9 @@ def main() -> int:
     if not words.program.exists():
         parser.error(f"there is no program {words.program}")
     found, started = counted(words.program), threads_started(words.program)
-    kept = json.loads(KEPT.read_text()) if KEPT.exists() else {}
-    fine = judged(found, started, kept)
+    fine = judged(found, started, json.loads(KEPT.read_text()) if KEPT.exists() else {})
     if words.write:
-        figures = {"instructions": found, "threads": started or kept.get("threads", {})}
-        KEPT.write_text(json.dumps(figures, indent=1) + "\n")
-        print(f"costs: kept in {KEPT.name}")
-        return 0
+        return keep(found, started)
     dear = "DEARER than what is kept; where that is wanted, --write keeps the new figures"
     print(f"costs: {'no dearer than what is kept' if fine else dear}")
     return 0 if fine else 1
