@@ -260,8 +260,9 @@ def references_in(result: Translated) -> List[Tuple[int, str, Tuple[int, int, in
 def uses(folder: Folder, path: str, as_json: bool) -> int:
     """Lists each name that a file uses with its definitions."""
     result = folder.results[path]
-    if result.fault is not None:
-        raise Unanswerable(f"{path} is left out: {result.fault.message}")
+    reason = result.fault.message if result.fault is not None else folder.keeper.refused.get(graph_path(path))
+    if reason is not None:
+        raise Unanswerable(f"{path} is left out: {reason}")
     names = references_in(result)
     replies = folder.keeper.ask([{"do": "define", "path": graph_path(path), "node": node} for node, _, _ in names])
     listed: List[Dict[str, Any]] = []

@@ -11,12 +11,14 @@ import subprocess
 import sys
 import tempfile
 import unittest
-from typing import Any, Dict, List, Tuple
+from typing import Any, Dict, List, Sequence, Tuple
+from unittest import mock
 
 from marked import program
 
 from navd_py.__main__ import main
 from navd_py.ask import Progress
+from navd_py.keeper import Keeper
 
 FILES = {
     "pkg/__init__.py": "from .tools import Box as Case\n",
@@ -53,6 +55,29 @@ class Asking(unittest.TestCase):
         value = json.loads(lines[0])
         assert isinstance(value, dict)
         return value
+
+    def test_callers_are_asked_where_navd_has_them(self) -> None:
+        """With a navd that answers `callers`, as far as the command sees: they are `references` without a flag."""
+        asked: List[str] = []
+        ask = Keeper.ask
+
+        def ask_both(keeper: Keeper, requests: Sequence[Any], user: str = "operator") -> List[Any]:
+            asked.extend(request["do"] for request in requests)
+            plain = [{**one, "do": "references" if one["do"] == "callers" else one["do"]} for one in requests]
+            replies = ask(keeper, plain, user)
+            return [{"rows": one["rows"]} if "rows" in one and "limit" in one else one for one in replies]
+
+        with mock.patch.object(Keeper, "ask", ask_both):
+            status, lines, _ = self.ask("references", "pkg/tools.py:2:9")
+        self.assertEqual((status, lines), (0, ["main.py:3:3: b.size()"]))
+        self.assertIn("callers", asked)
+        self.assertNotIn("references", asked)
+
+    def test_uses_of_a_file_that_navd_refuses(self) -> None:
+        with mock.patch.object(Keeper, "commit", lambda keeper: keeper.refused.update({"main.py.sg.json": "why"}) or 0):
+            status, lines, errors = self.ask("uses", "main.py")
+        self.assertEqual((status, lines), (2, []))
+        self.assertIn("main.py is left out: why", errors)
 
     def test_define(self) -> None:
         status, lines, errors = self.ask("define", "main.py:3:3")

@@ -8,6 +8,7 @@ from __future__ import annotations
 import ast
 import os
 import shutil
+import subprocess
 import sys
 import sysconfig
 import unittest
@@ -17,6 +18,7 @@ from typing import Dict, Iterator, List
 from marked import Marked, program
 
 from navd_py.ask import references_in
+import navd_py
 from navd_py.keeper import Keeper
 from navd_py.project import Project, Translated, graph_path
 from navd_py.session import Session
@@ -105,6 +107,21 @@ class Order(Marked):
         spans = [span_of(node) for node in graph_nodes(result.source) if node.get("definition")]
         self.assertEqual(spans, sorted(spans, key=lambda span: span or (0, 0, 0, 0)))
         self.assertEqual(len(spans), 8)
+
+    def test_a_text_has_one_graph(self) -> None:
+        """Whatever seed this run of Python has for the order of its sets."""
+        self.write("m.py", b"if c:\n" + b"".join(b"    name%d = %d\n" % (number, number) for number in range(30)))
+        code = (
+            "import sys; from navd_py.project import Project\n"
+            "sys.stdout.buffer.write(Project(sys.argv[1], cache=False).translated('m.py').source)"
+        )
+        made = set()
+        for seed in ("1", "2", "3"):
+            path = os.path.dirname(os.path.dirname(navd_py.__file__))
+            environment = {**os.environ, "PYTHONHASHSEED": seed, "PYTHONPATH": path}
+            words = [sys.executable, "-B", "-c", code, self.folder]
+            made.add(subprocess.run(words, env=environment, stdout=subprocess.PIPE, check=True).stdout)
+        self.assertEqual(len(made), 1)
 
 
 if __name__ == "__main__":

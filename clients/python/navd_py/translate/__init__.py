@@ -16,7 +16,7 @@ from .state import DOT, MEMBER, MEMBER_VALUE, Defined
 from .statements import Statements
 
 # Raised with each change of what a text's graph is, so that graphs kept by earlier ones are not taken.
-VERSION = 5
+VERSION = 6
 # How deep expressions may nest here: a call for each level, and some more.
 RECURSION = 3_000
 GLOBAL = re.compile(r"^\s+global\s", re.MULTILINE)

@@ -37,17 +37,23 @@ class Bound:
 
 def merged(first: Bound, second: Bound) -> Bound:
     """What a name is bound to where two ways of a text meet."""
-    if first is second:
-        return first
-    parts = dict.fromkeys(first.parts)
-    parts.update(dict.fromkeys(second.parts))
+    return first if first is second else merged_all((first, second))
+
+
+def merged_all(bounds: Sequence[Bound]) -> Bound:
+    """What a name is bound to where several ways of a text meet, at least one; costs by their parts and targets."""
+    parts: Dict[Bound, None] = {}
+    values: Values = NOTHING
+    for bound in bounds:
+        parts.update(dict.fromkeys(bound.parts))
+        values = joined(values, bound.values)
     ordered = sorted(parts, key=lambda part: part.order)
     targets: Dict[int, None] = {}
     for part in ordered:
         targets.update(dict.fromkeys(part.targets))
-    both = Bound(ordered[0].order, ordered[0].kind, list(targets), joined(first.values, second.values))
-    both.parts = tuple(ordered)
-    return both
+    together = Bound(ordered[0].order, ordered[0].kind, list(targets), values)
+    together.parts = tuple(ordered)
+    return together
 
 
 Names = Dict[str, Bound]
@@ -123,8 +129,8 @@ class Frame:
         # The frame in which names that aren't bound here are looked up.
         self.parent = parent
         self.names: Names = {}
-        # All bindings of each name, in the order of the text.
-        self.every: Dict[str, Bound] = {}
+        # The bindings of each name, in the order of the text; those before a look at all of them are one.
+        self.every: Dict[str, List[Bound]] = {}
         # Names that nothing had bound where they stand: the name, its line, start and end.
         self.pending: List[Tuple[str, int, int, int]] = []
         # What is gone through when the frame's own text is: bodies of functions.
@@ -141,6 +147,15 @@ class Frame:
         # The values of names that an annotation tells.
         self.declared: Dict[str, Values] = {}
         self.loops: List[Loop] = []
+
+    def bound_anywhere(self, name: str) -> Optional[Bound]:
+        """All bindings of a name together, or None where there is none."""
+        found = self.every.get(name)
+        if found is None:
+            return None
+        if len(found) > 1:
+            found[:] = [merged_all(found)]
+        return found[0]
 
 
 class Loop:

@@ -182,7 +182,7 @@ class Scopes(Imports):
         while frame is not None:
             if frame.self_name == node.id:
                 bound = self.looked_up(node.id)
-                own = frame.every.get(node.id)
+                own = frame.bound_anywhere(node.id)
                 if bound is None or own is None or bound.targets != own.parts[0].targets:
                     return None
                 return frame.owner

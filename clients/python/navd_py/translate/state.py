@@ -5,7 +5,7 @@ from __future__ import annotations
 import ast
 from typing import Callable, Dict, List, Optional, Sequence, Tuple
 
-from .bindings import IMPORTED, VARIABLE, Bound, ClassParts, Frame, Names, merged
+from .bindings import IMPORTED, VARIABLE, Bound, ClassParts, Frame, Names
 from .graph import MOST_VALUES, NOTHING, ROOT, Graph, Values, joined
 from .modules import Asking
 from .places import Lines, Place
@@ -61,7 +61,7 @@ class State:
             return bound
         frame = self.frame.parent
         while frame is not None:
-            bound = frame.names.get(name) or frame.every.get(name)
+            bound = frame.names.get(name) or frame.bound_anywhere(name)
             if bound is not None:
                 return bound
             frame = frame.parent
@@ -82,7 +82,7 @@ class State:
     def settle(self, frame: Frame) -> None:
         """Binds the names of a frame that were bound only behind their uses."""
         for name, line, start, end in frame.pending:
-            bound = frame.every.get(name)
+            bound = frame.bound_anywhere(name)
             if bound is not None:
                 if bound.targets:
                     self.graph.reference(name, line, start, end, bound.targets)
@@ -122,8 +122,7 @@ class State:
         if name in frame.declared_global:
             self.put_shared(name, bound)
             return
-        before = frame.every.get(name)
-        frame.every[name] = bound if before is None else merged(before, bound)
+        frame.every.setdefault(name, []).append(bound)
 
     def put_shared(self, name: str, bound: Bound) -> None:
         shared = self.shared.get(name)

@@ -208,7 +208,7 @@ class Statements(Scopes):
 
     def common(self, first: Names, second: Names, mark: int) -> Names:
         """The bindings where two ways meet that parted at a mark of the log. The second one is changed to them."""
-        for name in set(self.log[mark:]):
+        for name in dict.fromkeys(self.log[mark:]):
             one, other = first.get(name), second.get(name)
             if one is other or one is None:
                 continue
