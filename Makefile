@@ -21,7 +21,7 @@ INSTALLED = $(PREFIX)/bin/navd $(SHARE)/man/man1/navd.1 $(SHARE)/man/man5/navd-p
 
 ARCHIVE = navd-$(VERSION)-$(shell uname -s -m | tr 'A-Z ' 'a-z-')
 
-.PHONY: kit example build test statuses users install uninstall dist
+.PHONY: kit example build test statuses users costs install uninstall dist
 
 kit:
 	@command -v rt > /dev/null || { echo "the kit's command rt isn't on the PATH; README.md says what it is, under Get it"; exit 1; }
@@ -54,6 +54,10 @@ statuses: build
 users: $(PROGRAM)
 	python3 bench/users.py $(PROGRAM)
 
+# Counts the instructions of fixed sessions, and compares them with what is kept, as the gate does.
+costs: $(PROGRAM)
+	python3 bench/costs.py $(PROGRAM)
+
 crates/navd/out/navd:
 	$(MAKE) build
 
@@ -72,13 +76,13 @@ install: $(PROGRAM)
 uninstall:
 	rm -f $(foreach file,$(INSTALLED),"$(DESTDIR)$(file)")
 
-# Leaves out/navd-VERSION-SYSTEM.tar.gz: the program with what `install` needs, the documents and the examples.
+# Leaves out/navd-VERSION-SYSTEM.tar.gz: the program with what `install` needs, the documents, the examples and the client.
 dist: $(PROGRAM)
 	rm -rf "out/$(ARCHIVE)"
 	install -d "out/$(ARCHIVE)"
 	install -m 755 $(PROGRAM) "out/$(ARCHIVE)/navd"
-	cp -R Makefile README.md CHANGELOG.md docs examples share "out/$(ARCHIVE)"
-	rm -rf "out/$(ARCHIVE)/examples/__pycache__"
+	cp -R Makefile README.md CHANGELOG.md docs examples share clients "out/$(ARCHIVE)"
+	find "out/$(ARCHIVE)" -name __pycache__ -prune -exec rm -rf {} +
 	tar -C out -czf "out/$(ARCHIVE).tar.gz" "$(ARCHIVE)"
 	rm -rf "out/$(ARCHIVE)"
 	@echo "out/$(ARCHIVE).tar.gz"

@@ -158,8 +158,10 @@ def measured(files):
     # The import of a name and its use are references both.
     shared, rare = [], []
     for n in range(REFERENCES):
-        session.told(1, [changed(path_of(n), module(n, count, CHANGES + n + 1)), use(session, n, count)])
+        # Each is asked after a change, since what was found of all references is kept until the next one.
+        session.told(1, [changed(path_of(n), module(n, count, CHANGES + 2 * n + 1)), use(session, n, count)])
         shared.append(session.told(2 * count, [session.references("base.py", 0, len("def "))]))
+        session.told(1, [changed(path_of(n), module(n, count, CHANGES + 2 * n + 2)), use(session, n, count)])
         rare.append(session.told(2 * 2, [session.references("base.py", 2, len("def "))]))
     memory.append(session.memory())
     session.end()

@@ -8,9 +8,9 @@ file's `a`, both drawn from the number of files; so each definition is found thr
 columns are: the commits of all files, 64 in each; the commit of one file that changes, and beside it how often it costs
 the one of the smallest tree; definitions asked at one version with all lines sent at once, a second, of one file after
 the other and then of one file alone, and beside these how often one costs what it costs in the smallest tree; who refers
-to a definition, asked first and again at one version; and the program's memory at the end. Below stand the documents a
-second of a project's first commits, the middle ones of several rounds, and how many times as much plain counting all
-processors do as one, in the same rounds.
+to a definition, asked first behind a pin and again behind that; and the program's memory at the end. Below stand the
+documents a second of a project's first commits, the middle ones of several rounds, and how many times as much plain
+counting all processors do as one, in the same rounds.
 """
 
 import json
@@ -125,6 +125,8 @@ def measured(files):
     first, again = [], []
     for n in range(REFERENCES):
         line = line_of(do="references", path=path_of(aims[n][1]), node=0)
+        # What was found is kept until the session pins once more.
+        session.replies([line_of(do="pin")])
         first.append(session.replies([line])[1])
         again.append(session.replies([line])[1])
     memory = session.memory()

@@ -1,7 +1,7 @@
 #!/usr/bin/env python3
-"""Tries what users and operators meet: the printed sessions of the documents, the examples, the front, the installation.
+"""Tries what users and operators meet: the documents and their printed sessions, the examples, the installation.
 
-usage: bench/users.py [--http-guard] [PROGRAM]     (crates/navd/out/navd, as `make build` leaves it)
+usage: bench/users.py [PROGRAM]     (crates/navd/out/navd, as `make build` leaves it)
 
 Each row is one thing that is tried, in a temporary folder. A row that goes otherwise is marked, and the script ends with
 1. What this machine can't try, for want of a shell or of a program that shows man pages, is told as not shown, and fails
@@ -12,7 +12,9 @@ It needs `make` and Python's standard library alone.
 
 import json
 import os
+import pty
 import re
+import select
 import shutil
 import signal
 import socket
@@ -91,10 +93,11 @@ def is_listened_at(port):
 class Server:
     """A `navd serve` with so many doors, each for so many connections, that listens; ended with its block."""
 
-    def __init__(self, doors, connections):
+    def __init__(self, doors, connections, environment=None):
         self.port = free_port()
         words = [PROGRAM, "serve", str(self.port), str(doors), str(connections)]
-        self.process = subprocess.Popen(words, stdin=subprocess.DEVNULL, stdout=subprocess.PIPE, stderr=subprocess.PIPE)
+        self.process = subprocess.Popen(words, stdin=subprocess.DEVNULL, stdout=subprocess.PIPE, stderr=subprocess.PIPE,
+                                        env={**os.environ, **(environment or {})})
         until = time.monotonic() + SECONDS
         while not is_listened_at(self.port):
             wanted(time.monotonic() < until and self.process.poll() is None, "navd serve doesn't listen")
@@ -238,6 +241,48 @@ def cells():
     return f"{seen} cells"
 
 
+def sections_of_crates():
+    """The sections of crates.txt, each with its title up to its first stop and its crates in their order."""
+    sections = []
+    for paragraph in read(TOP, "crates.txt").split("\n\n")[1:]:
+        title = re.split(r"[.:;]", paragraph.lstrip("# "))[0]
+        sections.append((title, re.findall(r"^(\w+):", paragraph, re.MULTILINE)))
+    return [(title, crates) for title, crates in sections if not crates[0].startswith("aux_")]
+
+
+def crates_in_order():
+    """The README and the page on the layers show the crates in the sections of crates.txt, and in their order."""
+    sections, seen = sections_of_crates(), 0
+    proved = read(TOP, "README.md").split("\n## What is proved\n")[1].split("\n## ")[0]
+    shown = [part.split("\n", 1) for part in proved.split("\n### ")[1:]]
+    wanted([title for title, _ in shown][: len(sections)] == [title for title, _ in sections], "the README has other sections")
+    for (title, crates), (_, part) in zip(sections, shown):
+        rows = [re.findall(r"\[`(\w+)`\]", line.split(" | ")[0]) for line in part.splitlines() if line.startswith("| [")]
+        wanted(sorted(sum(rows, [])) == sorted(crates), f"the README has other crates in {title}")
+        firsts = [row[0] for row in rows]
+        wanted(firsts == [crate for crate in crates if crate in firsts], f"the README has another order in {title}")
+        seen += len(crates)
+    rows = re.findall(r"^\| ([^|]+) \| (`[^|]+) \|$", read(TOP, "docs", "ARCHITECTURE.md"), re.MULTILINE)
+    layers = [(re.split(r"[:;]", title)[0].lower(), re.findall(r"`(\w+)`", crates)) for title, crates in rows]
+    wanted(layers == [(title.lower(), crates) for title, crates in sections], "ARCHITECTURE.md shows them otherwise")
+    return f"{seen} crates"
+
+
+def files_named():
+    """Each file of the repository that a document names, by its path or its last part, is there."""
+    there, seen = set(), 0
+    for place, folders, names in os.walk(TOP):
+        folders[:] = [name for name in folders if name not in (".git", "out")]
+        there.update(os.path.join("/", os.path.relpath(os.path.join(place, name), TOP)) for name in names)
+    ends = {path[at:] for path in there for at in range(len(path)) if path[at] == "/"}
+    for path in documents():
+        for name in re.findall(r"`([\w./-]+\.(?:rt|antt|rows|sh))`", read(TOP, path)):
+            wanted(f"/{name}" in ends, f"{path} names {name}, which isn't there")
+            seen += 1
+    wanted(seen > 0, "no file was named")
+    return f"{seen} names"
+
+
 def readme_in_neovim():
     """The README's lines for Neovim answer as those of the editors' guide do."""
     if not shutil.which("nvim"):
@@ -262,7 +307,7 @@ def readme_in_neovim():
 
 def checkout(folder):
     """The parts of the repository that people use without a kit, in a folder, with the program on a path of its own."""
-    for part in ("Makefile", "README.md", "CHANGELOG.md", "docs", "examples", "share"):
+    for part in ("Makefile", "README.md", "CHANGELOG.md", "docs", "examples", "share", "clients"):
         source, target = os.path.join(TOP, part), os.path.join(folder, part)
         ignored = shutil.ignore_patterns("__pycache__")
         shutil.copytree(source, target, ignore=ignored) if os.path.isdir(source) else shutil.copy(source, target)
@@ -325,17 +370,21 @@ def left_out_files(folder):
     os.symlink("nowhere", os.path.join(folder, "g.py"))
     os.symlink("h.py", os.path.join(folder, "h.py"))
     os.mkfifo(os.path.join(folder, "i.py"))
+    write("x = 1\né = 1 # \x1b[2J\n", folder, "k.py")
+    write("def f(:\n    pass\n", folder, "l.py")
     os.makedirs(os.path.join(folder, "j.py"))
     reasons = [
         "left out b.py: line 4: unsupported: keyword argument\n    f(y, size=1)\n",
         "left out c.py: line 1: it isn't UTF-8\n",
         "left out d.py: large",
-        "left out e.sg.json: json\n",
+        "left out e.sg.json: json: it isn't JSON\n",
         "left out g.py: it can't be read: No such file or directory\n",
         "left out h.py: it can't be read: Too many levels of symbolic links\n",
         "left out i.py: it isn't a file\n",
-        "left out my-tool.py: bad_name\n",
-        "left out \x01/f.py: its path isn't one that navd takes\n",
+        "left out my-tool.py: bad_name: its path is no name of a module\n",
+        "left out \\x01/f.py: its path isn't one that navd takes\n",
+        "left out k.py: line 2: not_ascii: a byte order mark, or a letter outside of ASCII in a name\n    é = 1 # \\x1b[2J\n",
+        "left out l.py: line 3: bad_token: this Python doesn't read it either (line 1): ",
     ]
     asks(folder, "define a.py:2:1", 0, "a.py:1:1\n", reasons)
     for question in ("uses b.py", "define b.py:1:1", "references b.py:1:1"):
@@ -392,7 +441,7 @@ def wrong_programs(folder):
 
 
 def ask_at_a_port(folder):
-    """With --port the files are committed to a server, together, and stay there."""
+    """With --port the files are committed to a server, together, and stay there; where all doors are taken that is said."""
     write("x = 1\nx\n", folder, "a.py")
     write("f(a=1)\n", folder, "b.py")
     words = [sys.executable, "-B", os.path.join(TOP, "examples", "ask.py"), "--port"]
@@ -402,8 +451,46 @@ def ask_at_a_port(folder):
         wanted(out == "a.py:1:1\n", f"it answers {out!r}")
         other = server.client()
         other.asks('{"do":"hello","user":"operator"}', '{"version":1}')
+        second = server.client()
+        second.asks('{"do":"pin"}', error("no_user"))
+        out, said = ran([*words, str(server.port), folder, "define", "a.py:2:1"], 1)
+        wanted("each of its doors may have another client" in said and not out, f"where no door is free it says {said!r}")
     out, said = ran([*words, str(free_port()), folder, "define", "a.py:2:1"], 1)
     wanted("nobody answers at port" in said and not out, f"it says {said!r}")
+
+
+# The client for real projects, as the documents begin with it.
+
+
+def client_environment(folder):
+    """Where the client keeps nothing outside of the folder, and finds the program."""
+    if sys.version_info < (3, 9):
+        raise NotShown("the client needs Python 3.9")
+    return {**checkout(folder), "NAVD": PROGRAM, "PYTHONPATH": "clients/python", "XDG_CACHE_HOME": os.path.join(folder, "cache")}
+
+
+def client_asks(folder):
+    """The README's command for a folder of one's own answers, over the project of the examples."""
+    (words,) = re.findall(r"^NAVD=\S+ PYTHONPATH=clients/python (python3 .*)$", read(TOP, "README.md"), re.MULTILINE)
+    wanted(words.endswith(" ask ~/src/project define app/main.py:12:9"), f"it is another command: {words}")
+    question = words.replace("~/src/project", "examples/project").replace("app/main.py:12:9", "main.py:3:3").split()
+    out, _ = ran([sys.executable, *question[1:]], folder=folder, **client_environment(folder))
+    wanted(out == "pkg/tools.py:2:9: def size(self):\n", f"it answers {out!r}")
+
+
+def client_keeps_a_server(folder):
+    """The session beside `navd-py serve` that the guide for editors prints is answered so."""
+    guide = read(TOP, "docs", "EDITORS.md")
+    (session,) = re.findall(r"```text\n(\{.*?)```", guide, re.DOTALL)
+    lines, environment = session.splitlines(), client_environment(folder)
+    wanted("\nnavd-py serve examples/project --port 4711\n" in guide, "it prints another command")
+    with Server(2, 4) as server:
+        words = ["-m", "navd_py", "serve", "examples/project", "--port", str(server.port), "--once"]
+        _, said = ran([sys.executable, *words], folder=folder, **environment)
+        wanted("3 graphs committed, version 1" in said, f"it says {said!r}")
+        client = server.client()
+        for request, reply in zip(lines[::2], lines[1::2]):
+            client.asks(request, reply)
 
 
 # Each text is refused at its last line but those that are marked, for a construct with this name.
@@ -632,6 +719,11 @@ def front_with_a_hostile_client(folder):
             stranger = front.client()
             stranger.asks(first, error("unknown_token"))
             stranger.is_at_the_end()
+        hasty = front.client()
+        hasty.socket.sendall(json.dumps({"token": TOKENS["ann"]}).encode() + b"\n" + HELLO + KEYS.encode() + b"\n" + HELLO[:-1])
+        hasty.socket.shutdown(socket.SHUT_WR)
+        told = hasty.replies.read().decode().splitlines()
+        wanted(told == ['{"version":2}', error("not_passed_on"), error("no_file"), error("not_passed_on")], f"at once: {told}")
         stranger = front.client()
         stranger.asks(b" " * 2_000, error("long_line"))
         stranger.is_at_the_end()
@@ -787,6 +879,10 @@ def archive(folder):
     prefix = os.path.join(folder, "prefix")
     make(os.path.join(away, inside), {}, "install", f"PREFIX={prefix}")
     wanted(files_below(prefix) == sorted(INSTALLED), f"it installs {files_below(prefix)}")
+    for words in (["examples/ask.py", "--navd", "./navd"], ["-m", "navd_py", "ask"]):
+        out, _ = ran([sys.executable, "-B", *words, "examples/project", "define", "main.py:3:3"], folder=os.path.join(away, inside),
+                     NAVD="./navd", PYTHONPATH="clients/python", XDG_CACHE_HOME=os.path.join(folder, "cache"))
+        wanted(out.startswith("pkg/tools.py:2:9"), f"{words} answer {out!r}")
     return os.path.basename(path)
 
 
@@ -815,6 +911,8 @@ def man_pages(folder):
             wanted(piece in shown, f"{page} doesn't show {piece!r}")
     page = read(prefix, "share/man/man5/navd-protocol.5")
     said = set(re.findall(r"`([a-z_]+)`", read(TOP, "docs", "FORMATS.md").split("# Replies")[1].split("The faults of a document")[0]))
+    faults = read(TOP, "docs", "FORMATS.md").split("The faults of a document")[1].split("# Errors of editors")[0]
+    said |= {word for row in faults.splitlines() if row.startswith("| `") for word in re.findall(r"`(\w+)`", row.split(" | ")[0])}
     missing = sorted(word for word in said - {"once", "upgrade"} if word not in page)
     wanted(not missing, f"navd-protocol(5) lacks {missing}")
 
@@ -833,31 +931,67 @@ def unit(folder):
     wanted(f"ExecStart={prefix}/bin/navd serve " in read(path), "it starts another program")
 
 
-def completed(shell, words):
-    if not shutil.which(shell):
-        raise NotShown(f"there is no {shell}")
-    return ran([shell, *words])[0].split()
+def typed(shell, words, line, answer):
+    """Types the line into a shell at a terminal, until what it shows has the answer."""
+    child, terminal = pty.fork()
+    if child == 0:
+        os.environ["TERM"] = "dumb"
+        os.execvp(shell, [shell, *words])
+    shown, until = b"", time.monotonic() + SECONDS
+    try:
+        os.write(terminal, line)
+        while answer not in shown and time.monotonic() < until and select.select([terminal], [], [], SECONDS)[0]:
+            shown += os.read(terminal, 65_536)
+    except OSError:
+        # The shell has ended.
+        pass
+    finally:
+        os.kill(child, signal.SIGKILL)
+        os.close(terminal)
+        os.waitpid(child, 0)
+    wanted(answer in shown, f"{shell} shows {shown[-200:]!r}, without {answer!r}")
+
+
+def memory_of(process, what):
+    """So many megabytes of a process, as Linux tells them."""
+    try:
+        return int(re.search(rf"^{what}:\s+(\d+) kB", read("/proc", str(process.pid), "status"), re.MULTILINE).group(1)) / 1_000
+    except OSError as why:
+        raise NotShown("the system doesn't tell a program's memory") from why
+
+
+def memory_given_back():
+    """In the environment of the systemd unit the memory of a long line goes back to the system, behind its reply."""
+    settings = re.findall(r"^Environment=(.*)$", read(TOP, "share", "systemd", "navd.service"), re.MULTILINE)
+    environment = dict(setting.split("=", 1) for line in settings for setting in line.split())
+    with Server(1, 1, environment) as server:
+        client = server.client()
+        client.asks(b"[" + b",".join([b'{"a":1}'] * 250_000) + b"]", '{"error":"bad_request","field":"do"}')
+        client.asks('{"do":"pin"}', error("no_user"))
+        most, left = memory_of(server.process, "VmHWM"), memory_of(server.process, "VmRSS")
+        wanted(left < most / 4, f"{left:.0f} MB stay of {most:.0f}")
+    return f"{most:.0f} MB, {left:.0f} afterwards"
 
 
 def completions():
     """Each shell completes the commands."""
     folder, commands = os.path.join(TOP, "share", "completions"), ["demo", "lsp", "once", "run", "serve", "upgrade"]
-    ask = f"source {folder}/navd.bash; COMP_WORDS=(navd ''); COMP_CWORD=1; _navd; echo ${{COMPREPLY[@]}}"
-    shown = {}
-    fish = f"source {folder}/navd.fish; complete -C 'navd ' | cut -f 1"
-    for shell, words in (("bash", ["--norc", "-c", ask]), ("fish", ["-N", "-c", fish])):
-        try:
-            found = sorted(completed(shell, words))
-            wanted(found == commands, f"{shell} completes {found}")
-            shown[shell] = "completes"
-        except NotShown as why:
-            shown[shell] = str(why)
-    try:
-        completed("zsh", ["-f", "-n", os.path.join(folder, "_navd")])
-        shown["zsh"] = "takes it"
-    except NotShown as why:
-        shown["zsh"] = str(why)
-    return ", ".join(f"{shell} {what}" for shell, what in shown.items())
+    line = "; navd() { echo \"so: $*.\"; }\nnavd upg\t; navd ser\t47\t\n"
+    setups = {
+        "bash": (["--norc", "--noprofile", "-i"], f"source {folder}/navd.bash{line}"),
+        "zsh": (["-f", "-i"], f"fpath=({folder} $fpath); autoload -Uz compinit; compinit -u -D{line}"),
+    }
+    shown = [shell for shell in setups if shutil.which(shell)]
+    for shell in shown:
+        words, lines = setups[shell]
+        typed(shell, words, lines.encode(), b"so: upgrade.\r\nso: serve 47.\r\n")
+    if shutil.which("fish"):
+        out, _ = ran(["fish", "-N", "-c", f"source {folder}/navd.fish; complete -C 'navd ' | cut -f 1"])
+        wanted(sorted(out.split()) == commands, f"fish completes {out.split()}")
+        shown.append("fish")
+    if not shown:
+        raise NotShown("there is neither bash nor zsh nor fish")
+    return f"{', '.join(shown)}{'' if len(shown) == 3 else '; the others are not here'}"
 
 
 TABLE = [
@@ -866,6 +1000,8 @@ TABLE = [
     ("the examples of the man pages", man_page_examples),
     ("the links of the documents", links),
     ("the cells of their tables", cells),
+    ("the crates, as crates.txt has them", crates_in_order),
+    ("the files that they name", files_named),
     ("the README's lines for Neovim", readme_in_neovim),
     ("the questions of ask.py that the README prints", printed_questions),
     ("ask.py: wrong folders, paths and places", wrong_questions),
@@ -876,6 +1012,8 @@ TABLE = [
     ("ask.py: wrong programs", wrong_programs),
     ("ask.py: at a port", ask_at_a_port),
     ("ask.py: the construct that isn't read", constructs),
+    ("the client: the README's question", client_asks),
+    ("the client: a server kept at a folder", client_keeps_a_server),
     ("front.py: the sessions that the README prints", front_as_printed),
     ("front.py: in a network namespace", front_in_a_namespace),
     ("front.py: two users", front_with_two_users),
@@ -888,6 +1026,7 @@ TABLE = [
     ("make dist", archive),
     ("the man pages, installed and shown", man_pages),
     ("the systemd unit", unit),
+    ("the unit's environment and the memory of a long line", memory_given_back),
     ("the completions", completions),
     ("navd serve closes what begins as an HTTP request", http_guard),
 ]

@@ -7,7 +7,7 @@ usage: bench/views.py [PROGRAM]     (crates/aux_bench/out/aux_bench, as bench/vi
 Each file of a tree has a reference to a name of another file and one name of its own. In a flat tree each name is
 reached by a symbol of its own; in a deep package three symbols that all names share stand before it. The version and its
 index are made once before the questions are asked: what a run of the program without a question takes is taken off. A
-call of `references` asks all references of the tree.
+call of `references` makes its view first and asks all references of the tree.
 """
 
 import json

@@ -11,7 +11,8 @@ COLUMN count from 1, as editors show them; a column is one in bytes. `uses` list
 where it is defined. A file that navd doesn't take is left out and listed with the reason, and with its line where there
 is one. The program is found by --navd, else at crates/navd/out/navd beside this script's folder, else on the PATH.
 
-The status is 0 where the question was answered, also by `none`, else 1, with a line on standard error that says why.
+The status is 0 where the question was answered, also by `none`, and 2 where the words are wrong, else 1, with a line on
+standard error that says why.
 
 It needs Python's standard library alone, and is no part of the server.
 """
@@ -41,11 +42,26 @@ NO_VERSION = 4_294_967_295
 LAST = 4_294_967_295
 # Faults of a module of Python for which the construct on the line is named.
 CONSTRUCT_FAULTS = ("unsupported", "expected", "bad_token")
+# How many seconds a navd that listens may take for its first reply: where all its doors have clients, none comes.
+FIRST_REPLY_SECONDS = 10
+# What faults of files mean, where their words don't say it.
+MEANINGS = {
+    "bad_indent": "it goes back to a column where no block begins",
+    "bad_name": "its path is no name of a module",
+    "bad_token": "no token begins there, or a string or a bracket isn't closed",
+    "heavy": "there are too many paths through it",
+    "json": "it isn't JSON",
+    "not_ascii": "a byte order mark, or a letter outside of ASCII in a name",
+    "shape": "it isn't formed as a graph file",
+    "too_deep": "more than 64 brackets and blocks are open",
+    "too_heavy": "there are too many paths through all files together",
+    "too_many_files": "a version has at most 2,048 files",
+}
 # Why a question has no answer, as a user reads it.
 REFUSALS = {
     "crowded": "crowded: a reference that has to be looked at has more than 8,192 paths within the bounds",
-    "no_reference": "no name is used there",
-    "no_definition": "no name is defined there",
+    "no_reference": "no name is used there; of one that is defined there, ask for `references`",
+    "no_definition": "no name is defined there; of one that is used there, ask for `define`",
     "no_file": "navd has no such file",
 }
 
@@ -68,6 +84,10 @@ class Navd:
     def __init__(self, requests: BinaryIO, replies: BinaryIO):
         self.requests, self.replies = requests, replies
 
+    def begin(self) -> None:
+        """Says who asks."""
+        self.ask(do="hello", user="operator")
+
     def ask(self, **request) -> Dict:
         """The reply to a request. It fails where navd has ended, or what answers isn't navd."""
         line = json.dumps(request, ensure_ascii=False).encode() + b"\n"
@@ -75,7 +95,10 @@ class Navd:
             self.requests.write(line)
             self.requests.flush()
             reply = self.replies.readline()
+        except socket.timeout:
+            raise
         except OSError as error:
+            self.let_go()
             raise Failed(f"navd ended: {error.strerror or error}") from error
         if not reply:
             raise Failed("navd ended before it answered")
@@ -86,6 +109,13 @@ class Navd:
         if not isinstance(told, dict):
             raise Failed(f"what answers there isn't navd: it says {reply[:60]!r}")
         return told
+
+    def let_go(self) -> None:
+        """Closes what nobody reads, so that Python doesn't try to write the rest at its end."""
+        try:
+            self.requests.close()
+        except OSError:
+            pass
 
 
 class Started(Navd):
@@ -113,6 +143,15 @@ class Connected(Navd):
         except OSError as error:
             raise Failed(f"nobody answers at port {port}: {error.strerror}") from error
         super().__init__(self.socket.makefile("wb"), self.socket.makefile("rb"))
+        self.port = port
+
+    def begin(self) -> None:
+        self.socket.settimeout(FIRST_REPLY_SECONDS)
+        try:
+            super().begin()
+        except socket.timeout as error:
+            raise Failed(f"navd at port {self.port} is silent: each of its doors may have another client") from error
+        self.socket.settimeout(None)
 
     def end(self) -> None:
         self.ask(do="quit")
@@ -163,11 +202,22 @@ def reason_of(reply: Dict, path: str, text: str) -> str:
         return "its path isn't one that navd takes"
     if "line" in reply:
         construct = construct_at(text, reply["line"]) if fault in CONSTRUCT_FAULTS else None
-        return f"line {reply['line'] + 1}: {fault}" + (f": {construct}" if construct else "")
+        return f"line {reply['line'] + 1}: {explained(fault, construct)}"
     for member in ("node", "edge", "bytes", "weight", "nodes", "edges", "files"):
         if member in reply:
-            return f"{fault} ({member} {reply[member]})"
-    return fault
+            return f"{explained(fault)} ({member} {reply[member]})"
+    return explained(fault)
+
+
+def explained(fault: str, construct: Optional[str] = None) -> str:
+    """The word of a fault, with the construct or what it means."""
+    meaning = construct or MEANINGS.get(fault)
+    return f"{fault}: {meaning}" if meaning else fault
+
+
+def visible(text: str) -> str:
+    """The text with escapes for what a terminal would obey and not show."""
+    return "".join(one if one.isprintable() or one == "\t" else one.encode("unicode_escape").decode() for one in text)
 
 
 def line_of(text: str, number: int) -> Optional[str]:
@@ -233,9 +283,9 @@ def commit(navd: Navd, batch: List[Tuple[str, str]], left_out: List[LeftOut]) ->
 def tell_left_out(left_out: List[LeftOut]) -> None:
     """Lists the files that aren't committed, each with its reason and the line at which it is refused."""
     for path, reason, line in left_out:
-        print(f"left out {path}: {reason}", file=sys.stderr)
+        print(f"left out {visible(path)}: {reason}", file=sys.stderr)
         if line is not None and line.strip():
-            print(f"    {line.strip()[:120]}", file=sys.stderr)
+            print(f"    {visible(line.strip()[:120])}", file=sys.stderr)
 
 
 def place_of(text: str) -> Tuple[str, int, int]:
@@ -252,9 +302,9 @@ def place_of(text: str) -> Tuple[str, int, int]:
 def shown(row: Dict) -> str:
     """A row of an answer as PATH:LINE:COLUMN, or by its node where it has no place in the text."""
     if row["span"] is None:
-        return f"{row['path']} (node {row['node']})"
+        return f"{visible(row['path'])} (node {row['node']})"
     line, column = row["span"][:2]
-    return f"{row['path']}:{line + 1}:{column + 1}"
+    return f"{visible(row['path'])}:{line + 1}:{column + 1}"
 
 
 def refusal_of(reply: Dict) -> str:
@@ -304,7 +354,9 @@ def uses(navd: Navd, path: str, text: str) -> None:
         reply = navd.ask(do="define", path=path, **at)
         if reply.get("error") == "no_reference":
             continue
-        here = f"{path}:{at['line'] + 1}:{at['column'] + 1}" if "line" in at else f"{path} (node {at['node']})"
+        place = visible(path)
+        here = f"{place}:{at['line'] + 1}:{at['column'] + 1}" if "line" in at else f"{place} (node {at['node']})"
+        name = visible(name)
         if "error" in reply:
             print(f"{here} {name}: {reply['error']}")
             unanswered[reply["error"]] = refusal_of(reply)
@@ -332,7 +384,7 @@ def answer(given: argparse.Namespace) -> None:
     path, line, column = (given.place, 0, 0) if given.question == "uses" else place_of(given.place)
     path = os.path.normpath(path).replace(os.sep, "/")
     navd, left_out = Started(find_program(given.navd)) if given.port is None else Connected(given.port), []
-    navd.ask(do="hello", user="operator")
+    navd.begin()
     texts = {}
     for batch in batches_of(accepted_of(navd, given.folder, left_out)):
         commit(navd, batch, left_out)
@@ -372,7 +424,7 @@ def main() -> int:
         sys.stdout.flush()
         return 0
     except Failed as why:
-        print(f"ask.py: {why}", file=sys.stderr)
+        print(f"ask.py: {visible(str(why))}", file=sys.stderr)
     except BrokenPipeError:
         # Whoever read our output has ended; nothing more is written to it, also at the end.
         os.dup2(os.open(os.devnull, os.O_WRONLY), sys.stdout.fileno())

@@ -54,7 +54,8 @@ def construct_at(text: str, line: int) -> Optional[str]:
     try:
         tree = ast.parse(text)
     except SyntaxError as error:
-        return f"this Python doesn't read it either: {error.msg}" if error.lineno == line + 1 else None
+        where = "" if error.lineno in (None, line + 1) else f" (line {error.lineno})"
+        return f"this Python doesn't read it either{where}: {error.msg}"
     except (ValueError, RecursionError, MemoryError):
         return None
     return first_on(line, tree_forms(tree))

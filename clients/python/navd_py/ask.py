@@ -264,7 +264,7 @@ def uses(folder: Folder, path: str, as_json: bool) -> int:
         raise Unanswerable(f"{path} is left out: {result.fault.message}")
     names = references_in(result)
     replies = folder.keeper.ask([{"do": "define", "path": graph_path(path), "node": node} for node, _, _ in names])
-    listed = []
+    listed: List[Dict[str, Any]] = []
     for (_, name, span), reply in zip(names, replies):
         place = folder.shown(path, span[0], span[1])
         places = [folder.place(row) for row in reply.get("rows", ())]

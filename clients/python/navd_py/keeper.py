@@ -304,7 +304,7 @@ class Keeper:
         raise Refused(f"navd refuses a commit: {reply}")
 
     def _within_room(self, edits: List[Request], over: int) -> List[Request]:
-        """The edits with so many files fewer: the last that aren't preferred, else in place of others that are there."""
+        """The edits with so many files fewer: the last not preferred ones, else in place of others that are there."""
         puts = [edit["put"] for edit in edits if "put" in edit]
         fresh = [path for path in puts if path not in self._there]
         others = [path for path in fresh if path not in self._preferred]

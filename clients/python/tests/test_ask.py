@@ -147,7 +147,9 @@ class Asking(unittest.TestCase):
         os.close(writer)
         self.assertNotIn("Traceback", done.stderr)
         self.assertNotIn("Exception", done.stderr)
-        done = subprocess.run([sys.executable, "-m", "navd_py", "nothing"], cwd=top, capture_output=True, text=True, check=False)
+        done = subprocess.run(
+            [sys.executable, "-m", "navd_py", "nothing"], cwd=top, capture_output=True, text=True, check=False
+        )
         self.assertEqual((done.returncode, done.stdout), (2, ""))
 
 

@@ -214,7 +214,9 @@ class Protocol(ServerTest):
         def write(message: bytes) -> None:
             os.write(sink, message)
 
-        server = Server(Options(program="/nowhere/navd"), lambda size: data.pop() if data else time.sleep(5) or b"", write)
+        server = Server(
+            Options(program="/nowhere/navd"), lambda size: data.pop() if data else time.sleep(5) or b"", write
+        )
         self.assertEqual(server.serve(), 1)
         os.close(sink)
 
@@ -374,7 +376,6 @@ class Questions(ServerTest):
         else:
             self.assertEqual(answer["error"]["code"], -32803)
             self.assertIn("somewhere in the project", answer["error"]["message"])
-
 
     def test_callers_are_asked_where_navd_has_them(self) -> None:
         """With a navd that answers `callers`, as far as the server sees: they are `references` without a flag."""

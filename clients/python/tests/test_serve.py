@@ -98,7 +98,10 @@ class Words(InFolder):
 
     def test_words_that_are_wrong(self) -> None:
         without: List[List[str]] = [[], [self.folder]]
-        for words in [*without, *([self.folder, "--port", *more] for more in (["x"], ["70000"], ["1", "--every", "0"]))]:
+        for words in [
+            *without,
+            *([self.folder, "--port", *more] for more in (["x"], ["70000"], ["1", "--every", "0"])),
+        ]:
             status, told = self.run_main(*words)
             self.assertEqual(status, 2, words)
             self.assertIn("usage:", told)

@@ -120,7 +120,13 @@ class Input(Marked):
         self.ask({"a.py": "x = 1\n", "a/__init__.py": "<x|x> = 2\n", "m.py": "import a\n"})
 
     def test_names_of_files_that_are_no_names(self) -> None:
-        self.ask({"my script.py": "<x|x> = 1\n<?x|x>\n", 'quo"te.py': "<y|y> = 1\n<?y|y>\n", "dotted.name.py": "<z|z> = 1\n<?z|z>\n"})
+        self.ask(
+            {
+                "my script.py": "<x|x> = 1\n<?x|x>\n",
+                'quo"te.py': "<y|y> = 1\n<?y|y>\n",
+                "dotted.name.py": "<z|z> = 1\n<?z|z>\n",
+            }
+        )
 
     def test_names_in_other_normal_forms(self) -> None:
         self.write("m.py", "ﬁle = 1\nﬁle.ﬁeld\nclass ﬂow:\n    def ﬁnd(self, ﬁrst): return ﬁrst\n".encode())

@@ -23,8 +23,8 @@ from navd_py.session import Session
 
 LIBRARY = sysconfig.get_paths()["stdlib"]
 PART = (
-    "argparse ast asyncio collections concurrent contextlib dataclasses email enum functools html http importlib inspect json"
-    " logging pathlib selectors socket subprocess tempfile tokenize typing unittest urllib weakref xml"
+    "argparse ast asyncio collections concurrent contextlib dataclasses email enum functools html http importlib"
+    " inspect json logging pathlib selectors socket subprocess tempfile tokenize typing unittest urllib weakref xml"
 ).split()
 LEFT_OUT = frozenset(["test", "tests", "idlelib", "lib2to3", "site-packages", "__pycache__", "turtledemo"])
 
@@ -66,7 +66,9 @@ class Library(Marked):
         self.assertGreater(len(results), 50)
         for path, result in results.items():
             if result.source is None:
-                self.assertFalse(parses(os.path.join(self.folder, path)) and "more than" not in str(result.fault), result)
+                self.assertFalse(
+                    parses(os.path.join(self.folder, path)) and "more than" not in str(result.fault), result
+                )
             else:
                 self.check_spans(result)
                 keeper.put(graph_path(path), result.source)

@@ -42,7 +42,9 @@ class Editor:
     def __init__(self, navd: str, folder: str) -> None:
         words = [sys.executable, "-m", "navd_py", "lsp", "--navd", navd]
         environment = {**os.environ, "PYTHONPATH": CLIENT}
-        self.process = subprocess.Popen(words, stdin=subprocess.PIPE, stdout=subprocess.PIPE, env=environment, bufsize=0)
+        self.process = subprocess.Popen(
+            words, stdin=subprocess.PIPE, stdout=subprocess.PIPE, env=environment, bufsize=0
+        )
         self.numbers = itertools.count(1)
         self.answers: "queue.Queue[Dict[str, Any]]" = queue.Queue()
         threading.Thread(target=self._read, daemon=True).start()
@@ -141,7 +143,10 @@ class Session:
         self.version += 1
         document = {"uri": self.uri, "version": self.version}
         self.editor.send(
-            {"method": "textDocument/didChange", "params": {"textDocument": document, "contentChanges": [{"text": text}]}}
+            {
+                "method": "textDocument/didChange",
+                "params": {"textDocument": document, "contentChanges": [{"text": text}]},
+            }
         )
 
     def ask(self, what: str, below: int = 0) -> Any:

@@ -74,7 +74,9 @@ def written(folder: str, files: List[Tuple[str, bytes]]) -> str:
 Settings = Optional[Dict[str, Any]]
 
 
-def build_wheel(wheel_directory: str, config_settings: Settings = None, metadata_directory: Optional[str] = None) -> str:
+def build_wheel(
+    wheel_directory: str, config_settings: Settings = None, metadata_directory: Optional[str] = None
+) -> str:
     return written(wheel_directory, list(modules()) + metadata())
 
 

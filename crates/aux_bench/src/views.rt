@@ -3,13 +3,13 @@
 ghost use Rattle.root_index.specs.Roots.{IsIndexOfView};
 
 use crate::graphs::{file_of, graph};
-use nav_answers::{Answer, AskFault, At, define, references};
+use nav_answers::{Answer, AskFault, AskedView, At, define, references};
 use nav_io::Unguarded;
 use partial_path::{Bounds, SharedPaths};
 use root_index::RootIndex;
 use std::alloc::Global;
 use std::thread::Threads;
-use version_tree::{Edit, PathText, Version, View};
+use version_tree::{Edit, PathText, Version};
 
 /// The node of each file that is asked for its definitions, and the one that is asked for its references.
 const REFERENCE: At = At::Node(0);
@@ -57,8 +57,9 @@ fn rows(answer: Result<Answer, AskFault>) -> usize {
 }
 
 /// Asks the files in turn, so many times in all, for the definitions of their node 0 or for the references of their
-/// node 1, over a version with the graphs of the lines: how many rows that gave the last time. `None` where a line is
-/// no graph or is too heavy, or memory is refused.
+/// node 1, over a version with the graphs of the lines: how many rows that gave the last time. References are asked of a
+/// view that is made for each call, so that nothing of them is kept. `None` where a line is no graph or is too heavy, or
+/// memory is refused.
 pub fn viewed<R: Threads + Sync>(
     rt: &R,
     alloc: Global,
@@ -87,25 +88,34 @@ fn asked<R: Threads + Sync>(
     let mut last = 0;
     for n in 0..times {
         let path = paths[n as usize % paths.len()].as_str();
-        last = asked_once(rt, alloc, &view, &index, path, refers);
+        last = if refers {
+            let mut fresh = AskedView::of(version.view(alloc, "operator").ok()?);
+            referred(rt, alloc, &mut fresh, &index, path)
+        } else {
+            rows(define(alloc, &view, &index, path, REFERENCE, Bounds::usual()))
+        };
     }
     Some(last)
 }
 
-fn asked_once<R: Threads + Sync>(
+/// How many rows the references of the file's node have, of a view of which nothing is kept.
+fn referred<R: Threads + Sync>(
     rt: &R,
     alloc: Global,
-    view: &View,
+    seen: &mut AskedView,
     index: &RootIndex,
     path: &str,
-    refers: bool,
 ) -> usize
-    requires { IsIndexOfView index.now view.now }
+    requires { IsIndexOfView index.now seen.old }
 {
-    let bounds = Bounds::usual();
-    if refers {
-        rows(references(rt, alloc, view, index, &Unguarded, path, DEFINITION, bounds))
-    } else {
-        rows(define(alloc, view, index, path, REFERENCE, bounds))
-    }
+    rows(references(
+        rt,
+        alloc,
+        seen,
+        index,
+        &Unguarded,
+        path,
+        DEFINITION,
+        Bounds::usual(),
+    ))
 }

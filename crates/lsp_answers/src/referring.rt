@@ -19,7 +19,7 @@ use crate::querying::{Place, definitions};
 use graph_nodes::Span;
 use lsp_texts::OpenTexts;
 use lsp_wire::Outcome;
-use nav_answers::{AskFault, definition_at, references_of_any};
+use nav_answers::{AskFault, AskedView, definition_at, references_of_any};
 use nav_io::Gate;
 use partial_path::{Bounds, FilePaths};
 use root_index::RootIndex;
@@ -114,23 +114,25 @@ fn targets(alloc: Global, view: &View, index: &RootIndex, place: &Place) -> Resu
 fn refer_to_all<R: Threads + Sync, G: Gate + Sync>(
     rt: &R,
     alloc: Global,
-    view: &View,
+    seen: &mut AskedView,
     index: &RootIndex,
     gate: &G,
     targets: &[Row],
 ) -> Result<Rows, AskFault>
-    requires index { IsIndexOfView index.now view.now }
-    ensures { result ≢ Err ask.NoMemory → IsReferencesOfAnyReply usual (graph_rows view.now) targets.now result }
+    requires index { IsIndexOfView index.now seen.old }
+    ensures reply { result ≢ Err ask.NoMemory → IsReferencesOfAnyReply usual (graph_rows seen.old) targets.now result }
+    ensures same { seen.new ≡ seen.old }
 {
-    references_of_any(rt, alloc, view, index, gate, targets, Bounds::usual())
+    references_of_any(rt, alloc, seen, index, gate, targets, Bounds::usual())
 }
 
 /// What an editor is told of the references of what stands at the place, and of the targets too where the declaration is
-/// asked for. All targets are asked about at once. The one error is want of memory.
+/// asked for. All targets are asked about at once. What was found of the references is kept beside the view. The one
+/// error is want of memory.
 pub fn tell_references<R: Threads + Sync, G: Gate + Sync>(
     rt: &R,
     alloc: Global,
-    view: &View,
+    seen: &mut AskedView,
     index: &RootIndex,
     gate: &G,
     root: &[u8],
@@ -138,13 +140,14 @@ pub fn tell_references<R: Threads + Sync, G: Gate + Sync>(
     place: &Place,
     declaration: bool,
 ) -> Result<Outcome, AllocError>
-    requires index { IsIndexOfView index.now view.now }
-    ensures { IfOk result (TellsReferences (graph_rows view.now) root.now (texts_in texts.now) declaration
+    requires index { IsIndexOfView index.now seen.old }
+    ensures told { IfOk result (TellsReferences (graph_rows seen.old) root.now (texts_in texts.now) declaration
         place.now.path (at.Point place.now.line place.now.column)) }
+    ensures same { seen.new ≡ seen.old }
 {
-    match targets(alloc, view, index, place) {
+    match targets(alloc, seen.view(), index, place) {
         Ok(targets) => {
-            let asked = refer_to_all(rt, alloc, view, index, gate, targets.items());
+            let asked = refer_to_all(rt, alloc, seen, index, gate, targets.items());
             tell_asked(alloc, root, texts, targets, asked, declaration)
         }
         Err(fault) => outcome_of_fault(fault),

@@ -9,10 +9,12 @@ pub mod Numbers
 pub mod Pointed
 pub mod Own
 pub mod Kept
+pub mod Alone
 pub mod Exact
 pub mod OneReply
 pub mod Told
 pub mod Asked
+pub mod Linked
 pub mod Referred
 pub mod United
 pub mod Shared

@@ -1,8 +1,8 @@
--- What was told of all references of files tells the references of definitions.
-use Rattle.std.proofs.Common.{◌≡◌, refl, sym, ◌∙◌, ap, subst, List, [], ◌∷◌, map, Bool, true, eqb, eq-eqb, eqb-true, Option, Some, None, IsSomeAnd, IsTrue, Contains, ◌↔◌, Result, Ok, Err, ◌⊎◌, inl, inr}
-use Rattle.std.specs.Prelude.{filter}
-use Rattle.std.specs.List.{AllByRecursion, list_any}
-use Rattle.std.proofs.lemmas.Bool.{and_parts, and_from}
+-- What was found of all references of files tells the references of definitions.
+use Rattle.std.proofs.Common.{◌≡◌, refl, sym, ◌∙◌, ap, subst, List, [], ◌∷◌, ◌++◌, map, Bool, true, false, ◌||◌, Option, Some, None, IsSomeAnd, IsTrue, Contains, ◌↔◌, Result, Ok, Err, ◌⊎◌, inl, inr}
+use Rattle.std.specs.Prelude.{IfOk, OnOk}
+use Rattle.std.specs.List.Sorted.{IsStrictlySortedBy}
+use Rattle.std.proofs.lemmas.Bool.{false≢true, or_cases, or_left, or_right}
 use Rattle.graph_nodes.specs.Graph.{Graph}
 use Rattle.stacks_vars.specs.declared.scopes.NodeAt.{NodeAt}
 use Rattle.partial_path.specs.declared.config.Config.{Config}
@@ -13,21 +13,26 @@ use Rattle.partial_path.specs.Counted.{IsCrowded, HasLimit}
 use Rattle.version_tree.specs.declared.row.Answer.{Answer}
 use Rattle.version_tree.specs.Contents.{FileRow}
 use Rattle.version_tree.specs.Graphs.{GraphRow, graph_rows}
+use Rattle.stitcher.specs.declared.found.StitchFault.{StitchFault}
+use Rattle.whole_search.specs.declared.found.Found.{Found}
 use Rattle.whole_search.specs.declared.found.Hit.{Hit}
-use Rattle.whole_search.specs.Answers.{ComesBefore, IsRising, AreRows, IsDefinitionFrom, AreDefinitions, IsReferenceOf, IsAnyCrowded, HasAnyLimit}
+use Rattle.whole_search.specs.Answers.{IsRising, AreRows, IsDefinitionFrom, AreDefinitions, IsReferenceOf, IsAnyCrowded, HasAnyLimit}
 use Rattle.list_facts.specs.Members.{IsIn}
-use Rattle.list_facts.specs.Apart.{Pairs}
-use Rattle.list_facts.proofs.Each.{each as all_so, each_mapped}
-use Rattle.list_facts.proofs.Members.{IsIn-filter, IsIn-filter_from, IsIn-map, IsIn-map_from, IsIn-from_Contains, Contains-from_IsIn, passing_member, list_any-from_member, at_member}
-use Rattle.list_facts.proofs.Pairs.{Pairs-filter}
-use Rattle.nav_answers.specs.declared.asking.Told.{Told}
+use Rattle.list_facts.proofs.Members.{IsIn-append_left, IsIn-append_right, IsIn-append_cases, IsIn-map, IsIn-map_from, IsIn-from_Contains, Contains-from_IsIn}
+use Rattle.nav_answers.specs.declared.links.Link.{Link}
+use Rattle.nav_answers.specs.declared.links.Links.{Links}
 use Rattle.nav_answers.specs.declared.found.AskFault.{AskFault}
 use Rattle.nav_answers.specs.declared.found.AskFault.TheVariants.{Crowded}
 use Rattle.nav_answers.specs.Replies.{graphs_in, hit_of, row_of, IsReplyAbout, IsReferenceReply}
-use Rattle.nav_answers.specs.Asking.{references_from, IsOneFrom, IsToldFrom, IsTold, asked_in, rows_in, same_hit, has_any, IsReferenceOfAny, IsReplyToAny, HasReferences}
+use Rattle.nav_answers.specs.Links.{link_of, links_of, by_link, rows_of_one, rows_of_any}
+use Rattle.nav_answers.specs.Asking.{references_from, IsOneFrom, IsFoundFrom, IsFound, place_of, AreLinks, AreFound, IsHeld, LetsGo, IsTable, IsTold, IsKnownOf, IsKnown, is_whole, IsReferenceOfAny, IsReplyToAny, HasReferences}
 use Rattle.nav_answers.specs.Sources.{graphs_seen}
 use Rattle.nav_answers.proofs.Numbers.{same_graphs}
-use Rattle.nav_answers.proofs.Asked.{IsBefore, in_order, starts_listed}
+use Rattle.nav_answers.proofs.Asked.{starts_listed}
+use Rattle.nav_answers.specs.declared.asked_view.Known.{Known}
+use Rattle.nav_answers.specs.declared.asked_view.Told.{Told}
+use Rattle.nav_answers.specs.declared.asked_view.Told.TheVariants as said
+use Rattle.nav_answers.proofs.Linked.{row_linked, linked_row, any_linked, linked_any, rows_rise}
 
 pub some_so : {X : Type 0} (o : Option X) (P Q : X → Type 0) → ((x : X) → P x → Q x) → IsSomeAnd o P → IsSomeAnd o Q
 some_so None P Q so h = absurd h
@@ -37,160 +42,203 @@ both_so : {X : Type 0} (o : Option X) (P Q : X → Type 0) (R : Type 0) → ((x 
 both_so None P Q R so h k = absurd h
 both_so (Some x) P Q R so h k = so x h k
 
--- lists in order stay so
-unmapped : {X Y : Type 0} (R : Y → Y → Type 0) (f : X → Y) (xs : List X) → Pairs R (map f xs) → Pairs (λ (a : X) (b : X). R (f a) (f b)) xs
-unmapped R f [] h = tt
-unmapped R f (x ∷ xs) h = (each_mapped (R (f x)) f xs h.0, unmapped R f xs h.1)
-
-all_mapped : {X : Type 0} (P : Hit → Type 0) (f : X → Hit) (xs : List X) → AllByRecursion (λ (x : X). P (f x)) xs → AllByRecursion P (map f xs)
-all_mapped P f [] h = tt
-all_mapped P f (x ∷ xs) h = (h.0, all_mapped P f xs h.1)
-
-rising_mapped : {X : Type 0} (f : X → Hit) (xs : List X) → Pairs (λ (a : X) (b : X). ComesBefore (f a) (f b)) xs → IsRising (map f xs)
-rising_mapped f [] h = tt
-rising_mapped f (x ∷ xs) h = (all_mapped (ComesBefore (f x)) f xs h.0, rising_mapped f xs h.1)
-
--- whether a node is one of these
-same_place : (hit other : Hit) → same_hit hit other ≡ true → other ≡ hit
-same_place hit other t =
-    let p = and_parts (eqb other.file hit.file) (eqb other.node hit.node) t in
-    let f = eqb-true other.file hit.file p.0 in
-    let n = eqb-true other.node hit.node p.1 in
-    λ i. record { file = f i; node = n i }
-
-among : (hit : Hit) (hits : List Hit) → IsTrue (list_any (same_hit hit) hits) ↔ Contains hits hit
-among hit hits = (
-  λ t. let m = passing_member (same_hit hit) hits t in Contains-from_IsIn hits hit (subst (λ h. IsIn h hits) (same_place hit m.0 m.2) m.1),
-  λ c. list_any-from_member (same_hit hit) hit hits (IsIn-from_Contains hits hit c) (and_from (eqb hit.file hit.file) (eqb hit.node hit.node) (eq-eqb hit.file hit.file refl) (eq-eqb hit.node hit.node refl)),
-)
-
--- whether one of some definitions is among nodes
-any_among : (definitions hits : List Hit) → IsTrue (has_any definitions hits) ↔ ((definition : Hit) × Contains definitions definition × Contains hits definition)
-any_among definitions hits = (
-  λ t. let m = passing_member (λ (definition : Hit). list_any (same_hit definition) hits) definitions t in
-      (m.0, Contains-from_IsIn definitions m.0 m.1, (among m.0 hits).0 m.2),
-  λ h. list_any-from_member (λ (definition : Hit). list_any (same_hit definition) hits) h.0 definitions (IsIn-from_Contains definitions h.0 h.1) ((among h.0 hits).1 h.2),
-)
-
-told_from : (bounds : Bounds) (files : List Graph) (definitions : List Hit) (told : Told) (hits : List Hit) (limit : Bool) (c : Config)
-    → AreDefinitions bounds files c hits → IsTrue limit ↔ HasLimit bounds files c → (IsCrowded bounds files c → ⊥)
-    → told.refers ≡ has_any definitions hits → told.limit ≡ limit → IsToldFrom bounds files definitions told c
-told_from bounds files definitions told hits limit c are flag few refers same = record {
-  own = hits;
-  exact = are;
-  refers = (
-    λ t. let m = (any_among definitions hits).0 (sym refers ∙ t) in (m.0, m.1, (are.exact m.0).0 m.2),
-    λ h. refers ∙ (any_among definitions hits).1 (h.0, h.1, (are.exact h.0).1 h.2),
-  );
-  limit = subst (λ (b : Bool). IsTrue b ↔ HasLimit bounds files c) (sym same) flag;
-  few = few;
-}
-
 -- what was found of a reference
-pub told_is : (bounds : Bounds) (files : List Graph) (definitions : List Hit) (told : Told) (hits : List Hit) (limit : Bool) (o : Option Config)
-    → IsSomeAnd o (λ c. AreDefinitions bounds files c hits) → IsSomeAnd o (λ c. IsTrue limit ↔ HasLimit bounds files c) → IsSomeAnd o (λ c. IsCrowded bounds files c → ⊥)
-    → told.refers ≡ has_any definitions hits → told.limit ≡ limit → IsSomeAnd o (IsToldFrom bounds files definitions told)
-told_is bounds files definitions told hits limit None are flag few refers same = absurd are
-told_is bounds files definitions told hits limit (Some c) are flag few refers same = told_from bounds files definitions told hits limit c are flag few refers same
+pub found_is : (bounds : Bounds) (files : List Graph) (rows : List Hit) (limit : Bool) (o : Option Config)
+    → IsSomeAnd o (λ c. AreDefinitions bounds files c rows) → IsSomeAnd o (λ c. IsTrue limit ↔ HasLimit bounds files c) → IsSomeAnd o (λ c. IsCrowded bounds files c → ⊥)
+    → IsSomeAnd o (IsFoundFrom bounds files rows limit)
+found_is bounds files rows limit None are flag few = absurd are
+found_is bounds files rows limit (Some c) are flag few = record { exact = are; limit_is = flag; few = few }
 
--- a reference is told of where from its start it is as it was told
-abbrev IsSaid : List Graph → (Config → Type 0) → Told → Type 0
-IsSaid files P told = IsSomeAnd (start files told.reference) (λ c. IsTrue told.refers ↔ P c)
+-- and so it is told
+pub found_told : (bounds : Bounds) (files : List Graph) (reference : NodeAt) (result : Result Found StitchFault)
+    → IfOk result (λ found. IsSomeAnd (start files reference) (λ c. AreDefinitions bounds files c found.rows))
+    → IfOk result (λ found. IsSomeAnd (start files reference) (λ c. IsTrue found.limit ↔ HasLimit bounds files c))
+    → OnOk result (IsSomeAnd (start files reference) (λ c. IsCrowded bounds files c → ⊥))
+    → IfOk result (λ found. IsFound bounds files reference found.rows found.limit)
+found_told bounds files reference (Ok found) are flag few = found_is bounds files found.rows found.limit (start files reference) are flag few
+found_told bounds files reference (Err fault) are flag few = tt
 
-module _ (files : List Graph) (P : Config → Type 0) (told : List Told) (asked : asked_in told ≡ references_from 0 files) where
-  of_reference : (at : NodeAt) → IsIn at (references_from 0 files) → (t : Told) × IsIn t told × (t.reference ≡ at)
-  of_reference at m = IsIn-map_from (λ (t : Told). t.reference) at told (subst (λ xs. IsIn at xs) (sym asked) m)
+-- the one definition among those, that has this reference
+pub one_meant : (bounds : Bounds) (files : List Graph) (definitions : List Hit) (o : Option Config) → IsSomeAnd o (IsOneFrom bounds files definitions)
+    → (definition : Hit) × IsIn definition definitions × IsSomeAnd o (λ c. IsDefinitionFrom bounds files c definition)
+one_meant bounds files definitions None h = absurd h
+one_meant bounds files definitions (Some c) h = (h.0, IsIn-from_Contains definitions h.0 h.1, h.2)
 
-  rising : IsRising (rows_in told)
-  rising =
-      rising_mapped (λ (t : Told). hit_of t.reference) (filter (λ (t : Told). t.refers) told)
-      (Pairs-filter (λ (a : Told) (b : Told). IsBefore a.reference b.reference) (λ (t : Told). t.refers) told
-      (unmapped IsBefore (λ (t : Told). t.reference) told (subst (Pairs IsBefore) (sym asked) (in_order 0 files))))
-
-  row_refers : AllByRecursion (IsSaid files P) told → (hit : Hit) → IsIn hit (rows_in told) → IsSomeAnd (start files (node_at hit.file hit.node)) P
-  row_refers each hit h =
-      let p = IsIn-map_from (λ (t : Told). hit_of t.reference) hit (filter (λ (t : Told). t.refers) told) h in
-      let f = IsIn-filter_from (λ (t : Told). t.refers) p.0 told p.1 in
-      subst (λ (other : Hit). IsSomeAnd (start files (node_at other.file other.node)) P) p.2
-      (some_so (start files p.0.reference) (λ c. IsTrue p.0.refers ↔ P c) P (λ c k. k.0 f.1) (at_member (IsSaid files P) p.0 told each f.0))
-
-  refers_row : AllByRecursion (IsSaid files P) told → (hit : Hit) → IsSomeAnd (start files (node_at hit.file hit.node)) P → IsIn hit (rows_in told)
-  refers_row each hit h =
-      let t = of_reference (node_at hit.file hit.node) (starts_listed files (node_at hit.file hit.node) P h) in
-      let there : IsSaid files P t.0 = at_member (IsSaid files P) t.0 told each t.1 in
-      let refers : t.0.refers ≡ true
-      = both_so (start files (node_at hit.file hit.node)) (λ c. IsTrue t.0.refers ↔ P c) P (t.0.refers ≡ true) (λ c k d. k.1 d)
-      (subst (λ (at : NodeAt). IsSomeAnd (start files at) (λ c. IsTrue t.0.refers ↔ P c)) t.2 there) h in
-      subst (λ (at : NodeAt). IsIn (hit_of at) (rows_in told)) t.2
-      (IsIn-map (λ (t : Told). hit_of t.reference) t.0 (filter (λ (t : Told). t.refers) told) (IsIn-filter (λ (t : Told). t.refers) t.0 told t.1 refers))
-
-  -- the rows are the references from whose start it is so
-  are_rows : AllByRecursion (IsSaid files P) told → AreRows (λ (hit : Hit). IsSomeAnd (start files (node_at hit.file hit.node)) P) (rows_in told)
-  are_rows each = record {
-    rising = rising;
-    exact = λ hit. (
-      λ h. row_refers each hit (IsIn-from_Contains (rows_in told) hit h),
-      λ h. Contains-from_IsIn (rows_in told) hit (refers_row each hit h),
-    );
+module _ (bounds : Bounds) (files : List Graph) (Held : Hit → Type 0) where
+  -- nothing is found of no references
+  pub none_linked : (IsAsked : NodeAt → Type 0) → ((at : NodeAt) → IsAsked at → ⊥) → AreLinks bounds files Held IsAsked [] false
+  none_linked IsAsked none = record {
+    sound = λ link h. absurd (IsIn-from_Contains [] link h);
+    all = λ link t asked refers. absurd (none (place_of link.reference) asked);
+    limit_is = ((λ t. absurd (false≢true t)), λ h. absurd (none h.0 h.1));
+    few = λ at asked h. none at asked;
   }
 
-module _ (bounds : Bounds) (files : List Graph) (definitions : List Hit) where
-  said : (told : List Told) → AllByRecursion (IsTold bounds files definitions) told → AllByRecursion (IsSaid files (IsOneFrom bounds files definitions)) told
-  said told each =
-      all_so (IsTold bounds files definitions) (IsSaid files (IsOneFrom bounds files definitions))
-      (λ t h. some_so (start files t.reference) (IsToldFrom bounds files definitions t) (λ c. IsTrue t.refers ↔ IsOneFrom bounds files definitions c) (λ c k. k.refers) h) told each
+  -- the same of references that are the same ones
+  pub same_asked : (IsAsked IsOther : NodeAt → Type 0) (links : List Link) (limit : Bool) → ((at : NodeAt) → IsAsked at ↔ IsOther at)
+      → AreLinks bounds files Held IsAsked links limit → AreLinks bounds files Held IsOther links limit
+  same_asked IsAsked IsOther links limit same are = record {
+    sound = λ link h. let k = are.sound link h in ((same (place_of link.reference)).0 k.0, k.1);
+    all = λ link t asked refers. are.all link t ((same (place_of link.reference)).1 asked) refers;
+    limit_is = (
+      λ t. let k = are.limit_is.0 t in (k.0, (same k.0).0 k.1, k.2),
+      λ h. are.limit_is.1 (h.0, (same h.0).1 h.1, h.2),
+    );
+    few = λ at asked h. are.few at ((same at).1 asked) h;
+  }
 
-  -- what would have been told of a reference of one definition alone
-  said_alone : (definition : Hit) (told : Told) (o : Option Config) → IsSomeAnd o (IsToldFrom bounds files definitions told)
-      → (refers : Bool) × IsSomeAnd o (λ c. IsTrue refers ↔ IsDefinitionFrom bounds files c definition)
-  said_alone definition told None h = absurd h
-  said_alone definition told (Some c) h = (
-    list_any (same_hit definition) h.own,
-    (
-      λ t. (h.exact.exact definition).0 ((among definition h.own).0 t),
-      λ d. (among definition h.own).1 ((h.exact.exact definition).1 d),
-    ),
-  )
+  -- one reference alone
+  pub one_linked : (reference : NodeAt) (rows : List Hit) (limit : Bool) → IsFound bounds files reference rows limit
+      → AreLinks bounds files Held (λ (at : NodeAt). at ≡ reference) (links_of (hit_of reference) rows) limit
+  one_linked reference rows limit found = record {
+    sound = λ link h. there link (IsIn-map_from (link_of (hit_of reference)) link rows (IsIn-from_Contains (links_of (hit_of reference) rows) link h));
+    all = λ link t asked refers. Contains-from_IsIn (links_of (hit_of reference) rows) link (back link asked refers);
+    limit_is = (
+      λ t. (reference, refl, some_so (start files reference) (IsFoundFrom bounds files rows limit) (HasLimit bounds files) (λ c f. f.limit_is.0 t) found),
+      λ h. both_so (start files reference) (IsFoundFrom bounds files rows limit) (HasLimit bounds files) (IsTrue limit) (λ c f k. f.limit_is.1 k) found
+          (subst (λ (at : NodeAt). IsSomeAnd (start files at) (HasLimit bounds files)) h.1 h.2),
+    );
+    few = λ at same h.
+        both_so (start files reference) (IsFoundFrom bounds files rows limit) (IsCrowded bounds files) ⊥ (λ c f k. f.few k) found
+        (subst (λ (a : NodeAt). IsSomeAnd (start files a) (IsCrowded bounds files)) same h);
+  }
+    where
+      there : (link : Link) → (definition : Hit) × IsIn definition rows × (link_of (hit_of reference) definition ≡ link)
+          → (place_of link.reference ≡ reference) × IsReferenceOf bounds files link.definition link.reference
+      there link k =
+          subst (λ (l : Link). (place_of l.reference ≡ reference) × IsReferenceOf bounds files l.definition l.reference) k.2 (
+            refl,
+            some_so (start files reference) (IsFoundFrom bounds files rows limit) (λ c. IsDefinitionFrom bounds files c k.0)
+                (λ c f. (f.exact.exact k.0).0 (Contains-from_IsIn rows k.0 k.1)) found,
+          )
 
-  all_alone : (definition : Hit) (told : List Told) → AllByRecursion (IsTold bounds files definitions) told
-      → (others : List Told) × (asked_in others ≡ asked_in told) × AllByRecursion (IsSaid files (λ c. IsDefinitionFrom bounds files c definition)) others
-  all_alone definition [] each = ([], refl, tt)
-  all_alone definition (t ∷ told) each =
-      let one = said_alone definition t (start files t.reference) each.0 in
-      let rest = all_alone definition told each.1 in
-      (record { reference = t.reference; refers = one.0; limit = t.limit } ∷ rest.0, ap (λ xs. t.reference ∷ xs) rest.1, (one.1, rest.2))
+      back : (link : Link) → place_of link.reference ≡ reference → IsReferenceOf bounds files link.definition link.reference → IsIn link (links_of (hit_of reference) rows)
+      back link same refers =
+          subst (λ (at : NodeAt). IsIn (link_of (hit_of at) link.definition) (links_of (hit_of reference) rows)) (sym same)
+          (IsIn-map (link_of (hit_of reference)) link.definition rows
+          (IsIn-from_Contains rows link.definition
+          (both_so (start files reference) (IsFoundFrom bounds files rows limit) (λ c. IsDefinitionFrom bounds files c link.definition) (Contains rows link.definition)
+          (λ c f k. (f.exact.exact link.definition).1 k) found
+          (subst (λ (at : NodeAt). IsSomeAnd (start files at) (λ c. IsDefinitionFrom bounds files c link.definition)) same refers))))
 
-  module _ (told : List Told) (asked : asked_in told ≡ references_from 0 files) (each : AllByRecursion (IsTold bounds files definitions) told) where
-    pub are_references : AreRows (IsReferenceOfAny bounds files definitions) (rows_in told)
-    are_references = are_rows files (IsOneFrom bounds files definitions) told asked (said told each)
+  -- those and others
+  pub both_linked : (IsAsked IsOther : NodeAt → Type 0) (links others : List Link) (limit other : Bool) → AreLinks bounds files Held IsAsked links limit → AreLinks bounds files Held IsOther others other
+      → AreLinks bounds files Held (λ (at : NodeAt). IsAsked at ⊎ IsOther at) (links ++ others) (limit || other)
+  both_linked IsAsked IsOther links others limit other are more = record {
+    sound = λ link h. joined link (IsIn-append_cases link links others (IsIn-from_Contains (links ++ others) link h));
+    all = λ link t asked refers. Contains-from_IsIn (links ++ others) link (parted link t asked refers);
+    limit_is = (λ t. left_out (or_cases limit other t), λ h. flagged h.0 h.1 h.2);
+    few = λ at asked h. not_crowded at asked h;
+  }
+    where
+      joined : (link : Link) → IsIn link links ⊎ IsIn link others
+          → (IsAsked (place_of link.reference) ⊎ IsOther (place_of link.reference)) × IsReferenceOf bounds files link.definition link.reference
+      joined link (inl m) = let k = are.sound link (Contains-from_IsIn links link m) in (inl k.0, k.1)
+      joined link (inr m) = let k = more.sound link (Contains-from_IsIn others link m) in (inr k.0, k.1)
 
-    -- so there is a list of the references of each definition
-    pub references_alone : (definition : Hit) → HasReferences bounds files definition
-    references_alone definition =
-        let alone = all_alone definition told each in
-        (rows_in alone.0, are_rows files (λ c. IsDefinitionFrom bounds files c definition) alone.0 (alone.1 ∙ asked) alone.2)
+      parted : (link : Link) → Held link.definition → IsAsked (place_of link.reference) ⊎ IsOther (place_of link.reference) → IsReferenceOf bounds files link.definition link.reference → IsIn link (links ++ others)
+      parted link t (inl asked) refers = IsIn-append_left link links others (IsIn-from_Contains links link (are.all link t asked refers))
+      parted link t (inr asked) refers = IsIn-append_right link links others (IsIn-from_Contains others link (more.all link t asked refers))
 
-    told_of : (at : NodeAt) (P : Config → Type 0) → IsSomeAnd (start files at) P → (t : Told) × IsIn t told × IsSomeAnd (start files at) (IsToldFrom bounds files definitions t)
-    told_of at P h =
-        let t = of_reference files P told asked at (starts_listed files at P h) in
-        (t.0, t.1, subst (λ (other : NodeAt). IsSomeAnd (start files other) (IsToldFrom bounds files definitions t.0)) t.2 (at_member (IsTold bounds files definitions) t.0 told each t.1))
+      left_out : (limit ≡ true) ⊎ (other ≡ true) → (at : NodeAt) × (IsAsked at ⊎ IsOther at) × IsSomeAnd (start files at) (HasLimit bounds files)
+      left_out (inl t) = let k = are.limit_is.0 t in (k.0, inl k.1, k.2)
+      left_out (inr t) = let k = more.limit_is.0 t in (k.0, inr k.1, k.2)
 
-    pub flag : IsTrue (list_any (λ (t : Told). t.limit) told) ↔ HasAnyLimit bounds files
-    flag = (
-      λ t. let m = passing_member (λ (t : Told). t.limit) told t in (
-        m.0.reference,
-        some_so (start files m.0.reference) (IsToldFrom bounds files definitions m.0) (HasLimit bounds files) (λ c k. k.limit.0 m.2)
-            (at_member (IsTold bounds files definitions) m.0 told each m.1),
-      ),
-      λ h. let t = told_of h.0 (HasLimit bounds files) h.1 in
-          list_any-from_member (λ (t : Told). t.limit) t.0 told t.1
-          (both_so (start files h.0) (IsToldFrom bounds files definitions t.0) (HasLimit bounds files) (t.0.limit ≡ true) (λ c k d. k.limit.1 d) t.2 h.1),
+      flagged : (at : NodeAt) → IsAsked at ⊎ IsOther at → IsSomeAnd (start files at) (HasLimit bounds files) → IsTrue (limit || other)
+      flagged at (inl asked) h = or_left limit other (are.limit_is.1 (at, asked, h))
+      flagged at (inr asked) h = or_right limit other (more.limit_is.1 (at, asked, h))
+
+      not_crowded : (at : NodeAt) → IsAsked at ⊎ IsOther at → IsSomeAnd (start files at) (IsCrowded bounds files) → ⊥
+      not_crowded at (inl asked) h = are.few at asked h
+      not_crowded at (inr asked) h = more.few at asked h
+
+  -- the links of all references, in order
+  pub table_is : (links sorted : List Link) (limit flag : Bool) → AreLinks bounds files Held (λ (at : NodeAt). IsIn at (references_from 0 files)) links limit
+      → IsStrictlySortedBy by_link sorted → ((link : Link) → Contains sorted link ↔ Contains links link) → flag ≡ limit → IsTable bounds files Held sorted flag
+  table_is links sorted limit flag are order same is = record {
+    sound = λ link h. (are.sound link ((same link).0 h)).1;
+    all = λ link t refers. (same link).1 (are.all link t (starts_listed files (place_of link.reference) (λ c. IsDefinitionFrom bounds files c link.definition) refers) refers);
+    order = order;
+    limit_is = (
+      λ t. let k = are.limit_is.0 (sym is ∙ t) in (k.0, k.2),
+      λ h. is ∙ are.limit_is.1 (h.0, starts_listed files h.0 (HasLimit bounds files) h.1, h.1),
+    );
+    few = λ h. are.few h.0 (starts_listed files h.0 (IsCrowded bounds files) h.1) h.1;
+  }
+
+  module _ (links : List Link) (limit : Bool) (table : IsTable bounds files Held links limit) where
+    -- the references of definitions are those of their links
+    row_refers : (definitions : List Hit) (hit : Hit) → IsIn hit (rows_of_any links definitions) → IsReferenceOfAny bounds files definitions hit
+    row_refers definitions hit m =
+        let k = any_linked links definitions hit m in
+        some_so (start files (place_of hit)) (λ c. IsDefinitionFrom bounds files c k.0) (IsOneFrom bounds files definitions)
+        (λ c d. (k.0, Contains-from_IsIn definitions k.0 k.1, d))
+        (table.sound (link_of hit k.0) (Contains-from_IsIn links (link_of hit k.0) k.2))
+
+    refers_row : (definitions : List Hit) (hit : Hit) → ((definition : Hit) → IsIn definition definitions → Held definition) → IsReferenceOfAny bounds files definitions hit → IsIn hit (rows_of_any links definitions)
+    refers_row definitions hit covers h =
+        let k = one_meant bounds files definitions (start files (place_of hit)) h in
+        linked_any links definitions hit k.0 k.1 (IsIn-from_Contains links (link_of hit k.0) (table.all (link_of hit k.0) (covers k.0 k.1) k.2))
+
+    pub are_references : (definitions rows : List Hit) → ((definition : Hit) → IsIn definition definitions → Held definition) → IsRising rows → ((hit : Hit) → Contains rows hit ↔ Contains (rows_of_any links definitions) hit)
+        → AreRows (IsReferenceOfAny bounds files definitions) rows
+    are_references definitions rows covers rising exact = record {
+      rising = rising;
+      exact = λ hit. (
+        λ h. row_refers definitions hit (IsIn-from_Contains (rows_of_any links definitions) hit ((exact hit).0 h)),
+        λ h. (exact hit).1 (Contains-from_IsIn (rows_of_any links definitions) hit (refers_row definitions hit covers h)),
+      );
+    }
+
+    -- so there is a list of the references of each definition that is held
+    pub references_alone : (definition : Hit) → Held definition → HasReferences bounds files definition
+    references_alone definition t = (
+      rows_of_one links definition,
+      record {
+        rising = rows_rise definition links table.order;
+        exact = λ hit. (
+          λ h. table.sound (link_of hit definition) (Contains-from_IsIn links (link_of hit definition) (row_linked links definition hit (IsIn-from_Contains (rows_of_one links definition) hit h))),
+          λ h. Contains-from_IsIn (rows_of_one links definition) hit (linked_row links definition hit (IsIn-from_Contains links (link_of hit definition) (table.all (link_of hit definition) t h))),
+        );
+      },
     )
 
-    pub none_crowded : IsAnyCrowded bounds files → ⊥
-    none_crowded h =
-        let t = told_of h.0 (IsCrowded bounds files) h.1 in
-        both_so (start files h.0) (IsToldFrom bounds files definitions t.0) (IsCrowded bounds files) ⊥ (λ c k d. k.few d) t.2 h.1
+-- where fewer are held
+pub less_held : (bounds : Bounds) (files : List Graph) (Held Fewer : Hit → Type 0) (IsAsked : NodeAt → Type 0) (links : List Link) (limit : Bool)
+    → ((definition : Hit) → Fewer definition → Held definition) → AreLinks bounds files Held IsAsked links limit → AreLinks bounds files Fewer IsAsked links limit
+less_held bounds files Held Fewer IsAsked links limit so are = record {
+  sound = are.sound;
+  all = λ link t asked refers. are.all link (so link.definition t) asked refers;
+  limit_is = are.limit_is;
+  few = are.few;
+}
+
+pub kept_held : (bounds : Bounds) (files : List Graph) (definitions : List Hit) (IsAsked : NodeAt → Type 0) (old new : Links) → LetsGo definitions old new
+    → AreFound bounds files definitions IsAsked old → AreLinks bounds files (IsHeld false definitions) IsAsked new.list.items old.limit
+kept_held bounds files definitions IsAsked old new goes are = record {
+  sound = λ link h. are.sound link ((goes.exact link).0 h).0;
+  all = λ link t asked refers. left link t asked refers;
+  limit_is = are.limit_is;
+  few = are.few;
+}
+  where
+    left : (link : Link) → IsHeld false definitions link.definition → IsAsked (place_of link.reference) → IsReferenceOf bounds files link.definition link.reference → Contains new.list.items link
+    left link (inl t) asked refers = absurd (false≢true t)
+    left link (inr m) asked refers = (goes.exact link).1 (are.all link (inr m) asked refers, m)
+
+-- what tells of all definitions tells of whatever definitions
+whole_told : (bounds : Bounds) (files : List Graph) (definitions others : List Hit) (told : Told) → is_whole told ≡ true → IsTold bounds files definitions told → IsTold bounds files others told
+whole_told bounds files definitions others (said.Each links) t h = record {
+  sound = h.sound;
+  all = λ link _ refers. h.all link (inl t) refers;
+  order = h.order;
+  limit_is = h.limit_is;
+  few = h.few;
+}
+whole_told bounds files definitions others said.Crowded t h = h
+
+pub whole_known : (files : List Graph) (definitions : List Hit) (known : Known) → is_whole known.told ≡ true → IsKnownOf files definitions known → IsKnown files known
+whole_known files definitions known t h = λ others. whole_told known.bounds files definitions others known.told t h
 
 -- the references that were found are the reply
 pub references_told : (bounds : Bounds) (view : List FileRow) (definitions hits : List Hit) (limit : Bool) (answer : Answer)
@@ -236,3 +284,22 @@ reply_to_one bounds rows node (Ok answer) h = (
   record { hits = h.1.hits; exact = of_one bounds (graphs_in rows) (hit_of node) h.1.hits h.1.exact; told = h.1.told; limit = h.1.limit },
 )
 reply_to_one bounds rows node (Err fault) h = h
+
+pub told_to_one : (bounds : Bounds) (view : List FileRow) (hit : Hit) (node : NodeAt) (reply : Result Answer AskFault) → hit ≡ hit_of node
+    → IsReplyToAny bounds (graph_rows view) (hit ∷ []) reply → IsReferenceReply bounds (graph_rows view) node reply
+told_to_one bounds view hit node reply is h =
+    reply_to_one bounds (graph_rows view) node reply (subst (λ (d : Hit). IsReplyToAny bounds (graph_rows view) (d ∷ []) reply) is h)
+
+-- the reply about several, where what is kept tells it
+pub told_to_any : (asked bounds : Bounds) (view seen : List FileRow) (definitions : List Hit) (reply : Result Answer AskFault) → asked ≡ bounds → view ≡ seen
+    → IsReplyToAny asked (graph_rows view) definitions reply → IsReplyToAny bounds (graph_rows seen) definitions reply
+told_to_any asked bounds view seen definitions reply same alike h =
+    subst (λ (b : Bounds). IsReplyToAny b (graph_rows seen) definitions reply) same
+    (subst (λ (v : List FileRow). IsReplyToAny asked (graph_rows v) definitions reply) alike h)
+
+pub told_of_each : (asked bounds : Bounds) (view seen : List FileRow) (definitions : List Hit) (reply : Result Answer AskFault) → asked ≡ bounds → view ≡ seen
+    → IfOk reply (λ _. (definition : Hit) → Contains definitions definition → HasReferences asked (graphs_in (graph_rows view)) definition)
+    → IfOk reply (λ _. (definition : Hit) → Contains definitions definition → HasReferences bounds (graphs_in (graph_rows seen)) definition)
+told_of_each asked bounds view seen definitions reply same alike h =
+    subst (λ (b : Bounds). IfOk reply (λ _. (definition : Hit) → Contains definitions definition → HasReferences b (graphs_in (graph_rows seen)) definition)) same
+    (subst (λ (v : List FileRow). IfOk reply (λ _. (definition : Hit) → Contains definitions definition → HasReferences asked (graphs_in (graph_rows v)) definition)) alike h)

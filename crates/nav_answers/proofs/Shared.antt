@@ -1,90 +1,146 @@
--- References that are dealt out to threads, and what is told of them, put together again by their places.
-use Rattle.std.proofs.Common.{◌≡◌, refl, sym, ◌∙◌, ap, subst, ℕ, zero, suc, ◌+◌, ◌-◌, ◌*◌, ◌/◌, ◌%◌, ◌≤◌, ◌<◌, List, [], ◌∷◌, ◌++◌, length, take, get_or, Some, slice_get, inl, inr, ◌⊎◌, All, arith}
-use Rattle.std.proofs.lemmas.List.{length-append, map-append, take_more}
-use Rattle.std.proofs.lemmas.List.Elements.{All-push, All-get_or}
-use Rattle.std.proofs.Math.Nat.{lt_of_mul-lt-mul_right}
-use Rattle.std.proofs.lemmas.Nat.{div-add-mod'}
-use Rattle.std.proofs.lemmas.Option.{none-some, same_Some, slice_get_read, slice_get_within, get_or_from_slice_get}
+-- References that are dealt out to threads, and what is found of them, put together again.
+use Rattle.std.proofs.Common.{◌≡◌, refl, sym, ◌∙◌, ap, subst, ℕ, zero, suc, ◌+◌, ◌%◌, ◌≤◌, ◌<◌, List, [], ◌∷◌, ◌++◌, length, Bool, true, false, ◌||◌, ◌&&◌, Some, slice_get, get_or, eqb, eqb-true, eq-eqb, inl, inr, ◌⊎◌, ◌↔◌, arith}
+use Rattle.std.proofs.Math.Nat.{mod-lt}
+use Rattle.std.proofs.lemmas.Bool.{and_parts, cases_lt, false≢true}
+use Rattle.std.proofs.lemmas.Option.{none-some, same_Some, slice_get-get_or}
+use Rattle.graph_nodes.specs.Graph.{Graph}
+use Rattle.list_facts.specs.Members.{IsIn}
+use Rattle.partial_path.specs.declared.bounds.Bounds.{Bounds}
 use Rattle.stacks_vars.specs.declared.scopes.NodeAt.{NodeAt}
-use Rattle.nav_answers.specs.declared.asking.Told.{Told}
-use Rattle.nav_answers.specs.Asking.{IsShare, asked_in}
+use Rattle.whole_search.specs.declared.found.Hit.{Hit}
+use Rattle.nav_answers.specs.declared.links.Link.{Link}
+use Rattle.nav_answers.specs.Replies.{hit_of}
+use Rattle.nav_answers.specs.Links.{links_of}
+use Rattle.nav_answers.specs.declared.links.Links.{Links}
+use Rattle.nav_answers.specs.Asking.{AddsLinks, AreFound, AreLinks, AreLinksOf, Holds, IsHeld, IsShareOf, IsInShares}
+use Rattle.nav_answers.proofs.Referred.{none_linked, same_asked, one_linked, both_linked, less_held, kept_held}
 
--- what is told so far, with so many references to be passed over before the next one
-pub record IsSoFar (so : Told → Type 0) (all : List NodeAt) (step first index wait : ℕ) (told : List Told) : Type 0 where
-  pub asked : (k : ℕ) (t : Told) → slice_get told k ≡ Some t → slice_get all (k * step + first) ≡ Some t.reference
-  pub each : All so told
-  pub place : length told * step + first ≡ index + wait
+-- what stands in a list
+there_in : (all : List NodeAt) (k : ℕ) (at : NodeAt) → slice_get all k ≡ Some at → IsIn at all
+there_in [] k at e = absurd (none-some at e)
+there_in (a ∷ all) zero at e = inl (sym (same_Some a at e))
+there_in (a ∷ all) (suc k) at e = inr (there_in all k at e)
 
--- what stands in a list with one more
-last_cases : {X : Type 0} (xs : List X) (x u : X) (k : ℕ) → slice_get (xs ++ x ∷ []) k ≡ Some u → (slice_get xs k ≡ Some u) ⊎ ((k ≡ length xs) × (u ≡ x))
-last_cases [] x u zero e = inr (refl, sym (same_Some x u e))
-last_cases [] x u (suc k) e = absurd (none-some u e)
-last_cases (y ∷ ys) x u zero e = inl e
-last_cases (y ∷ ys) x u (suc k) e = by (last_cases ys x u k e)
-  where
-    by : (slice_get ys k ≡ Some u) ⊎ ((k ≡ length ys) × (u ≡ x)) → (slice_get ys k ≡ Some u) ⊎ ((suc k ≡ suc (length ys)) × (u ≡ x))
-    by (inl h) = inl h
-    by (inr h) = inr (ap suc h.0, h.1)
+in_there : (all : List NodeAt) (at : NodeAt) → IsIn at all → (k : ℕ) × (k < length all) × (slice_get all k ≡ Some at)
+in_there [] at m = absurd m
+in_there (a ∷ all) at (inl same) = (0, omega arith, ap Some (sym same))
+in_there (a ∷ all) at (inr m) = let r = in_there all at m in let inside = r.1 in (suc r.0, omega arith, r.2)
 
-one_more : {X : Type 0} (xs : List X) (x : X) (step : ℕ) → length (xs ++ x ∷ []) * step ≡ length xs * step + step
-one_more xs x step = ap (λ n. n * step) (length-append xs (x ∷ [])) ∙ grind arith
+module _ (all : List NodeAt) (step first : ℕ) where
+  no_place : (at : NodeAt) → IsShareOf all step first 0 at → ⊥
+  no_place at h = let low = h.1 in absurd (omega arith)
 
-module _ (so : Told → Type 0) (all : List NodeAt) (step first : ℕ) (told : List Told) where
-  -- a reference of another thread
-  pub passed : (index wait : ℕ) → IsSoFar so all step first index wait told → 0 < wait → IsSoFar so all step first (index + 1) (wait - 1) told
-  passed index wait h some = let place = h.place in record { asked = h.asked; each = h.each; place = omega arith }
-
-  -- a reference that is asked
-  pub added : (index wait : ℕ) (t : Told) → IsSoFar so all step first index wait told → wait ≡ 0 → 0 < step → slice_get all index ≡ Some t.reference → so t
-      → IsSoFar so all step first (index + 1) (step - 1) (told ++ t ∷ [])
-  added index wait t h none some there is = record {
-    asked = λ k u e. by k u (last_cases told t u k e);
-    each = All-push so told t h.each is;
-    place = (let place = h.place in let more = one_more told t step in omega arith);
-  }
+  -- one place more, which is another share's
+  place_passed : (job : ℕ) → (job % step ≡ first → ⊥) → (at : NodeAt) → IsShareOf all step first job at ↔ IsShareOf all step first (job + 1) at
+  place_passed job other at = (
+    λ h. let low = h.1 in (h.0, omega arith, h.2, h.3),
+    λ h. back h.0 h.1 h.2 h.3 (cases_lt h.0 job),
+  )
     where
-      by : (k : ℕ) (u : Told) → (slice_get told k ≡ Some u) ⊎ ((k ≡ length told) × (u ≡ t)) → slice_get all (k * step + first) ≡ Some u.reference
-      by k u (inl e) = h.asked k u e
-      by k u (inr e) =
-          let here : k * step + first ≡ index = (let place = h.place in ap (λ n. n * step + first) e.0 ∙ omega arith) in
-          ap (slice_get all) here ∙ there ∙ ap (λ (v : Told). Some v.reference) (sym e.1)
+      back : (k : ℕ) → k < job + 1 → k % step ≡ first → slice_get all k ≡ Some at → (k < job) ⊎ (job ≤ k) → IsShareOf all step first job at
+      back k low mine e (inl h) = (k, h, mine, e)
+      back k low mine e (inr h) = let same : k ≡ job = omega arith in absurd (other (ap (λ j. j % step) (sym same) ∙ mine))
 
-  pub ended : (index wait : ℕ) → IsSoFar so all step first index wait told → length all ≤ index → IsShare so all step first told
-  ended index wait h over = let place = h.place in record { asked = h.asked; each = h.each; whole = omega arith }
+  -- one that is this share's
+  place_added : (job : ℕ) (reference : NodeAt) → job % step ≡ first → slice_get all job ≡ Some reference
+      → (at : NodeAt) → (IsShareOf all step first job at ⊎ (at ≡ reference)) ↔ IsShareOf all step first (job + 1) at
+  place_added job reference mine there at = (λ h. on h, λ h. back h.0 h.1 h.2 h.3 (cases_lt h.0 job))
+    where
+      on : IsShareOf all step first job at ⊎ (at ≡ reference) → IsShareOf all step first (job + 1) at
+      on (inl h) = let low = h.1 in (h.0, omega arith, h.2, h.3)
+      on (inr same) = (job, omega arith, mine, there ∙ ap Some (sym same))
 
--- of these references it was told, of each what is so
-pub record AreTold (so : Told → Type 0) (all : List NodeAt) (told : List Told) : Type 0 where
-  pub asked : asked_in told ≡ all
-  pub each : All so told
+      back : (k : ℕ) → k < job + 1 → k % step ≡ first → slice_get all k ≡ Some at → (k < job) ⊎ (job ≤ k) → IsShareOf all step first job at ⊎ (at ≡ reference)
+      back k low his e (inl h) = inl (k, h, his, e)
+      back k low his e (inr h) =
+          let same : k ≡ job = omega arith in
+          inr (same_Some at reference (sym e ∙ ap (slice_get all) same ∙ there))
 
--- one more of them
-pub told_more : (so : Told → Type 0) (all : List NodeAt) (place : ℕ) (told : List Told) (t : Told) → AreTold so (take place all) told → slice_get all place ≡ Some t.reference → so t
-    → AreTold so (take (place + 1) all) (told ++ t ∷ [])
-told_more so all place told t are there is = record {
-  asked =
-      map-append (λ (u : Told). u.reference) told (t ∷ [])
-      ∙ ap (λ xs. xs ++ t.reference ∷ []) are.asked
-      ∙ ap (λ x. take place all ++ x ∷ []) (sym (get_or_from_slice_get all place t.reference t.reference there))
-      ∙ sym (take_more all place t.reference (slice_get_within all place t.reference there));
-  each = All-push so told t are.each is;
-}
+-- what both hold, each holds
+held_first : (whole other : Bool) (Among : Type 0) → ((whole && other) ≡ true) ⊎ Among → (whole ≡ true) ⊎ Among
+held_first whole other Among (inl t) = inl (and_parts whole other t).0
+held_first whole other Among (inr m) = inr m
 
--- what a share tells of a place that is its own
-told_there : (so : Told → Type 0) (all : List NodeAt) (step place : ℕ) (told : List Told) (t : Told) → IsShare so all step (place % step) told → slice_get told (place / step) ≡ Some t
-    → (slice_get all place ≡ Some t.reference) × so t
-told_there so all step place told t share e = (
-  ap (slice_get all) (sym (div-add-mod' place step)) ∙ share.asked (place / step) t e,
-  subst so (get_or_from_slice_get told (place / step) t t e) (All-get_or so told (place / step) t (slice_get_within told (place / step) t e) share.each),
-)
+held_second : (whole other : Bool) (Among : Type 0) → ((whole && other) ≡ true) ⊎ Among → (other ≡ true) ⊎ Among
+held_second whole other Among (inl t) = inl (and_parts whole other t).1
+held_second whole other Among (inr m) = inr m
 
--- and it does tell of each place that is its own
-row_there : (so : Told → Type 0) (all : List NodeAt) (step place : ℕ) (told : List Told) → IsShare so all step (place % step) told → place < length all → place / step < length told
-row_there so all step place told share inside =
-    let parts = div-add-mod' place step in
-    let whole = share.whole in
-    lt_of_mul-lt-mul_right step (omega arith)
+module _ (bounds : Bounds) (files : List Graph) (definitions : List Hit) (all : List NodeAt) (step : ℕ) where
+  -- the same by other names
+  so_linked : (IsAsked : NodeAt → Type 0) (whole : Bool) (links : List Link) (limit : Bool) (next : Links) → next.list.items ≡ links → next.limit ≡ limit → next.whole ≡ whole
+      → AreLinks bounds files (IsHeld whole definitions) IsAsked links limit → AreFound bounds files definitions IsAsked next
+  so_linked IsAsked whole links limit next e f w are =
+      subst (λ (b : Bool). AreLinks bounds files (IsHeld b definitions) IsAsked next.list.items next.limit) (sym w)
+      (subst (λ (xs : List Link). AreLinks bounds files (IsHeld whole definitions) IsAsked xs next.limit) (sym e)
+      (subst (λ (b : Bool). AreLinks bounds files (IsHeld whole definitions) IsAsked links b) (sym f) are))
 
-pub told_read : (so : Told → Type 0) (all : List NodeAt) (step place : ℕ) (told : List Told) (t : Told) → IsShare so all step (place % step) told → place < length all
-    → t ≡ get_or told (place / step) t → (slice_get all place ≡ Some t.reference) × so t
-told_read so all step place told t share inside is =
-    told_there so all step place told t share (slice_get_read told (length told) (place / step) t refl (row_there so all step place told share inside) is)
+  -- what is found so far of a share
+  pub share_begun : (first : ℕ) (next : Links) → next.list.items ≡ [] → next.limit ≡ false → next.whole ≡ true → AreFound bounds files definitions (IsShareOf all step first 0) next
+  share_begun first next e f w =
+      so_linked (IsShareOf all step first 0) true [] false next e f w (none_linked bounds files (IsHeld true definitions) (IsShareOf all step first 0) (no_place all step first))
+
+  pub share_left : (first job : ℕ) (links : Links) → eqb (job % step) first ≡ false → AreFound bounds files definitions (IsShareOf all step first job) links
+      → AreFound bounds files definitions (IsShareOf all step first (job + 1)) links
+  share_left first job links other are =
+      same_asked bounds files (IsHeld links.whole definitions) (IsShareOf all step first job) (IsShareOf all step first (job + 1)) links.list.items links.limit
+      (place_passed all step first job (λ e. false≢true (sym other ∙ eq-eqb (job % step) first e))) are
+
+  pub share_grown : (first job : ℕ) (d : NodeAt) (old new : Links) → eqb (job % step) first ≡ true → job < length all
+      → AreFound bounds files definitions (IsShareOf all step first job) old → AddsLinks bounds files (get_or all job d) old new
+      → AreFound bounds files definitions (IsShareOf all step first (job + 1)) new
+  share_grown first job d old new mine inside are adds =
+      so_linked (IsShareOf all step first (job + 1)) old.whole (old.list.items ++ links_of (hit_of (get_or all job d)) adds.rows) (old.limit || adds.flag) new adds.list_is adds.limit_is adds.whole_is
+      (same_asked bounds files (IsHeld old.whole definitions) (λ (at : NodeAt). IsShareOf all step first job at ⊎ (at ≡ get_or all job d)) (IsShareOf all step first (job + 1))
+      (old.list.items ++ links_of (hit_of (get_or all job d)) adds.rows) (old.limit || adds.flag)
+      (place_added all step first job (get_or all job d) (eqb-true (job % step) first mine) (slice_get-get_or all job d inside))
+      (both_linked bounds files (IsHeld old.whole definitions) (IsShareOf all step first job) (λ (at : NodeAt). at ≡ get_or all job d) old.list.items (links_of (hit_of (get_or all job d)) adds.rows) old.limit adds.flag are
+      (one_linked bounds files (IsHeld old.whole definitions) (get_or all job d) adds.rows adds.flag adds.found)))
+
+  pub share_held : (first job : ℕ) (old new : Links) → Holds definitions old new → AreFound bounds files definitions (IsShareOf all step first job) old
+      → AreFound bounds files definitions (IsShareOf all step first job) new
+  share_held first job old new (inl same) are = subst (λ (links : Links). AreFound bounds files definitions (IsShareOf all step first job) links) (sym same) are
+  share_held first job old new (inr goes) are =
+      so_linked (IsShareOf all step first job) false new.list.items old.limit new refl goes.limit_is goes.whole_is
+      (kept_held bounds files definitions (IsShareOf all step first job) old new goes are)
+
+  pub share_ended : (first job : ℕ) (links : Links) → job ≡ length all → AreFound bounds files definitions (IsShareOf all step first job) links
+      → AreFound bounds files definitions (IsShareOf all step first (length all)) links
+  share_ended first job links over are = subst (λ n. AreFound bounds files definitions (IsShareOf all step first n) links) over are
+
+  -- what is found in so many shares
+  pub shares_begun : (next : Links) → next.list.items ≡ [] → next.limit ≡ false → next.whole ≡ true → AreFound bounds files definitions (IsInShares all step 0) next
+  shares_begun next e f w =
+      so_linked (IsInShares all step 0) true [] false next e f w (none_linked bounds files (IsHeld true definitions) (IsInShares all step 0) (λ at h. let low = h.2 in absurd (omega arith)))
+
+  pub shares_added : (count : ℕ) (old more new : Links) → AreFound bounds files definitions (IsInShares all step count) old
+      → AreFound bounds files definitions (IsShareOf all step count (length all)) more → new.list.items ≡ old.list.items ++ more.list.items → new.limit ≡ (old.limit || more.limit)
+      → new.whole ≡ (old.whole && more.whole) → AreFound bounds files definitions (IsInShares all step (count + 1)) new
+  shares_added count old more new are others e f w =
+      so_linked (IsInShares all step (count + 1)) (old.whole && more.whole) (old.list.items ++ more.list.items) (old.limit || more.limit) new e f w
+      (same_asked bounds files (IsHeld (old.whole && more.whole) definitions) (λ (at : NodeAt). IsInShares all step count at ⊎ IsShareOf all step count (length all) at) (IsInShares all step (count + 1))
+      (old.list.items ++ more.list.items) (old.limit || more.limit)
+      (λ at. (λ h. on at h, λ h. back at h.0 h.1 h.2 h.3 (cases_lt (h.0 % step) count)))
+      (both_linked bounds files (IsHeld (old.whole && more.whole) definitions) (IsInShares all step count) (IsShareOf all step count (length all)) old.list.items more.list.items old.limit more.limit
+      (less_held bounds files (IsHeld old.whole definitions) (IsHeld (old.whole && more.whole) definitions) (IsInShares all step count) old.list.items old.limit
+      (λ d t. held_first old.whole more.whole (IsIn d definitions) t) are)
+      (less_held bounds files (IsHeld more.whole definitions) (IsHeld (old.whole && more.whole) definitions) (IsShareOf all step count (length all)) more.list.items more.limit
+      (λ d t. held_second old.whole more.whole (IsIn d definitions) t) others)))
+    where
+      on : (at : NodeAt) → IsInShares all step count at ⊎ IsShareOf all step count (length all) at → IsInShares all step (count + 1) at
+      on at (inl h) = let low = h.2 in (h.0, h.1, omega arith, h.3)
+      on at (inr h) = let same = h.2 in (h.0, h.1, omega arith, h.3)
+
+      back : (at : NodeAt) (k : ℕ) → k < length all → k % step < count + 1 → slice_get all k ≡ Some at → (k % step < count) ⊎ (count ≤ k % step)
+          → IsInShares all step count at ⊎ IsShareOf all step count (length all) at
+      back at k inside low e (inl h) = inl (k, inside, h, e)
+      back at k inside low e (inr h) = let same : k % step ≡ count = omega arith in inr (k, inside, same, e)
+
+  pub shares_ended : (count : ℕ) (links : Links) → 0 < step → step ≤ count → AreFound bounds files definitions (IsInShares all step count) links
+      → AreLinksOf bounds files definitions all links
+  shares_ended count links some over are =
+      same_asked bounds files (IsHeld links.whole definitions) (IsInShares all step count) (λ (at : NodeAt). IsIn at all) links.list.items links.limit
+      (λ at. (
+        λ h. there_in all h.0 at h.3,
+        λ m. let r = in_there all at m in let low : r.0 % step < step = mod-lt r.0 some in (r.0, r.1, omega arith, r.2),
+      ))
+      are

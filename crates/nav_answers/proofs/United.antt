@@ -1,12 +1,11 @@
 -- The references of any of several definitions are those of each of them, put together.
-use Rattle.std.proofs.Common.{◌≡◌, refl, sym, ◌∙◌, ap, subst, ℕ, List, [], ◌∷◌, ◌++◌, length, map, Option, Some, None, IsSomeAnd, Result, Ok, Err, ◌⊎◌, inl, inr}
+use Rattle.std.proofs.Common.{Contains, ◌≡◌, refl, sym, ◌∙◌, ap, subst, ℕ, List, [], ◌∷◌, ◌++◌, length, map, Option, Some, None, IsSomeAnd, Result, Ok, Err, ◌⊎◌, inl, inr}
 use Rattle.std.specs.Prelude.{MatchResult, ok_or}
 use Rattle.std.specs.List.{cons_option}
 use Rattle.std.specs.Option.{option_map, option_map_or}
 use Rattle.std.proofs.lemmas.List.{nil_from_length}
 use Rattle.graph_nodes.specs.Graph.{Graph, is_definition_kind}
 use Rattle.stacks_vars.specs.declared.scopes.NodeAt.{NodeAt}
-use Rattle.partial_path.specs.declared.config.Config.{Config}
 use Rattle.partial_path.specs.declared.bounds.Bounds.{Bounds}
 use Rattle.partial_path.specs.Spots.{node_at}
 use Rattle.partial_path.specs.Step.{start}
@@ -23,7 +22,7 @@ use Rattle.nav_answers.specs.declared.found.AskFault.{AskFault}
 use Rattle.nav_answers.specs.declared.found.AskFault.TheVariants.{NoFile, NoDefinition, Crowded, NoMemory}
 use Rattle.nav_answers.specs.Replies.{graphs_in, number_of, meant_in, meant, hit_of, row_of, rows_found, IsAnswer, IsReferenceReply, IsReferencesReply, ReferToEach, ReferToAny, IsReferencesOfAnyReply}
 use Rattle.nav_answers.specs.Asking.{IsOneFrom, IsReferenceOfAny, IsReplyToAny, HasReferences, hit_at, definitions_named}
-use Rattle.nav_answers.proofs.Referred.{some_so}
+use Rattle.nav_answers.proofs.Referred.{some_so, one_meant}
 
 -- where no definition is meant, there are no rows
 abbrev refusal : Result NodeAt AskFault → Result Answer AskFault
@@ -120,18 +119,12 @@ of_each bounds files (row ∷ rows) has = by (meant_by files row) refl has (of_e
     by (Ok node) e has more = one_met bounds files row rows (definitions_named files rows) node e (has (hit_of node) (inl refl)) (more (λ d m. has d (inr m)))
     by (Err fault) e has more = one_passed bounds files row rows (definitions_named files rows) fault e (more has)
 
--- the one definition among those, that has this reference
-picked : (bounds : Bounds) (gs : List Graph) (definitions : List Hit) (o : Option Config) → IsSomeAnd o (IsOneFrom bounds gs definitions)
-    → (definition : Hit) × IsIn definition definitions × IsSomeAnd o (λ c. IsDefinitionFrom bounds gs c definition)
-picked bounds gs definitions None h = absurd h
-picked bounds gs definitions (Some c) h = (h.0, IsIn-from_Contains definitions h.0 h.1, h.2)
-
 -- the rows of the answer are the references of all
 pub united : (bounds : Bounds) (files : List GraphRow) (rows : List Row) (definitions : List Hit) (answer : Answer) → definitions ≡ definitions_named files rows
-    → IsReplyToAny bounds files definitions (Ok answer) → ((definition : Hit) → HasReferences bounds (graphs_in files) definition)
+    → IsReplyToAny bounds files definitions (Ok answer) → ((definition : Hit) → Contains definitions definition → HasReferences bounds (graphs_in files) definition)
     → ReferToAny bounds files rows answer.rows
 united bounds files rows definitions answer is reply alone =
-    let parts = subst (AreOfEach bounds files rows) (sym is) (of_each bounds files rows (λ d m. has d)) in
+    let parts = subst (AreOfEach bounds files rows) (sym is) (of_each bounds files rows (λ d m. has d (subst (λ (ds : List Hit). IsIn d ds) (sym is) m))) in
     record {
       all = parts.all;
       each = parts.each;
@@ -144,15 +137,15 @@ united bounds files rows definitions answer is reply alone =
       told = reply.1.told;
     }
   where
-    has : (definition : Hit) → HasAnswer bounds files definition
-    has definition =
-        let refs = alone definition in
+    has : (definition : Hit) → IsIn definition definitions → HasAnswer bounds files definition
+    has definition m =
+        let refs = alone definition (Contains-from_IsIn definitions definition m) in
         (record { limit = answer.limit; rows = map (row_of files) refs.0 }, reply.0, record { hits = refs.0; exact = refs.1; told = refl; limit = reply.1.limit })
 
     refers : (row : Row) → IsIn row answer.rows → IsRowOf bounds files definitions row
     refers row m =
         let k = IsIn-map_from (row_of files) row reply.1.hits (subst (λ (xs : List Row). IsIn row xs) reply.1.told m) in
-        let p = picked bounds (graphs_in files) definitions (start (graphs_in files) (node_at k.0.file k.0.node)) ((reply.1.exact.exact k.0).0 (Contains-from_IsIn reply.1.hits k.0 k.1)) in
+        let p = one_meant bounds (graphs_in files) definitions (start (graphs_in files) (node_at k.0.file k.0.node)) ((reply.1.exact.exact k.0).0 (Contains-from_IsIn reply.1.hits k.0 k.1)) in
         (k.0, p.0, p.1, p.2, k.2)
 
     referred : (row : Row) → IsRowOf bounds files definitions row → IsIn row answer.rows

@@ -1,10 +1,11 @@
--- Asking all references of files whether one of some definitions is among their own. No public clause cites this.
-use Rattle.std.specs.Prelude.{◌≡◌, ℕ, ◌+◌, ◌*◌, ◌≤◌, List, [], ◌∷◌, ◌++◌, length, map, filter, All, Contains, slice_get, Option, Some, None, Bool, ◌&&◌, nat_eq, IsTrue, IsSomeAnd, ◌↔◌, if◌then◌else◌, Vec, Result, Ok, Err, MatchResult}
-use Rattle.std.specs.List.{filter_map, list_any}
-use Rattle.std.specs.Global.{Global}
+-- Asking all references of files for their definitions, and what is kept of them. No public clause cites this.
+use Rattle.std.specs.Prelude.{◌≡◌, ℕ, ◌+◌, ◌%◌, ◌<◌, List, [], ◌∷◌, ◌++◌, ◌||◌, length, Contains, slice_get, Option, Some, None, Bool, IsTrue, IsSomeAnd, true, false, ◌⊎◌, ◌↔◌, if◌then◌else◌, Result, Ok, Err, MatchResult}
+use Rattle.std.specs.List.{filter_map}
+use Rattle.std.specs.List.Sorted.{IsStrictlySortedBy}
 use Rattle.graph_nodes.specs.declared.node.Node.{Node}
 use Rattle.graph_nodes.specs.Graph.{Graph, is_reference_kind, is_definition_kind}
 use Rattle.graph_nodes.specs.Whole.{is_reference_of}
+use Rattle.list_facts.specs.Members.{IsIn}
 use Rattle.stacks_vars.specs.declared.scopes.NodeAt.{NodeAt}
 use Rattle.partial_path.specs.declared.config.Config.{Config}
 use Rattle.partial_path.specs.declared.bounds.Bounds.{Bounds}
@@ -13,15 +14,20 @@ use Rattle.partial_path.specs.Step.{start}
 use Rattle.partial_path.specs.Counted.{IsCrowded, HasLimit}
 use Rattle.whole_search.specs.declared.found.Hit.{Hit}
 use Rattle.stitcher.specs.declared.found.StitchFault.{StitchFault}
-use Rattle.stitcher.specs.declared.found.StitchFault.TheVariants.{Crowded}
-use Rattle.whole_search.specs.Answers.{IsDefinitionFrom, AreDefinitions, AreReferences, IsAnyCrowded, HasAnyLimit}
+use Rattle.stitcher.specs.declared.found.StitchFault.TheVariants as stitch
+use Rattle.whole_search.specs.Answers.{IsDefinitionFrom, AreDefinitions, AreReferences, IsReferenceOf, IsAnyCrowded, HasAnyLimit}
 use Rattle.version_tree.specs.declared.row.Answer.{Answer}
 use Rattle.version_tree.specs.declared.row.Row.{Row}
 use Rattle.version_tree.specs.Graphs.{GraphRow}
-use Rattle.nav_answers.specs.declared.asking.Told.{Told}
+use Rattle.nav_answers.specs.declared.asked_view.Known.{Known}
+use Rattle.nav_answers.specs.declared.asked_view.Told.{Told}
+use Rattle.nav_answers.specs.declared.asked_view.Told.TheVariants.{Each, Crowded}
+use Rattle.nav_answers.specs.declared.links.Link.{Link}
+use Rattle.nav_answers.specs.declared.links.Links.{Links}
 use Rattle.nav_answers.specs.declared.found.At.TheVariants as at
 use Rattle.nav_answers.specs.declared.found.AskFault.{AskFault}
 use Rattle.nav_answers.specs.declared.found.AskFault.TheVariants.{NoDefinition}
+use Rattle.nav_answers.specs.Links.{by_link, links_of}
 use Rattle.nav_answers.specs.Replies.{graphs_in, hit_of, meant, IsReplyAbout}
 
 -- the references among nodes of a file with that number, of which the first has that position
@@ -43,35 +49,85 @@ IsReferenceIn files at = IsTrue (is_reference_of files at.file at.node)
 abbrev pub IsOneFrom : Bounds → List Graph → List Hit → Config → Type 0
 IsOneFrom bounds files definitions c = (definition : Hit) × Contains definitions definition × IsDefinitionFrom bounds files c definition
 
--- what was told of a reference is so, from where its paths start
-pub record IsToldFrom (bounds : Bounds) (files : List Graph) (definitions : List Hit) (told : Told) (c : Config) : Type 0 where
-  -- the definitions of the reference
-  pub own : List Hit
-  pub exact : AreDefinitions bounds files c own
-  pub refers : IsTrue told.refers ↔ IsOneFrom bounds files definitions c
-  pub limit : IsTrue told.limit ↔ HasLimit bounds files c
+-- what was found of a reference, its definitions and the flag, is so from where its paths start
+pub record IsFoundFrom (bounds : Bounds) (files : List Graph) (rows : List Hit) (limit : Bool) (c : Config) : Type 0 where
+  pub exact : AreDefinitions bounds files c rows
+  pub limit_is : IsTrue limit ↔ HasLimit bounds files c
   pub few : IsCrowded bounds files c → ⊥
 
--- the paths of the reference have a start, and from there what was told of it is so
+-- the paths of the reference have a start, and from there what was found of it is so
+abbrev pub IsFound : Bounds → List Graph → NodeAt → List Hit → Bool → Type 0
+IsFound bounds files reference rows limit = IsSomeAnd (start files reference) (IsFoundFrom bounds files rows limit)
+
+-- the node that the hit names
+abbrev pub place_of : Hit → NodeAt
+place_of hit = node_at hit.file hit.node
+
+-- The links are those of references that were asked, each with one of its definitions. All of those to a definition
+-- that is held are there. The flag is true exactly where one of the references has a counted run that isn't bounded.
+-- None of them is crowded.
+pub record AreLinks (bounds : Bounds) (files : List Graph) (Held : Hit → Type 0) (IsAsked : NodeAt → Type 0) (links : List Link) (limit : Bool) : Type 0 where
+  pub sound : (link : Link) → Contains links link → IsAsked (place_of link.reference) × IsReferenceOf bounds files link.definition link.reference
+  pub all : (link : Link) → Held link.definition → IsAsked (place_of link.reference) → IsReferenceOf bounds files link.definition link.reference → Contains links link
+  pub limit_is : IsTrue limit ↔ ((at : NodeAt) × IsAsked at × IsSomeAnd (start files at) (HasLimit bounds files))
+  pub few : (at : NodeAt) → IsAsked at → IsSomeAnd (start files at) (IsCrowded bounds files) → ⊥
+
+-- whether the links to the definition are held: to each where all are, else to these alone
+abbrev pub IsHeld : Bool → List Hit → Hit → Type 0
+IsHeld whole definitions definition = IsTrue whole ⊎ IsIn definition definitions
+
+-- the links that are found so far of references
+abbrev pub AreFound : Bounds → List Graph → List Hit → (NodeAt → Type 0) → Links → Type 0
+AreFound bounds files definitions IsAsked links = AreLinks bounds files (IsHeld links.whole definitions) IsAsked links.list.items links.limit
+
+-- so it is of these references
+abbrev pub AreLinksOf : Bounds → List Graph → List Hit → List NodeAt → Links → Type 0
+AreLinksOf bounds files definitions all links = AreFound bounds files definitions (λ (at : NodeAt). IsIn at all) links
+
+-- the links to other definitions are let go
+pub record LetsGo (definitions : List Hit) (old new : Links) : Type 0 where
+  pub exact : (link : Link) → Contains new.list.items link ↔ (Contains old.list.items link × IsIn link.definition definitions)
+  pub limit_is : new.limit ≡ old.limit
+  pub whole_is : new.whole ≡ false
+
+-- they are, or nothing is changed
+abbrev pub Holds : List Hit → Links → Links → Type 0
+Holds definitions old new = (new ≡ old) ⊎ LetsGo definitions old new
+
+-- what was found of the reference is added
+pub record AddsLinks (bounds : Bounds) (files : List Graph) (reference : NodeAt) (old new : Links) : Type 0 where
+  pub rows : List Hit
+  pub flag : Bool
+  pub found : IsFound bounds files reference rows flag
+  pub list_is : new.list.items ≡ old.list.items ++ links_of (hit_of reference) rows
+  pub limit_is : new.limit ≡ (old.limit || flag)
+  pub whole_is : new.whole ≡ old.whole
+
+-- The links of all references of the files to the definitions that are held, by their definitions and then by the
+-- references, each once.
+pub record IsTable (bounds : Bounds) (files : List Graph) (Held : Hit → Type 0) (links : List Link) (limit : Bool) : Type 0 where
+  pub sound : (link : Link) → Contains links link → IsReferenceOf bounds files link.definition link.reference
+  pub all : (link : Link) → Held link.definition → IsReferenceOf bounds files link.definition link.reference → Contains links link
+  pub order : IsStrictlySortedBy by_link links
+  pub limit_is : IsTrue limit ↔ HasAnyLimit bounds files
+  pub few : IsAnyCrowded bounds files → ⊥
+
+-- what was found of all references of the files is so: their links to these definitions, or that one of them is crowded
 abbrev pub IsTold : Bounds → List Graph → List Hit → Told → Type 0
-IsTold bounds files definitions told =
-    IsSomeAnd (start files told.reference) (IsToldFrom bounds files definitions told)
+IsTold bounds files definitions (Each links) = IsTable bounds files (IsHeld links.whole definitions) links.list.items links.limit
+IsTold bounds files definitions Crowded = IsAnyCrowded bounds files
 
--- the references of which it was told
-abbrev pub asked_in : List Told → List NodeAt
-asked_in told = map (λ (t : Told). t.reference) told
+-- whether it tells of all definitions
+abbrev pub is_whole : Told → Bool
+is_whole (Each links) = links.whole
+is_whole Crowded = true
 
--- those of them that refer to one of the definitions
-abbrev pub rows_in : List Told → List Hit
-rows_in told = map (λ (t : Told). hit_of t.reference) (filter (λ (t : Told). t.refers) told)
+abbrev pub IsKnownOf : List Graph → List Hit → Known → Type 0
+IsKnownOf files definitions known = IsTold known.bounds files definitions known.told
 
--- whether the one node is the other
-abbrev pub same_hit : Hit → Hit → Bool
-same_hit hit other = nat_eq other.file hit.file && nat_eq other.node hit.node
-
--- whether one of these is among the others
-abbrev pub has_any : List Hit → List Hit → Bool
-has_any definitions hits = list_any (λ (definition : Hit). list_any (same_hit definition) hits) definitions
+-- what is kept of a view is what its references are within these bounds, whatever the definitions are
+abbrev pub IsKnown : List Graph → Known → Type 0
+IsKnown files known = (definitions : List Hit) → IsKnownOf files definitions known
 
 -- the node is a reference of the files, of which one of these is a definition
 abbrev pub IsReferenceOfAny : Bounds → List Graph → List Hit → Hit → Type 0
@@ -99,14 +155,15 @@ definition_named files row = hit_at (meant is_definition_kind NoDefinition files
 abbrev pub definitions_named : List GraphRow → List Row → List Hit
 definitions_named files rows = filter_map (definition_named files) rows
 
--- what is told of the references at the places first, first + step and so on, in their order: of each what is so
-pub record IsShare (so : Told → Type 0) (all : List NodeAt) (step first : ℕ) (told : List Told) : Type 0 where
-  pub asked : (k : ℕ) (t : Told) → slice_get told k ≡ Some t → slice_get all (k * step + first) ≡ Some t.reference
-  pub each : All so told
-  -- none of these places is left out
-  pub whole : length all ≤ length told * step + first
+-- the node stands in the list at a place below `end` that leaves `first` when it is divided by `step`
+abbrev pub IsShareOf : List NodeAt → ℕ → ℕ → ℕ → NodeAt → Type 0
+IsShareOf all step first end at = (k : ℕ) × (k < end) × (k % step ≡ first) × (slice_get all k ≡ Some at)
 
--- what one thread tells in the end: that, or its fault
-abbrev pub IsDone : Bounds → List Graph → List Hit → List NodeAt → ℕ → ℕ → Result (Vec Told Global) StitchFault → Type 0
+-- it stands in one of the first so many shares
+abbrev pub IsInShares : List NodeAt → ℕ → ℕ → NodeAt → Type 0
+IsInShares all step count at = (k : ℕ) × (k < length all) × (k % step < count) × (slice_get all k ≡ Some at)
+
+-- what one thread tells in the end: what was found of its references, or its fault
+abbrev pub IsDone : Bounds → List Graph → List Hit → List NodeAt → ℕ → ℕ → Result Links StitchFault → Type 0
 IsDone bounds files definitions all step first share =
-    MatchResult share (λ told. IsShare (IsTold bounds files definitions) all step first told.items) (λ fault. fault ≡ Crowded → IsAnyCrowded bounds files)
+    MatchResult share (AreFound bounds files definitions (IsShareOf all step first (length all))) (λ fault. fault ≡ stitch.Crowded → IsAnyCrowded bounds files)

@@ -4,4 +4,5 @@ pub mod Laws
 pub mod Kinds
 pub mod Sources
 pub mod Kept
+pub mod Links
 pub mod Asking

@@ -2,10 +2,12 @@
 //! referred to.
 #![tactic(auto)]
 
+mod asked_view;
 mod asking;
 mod defining;
 mod found;
 mod laws;
+mod links;
 mod listing;
 mod meaning;
 mod referring;
@@ -14,6 +16,7 @@ mod sharing;
 mod source;
 mod uniting;
 
+pub use asked_view::AskedView;
 pub use defining::define;
 pub use found::{AskFault, At};
 pub use laws::queries_have_one_reply;

@@ -1,28 +1,33 @@
-ghost use Rattle.std.specs.Prelude.{◌≡◌, ◌≢◌, ◌↔◌, Err, IfOk, OnOk, IsTrue};
+ghost use Rattle.std.specs.Prelude.{◌≡◌, ◌≢◌, Contains, Err, IfOk};
 ghost use Rattle.version_tree.specs.Graphs.{graph_rows};
 ghost use Rattle.root_index.specs.Roots.{IsIndexOfView};
 ghost use Rattle.whole_search.specs.declared.found.Hit.{Hit};
-ghost use Rattle.whole_search.specs.Answers.{AreRows, HasAnyLimit, IsAnyCrowded};
-ghost use Rattle.nav_answers.specs.Asking.{HasReferences, IsReferenceOfAny, IsReplyToAny};
+ghost use Rattle.whole_search.specs.Answers.{AreRows, IsAnyCrowded};
+ghost use Rattle.nav_answers.specs.Asking.{AreLinksOf, HasReferences, IsHeld, IsKnownOf, IsReferenceOfAny, IsReplyToAny, IsTable, references_from};
 ghost use Rattle.nav_answers.specs.Replies.{graphs_in, IsReferenceReply, IsReferencesReply};
 ghost use Rattle.nav_answers.specs.Sources.{graphs_seen};
 
-use crate::asking::{Query, has_limit, rows_in};
+use crate::asked_view::{AskedView, Known, Told};
+use crate::asking::Query;
 use crate::defining::answer_of;
 use crate::found::{AskFault, At};
+use crate::links::{Links, rows_of_any};
 use crate::listing::all_references;
 use crate::meaning::{Asked, meant};
-use crate::rows::hit_of;
+use crate::rows::{hit_of, in_order};
 use crate::sharing::ask_all;
 use nav_io::Gate;
 use partial_path::Bounds;
 use root_index::RootIndex;
 use stacks_vars::NodeAt;
-use std::alloc::Global;
+use std::alloc::{AllocError, Global};
 use std::thread::Threads;
 use stitcher::StitchFault;
 use version_tree::{Answer, View};
-use whole_search::{Found, Hits};
+use whole_search::{Found, Hit, Hits};
+
+/// How many links there may be to definitions that aren't meant. A link has 16 bytes, so these have 32 MB.
+const MOST_LINKS: usize = 2_097_152;
 
 /// Who refers to the definition that is meant in the file with the path: a row for each reference of the files that
 /// are seen that has it among its definitions, in file order, and whether a run of any reference of the files was
@@ -32,25 +37,30 @@ use whole_search::{Found, Hits};
 /// to, and `NoMemory` where memory is refused. Only the files that are seen, the path, the place and the bounds
 /// decide the answer.
 ///
-/// Each reference of the files is asked once, as a job between `enter` and `leave` of the gate, with its place
-/// among them as its number. They are asked on as many threads as the machine has processors, at most eight and no
-/// more than there are references; where a thread can't be made, the caller does its work. Which thread is the first
-/// to end decides nothing.
+/// The first time each reference of the files is asked once, as a job between `enter` and `leave` of the gate, with its
+/// place among them as its number. They are asked on as many threads as the machine has processors, at most eight and
+/// no more than there are references; where a thread can't be made, the caller does its work. Which thread is the first
+/// to end decides nothing. What was found is kept beside the view. The next time, of whatever definition, nothing is
+/// asked where the bounds are the same ones: the definition's references are found by halving, and the time follows
+/// their number. Where the bounds are others, all are asked again, and only the last is kept. Where memory is refused
+/// while they are asked, nothing is kept. Where the references have more than some 2,097,152 definitions in all, those
+/// that aren't meant are let go meanwhile, and nothing is kept either.
 pub fn references<R: Threads + Sync, G: Gate + Sync>(
     rt: &R,
     alloc: Global,
-    view: &View,
+    seen: &mut AskedView,
     index: &RootIndex,
     gate: &G,
     path: &str,
     at: At,
     bounds: Bounds,
 ) -> Result<Answer, AskFault>
-    requires { IsIndexOfView index.now view.now }
-    ensures { result ≢ Err AskFault.NoMemory → IsReferencesReply bounds (graph_rows view.now) path.now at result }
+    requires { IsIndexOfView index.now seen.old }
+    ensures reply { result ≢ Err AskFault.NoMemory → IsReferencesReply bounds (graph_rows seen.old) path.now at result }
+    ensures same { seen.new ≡ seen.old }
 {
-    match meant(view, Asked::Definition, path, at) {
-        Ok(node) => references_to(rt, alloc, view, index, gate, node, bounds),
+    match meant(seen.view(), Asked::Definition, path, at) {
+        Ok(node) => references_to(rt, alloc, seen, index, gate, node, bounds),
         Err(fault) => Err(fault),
     }
 }
@@ -59,63 +69,160 @@ pub fn references<R: Threads + Sync, G: Gate + Sync>(
 fn references_to<R: Threads + Sync, G: Gate + Sync>(
     rt: &R,
     alloc: Global,
-    view: &View,
+    seen: &mut AskedView,
     index: &RootIndex,
     gate: &G,
     node: NodeAt,
     bounds: Bounds,
 ) -> Result<Answer, AskFault>
-    requires { IsIndexOfView index.now view.now }
-    ensures { result ≢ Err AskFault.NoMemory → IsReferenceReply bounds (graph_rows view.now) node result }
+    requires { IsIndexOfView index.now seen.old }
+    ensures reply { result ≢ Err AskFault.NoMemory → IsReferenceReply bounds (graph_rows seen.old) node result }
+    ensures same { seen.new ≡ seen.old }
 {
-    let definition = [hit_of(node)];
-    let query = Query {
-        view,
-        index,
-        definitions: &definition,
-        bounds,
-    };
-    answer_to(rt, alloc, &query, gate)
+    references_to_any(rt, alloc, seen, index, gate, &[hit_of(node)], bounds)
 }
 
-/// The answer to the query: a row for each reference that has one of the definitions among its own.
-pub fn answer_to<R: Threads + Sync, G: Gate + Sync>(
+/// The answer that tells of the references of these definitions, from what is kept of all references, or else from what
+/// is found of them, which is then kept.
+pub fn references_to_any<R: Threads + Sync, G: Gate + Sync>(
     rt: &R,
     alloc: Global,
-    query: &Query,
+    seen: &mut AskedView,
+    index: &RootIndex,
     gate: &G,
+    definitions: &[Hit],
+    bounds: Bounds,
 ) -> Result<Answer, AskFault>
-    requires { IsIndexOfView query.now.index.now query.now.view.now }
-    ensures reply { result ≢ Err AskFault.NoMemory → IsReplyToAny query.now.bounds (graph_rows query.now.view.now) query.now.definitions.now result }
-    ensures each { IfOk result (λ _. (definition : Hit) → HasReferences query.now.bounds (graphs_in (graph_rows query.now.view.now)) definition) }
+    requires { IsIndexOfView index.now seen.old }
+    ensures reply { result ≢ Err AskFault.NoMemory → IsReplyToAny bounds (graph_rows seen.old) definitions.now result }
+    ensures each { IfOk result (λ _. (definition : Hit) → Contains definitions.now definition → HasReferences bounds (graphs_in (graph_rows seen.old)) definition) }
+    ensures same { seen.new ≡ seen.old }
 {
-    match references_of(rt, alloc, query, gate) {
-        Ok(found) => Ok(answer_of(alloc, query.view, &found)?),
-        Err(StitchFault::Crowded) => Err(AskFault::Crowded),
-        Err(StitchFault::NoMemory) => Err(AskFault::NoMemory),
+    let known = known_of(rt, alloc, seen, index, gate, definitions, bounds)?;
+    let found = answer_from(alloc, seen.view(), &known, definitions);
+    seen.keep_known(known, definitions);
+    found
+}
+
+/// What is kept of the references, or else what is found of them for these definitions; the one error is want of memory.
+fn known_of<R: Threads + Sync, G: Gate + Sync>(
+    rt: &R,
+    alloc: Global,
+    seen: &mut AskedView,
+    index: &RootIndex,
+    gate: &G,
+    definitions: &[Hit],
+    bounds: Bounds,
+) -> Result<Known, AllocError>
+    requires { IsIndexOfView index.now seen.old }
+    ensures known { IfOk result (IsKnownOf (graphs_seen seen.old) definitions.now) }
+    ensures bounds { IfOk result (λ known. known.bounds ≡ bounds) }
+    ensures same { seen.new ≡ seen.old }
+{
+    match seen.take_known(bounds) {
+        Some(known) => Ok(known),
+        None => {
+            let query = Query {
+                view: seen.view(),
+                index,
+                definitions,
+                bounds,
+                room: MOST_LINKS,
+            };
+            find_all(rt, alloc, &query, gate)
+        }
     }
 }
 
-/// The references of the definitions among those of the files that are seen.
-fn references_of<R: Threads + Sync, G: Gate + Sync>(
+/// What is found of all references of the files that are seen; the one error is want of memory.
+fn find_all<R: Threads + Sync, G: Gate + Sync>(
     rt: &R,
     alloc: Global,
     query: &Query,
     gate: &G,
-) -> Result<Found, StitchFault>
+) -> Result<Known, AllocError>
     requires { IsIndexOfView query.now.index.now query.now.view.now }
-    ensures rows { IfOk result (λ found. AreRows (IsReferenceOfAny query.now.bounds (graphs_seen query.now.view.now) query.now.definitions.now) found.rows) }
-    ensures each { IfOk result (λ _. (definition : Hit) → HasReferences query.now.bounds (graphs_seen query.now.view.now) definition) }
-    ensures limit { IfOk result (λ found. IsTrue found.limit ↔ HasAnyLimit query.now.bounds (graphs_seen query.now.view.now)) }
+    ensures known { IfOk result (IsKnownOf (graphs_seen query.now.view.now) query.now.definitions.now) }
+    ensures bounds { IfOk result (λ known. known.bounds ≡ query.now.bounds) }
+{
+    let bounds = query.bounds;
+    match links_of_all(rt, alloc, query, gate) {
+        Ok(links) => Ok(Known {
+            bounds,
+            told: Told::Each(links.in_order()),
+        }),
+        Err(StitchFault::Crowded) => Ok(Known {
+            bounds,
+            told: Told::Crowded,
+        }),
+        Err(StitchFault::NoMemory) => Err(AllocError),
+    }
+}
+
+/// All references of the files that are seen, each with each of its definitions.
+fn links_of_all<R: Threads + Sync, G: Gate + Sync>(
+    rt: &R,
+    alloc: Global,
+    query: &Query,
+    gate: &G,
+) -> Result<Links, StitchFault>
+    requires { IsIndexOfView query.now.index.now query.now.view.now }
+    ensures found { IfOk result (λ links. AreLinksOf query.now.bounds (graphs_seen query.now.view.now) query.now.definitions.now (references_from 0 (graphs_seen query.now.view.now)) links) }
     ensures crowded { result ≡ Err StitchFault.Crowded → IsAnyCrowded query.now.bounds (graphs_seen query.now.view.now) }
-    ensures not_crowded { OnOk result (¬ IsAnyCrowded query.now.bounds (graphs_seen query.now.view.now)) }
 {
     let all = all_references(alloc, query.view)?;
-    let told = ask_all(rt, alloc, query, gate, &all)?;
-    let limit = has_limit(&told);
-    let rows = rows_in(alloc, &told)?;
-    Ok(Found {
-        rows: Hits::of(rows),
-        limit,
-    })
+    ask_all(rt, alloc, query, gate, &all)
+}
+
+/// The answer that tells of the references of the definitions, from what was found of all references.
+fn answer_from(
+    alloc: Global,
+    view: &View,
+    known: &Known,
+    definitions: &[Hit],
+) -> Result<Answer, AskFault>
+    requires { IsKnownOf (graphs_seen view.now) definitions.now known.now }
+    ensures reply { result ≢ Err AskFault.NoMemory → IsReplyToAny known.now.bounds (graph_rows view.now) definitions.now result }
+    ensures each { IfOk result (λ _. (definition : Hit) → Contains definitions.now definition → HasReferences known.now.bounds (graphs_in (graph_rows view.now)) definition) }
+{
+    match &known.told {
+        Told::Each(links) => answer_by(alloc, view, known.bounds, links, definitions),
+        Told::Crowded => Err(AskFault::Crowded),
+    }
+}
+
+/// The same from the links of all references.
+fn answer_by(
+    alloc: Global,
+    view: &View,
+    bounds: Bounds,
+    links: &Links,
+    definitions: &[Hit],
+) -> Result<Answer, AskFault>
+    requires { IsTable bounds (graphs_seen view.now) (IsHeld links.now.whole definitions.now) links.now.list.items links.now.limit }
+    ensures reply { result ≢ Err AskFault.NoMemory → IsReplyToAny bounds (graph_rows view.now) definitions.now result }
+    ensures each { IfOk result (λ _. (definition : Hit) → Contains definitions.now definition → HasReferences bounds (graphs_in (graph_rows view.now)) definition) }
+{
+    let rows = rows_from(alloc, view, bounds, links, definitions)?;
+    let found = Found {
+        rows,
+        limit: links.limit,
+    };
+    let answer = answer_of(alloc, view, &found)?;
+    Ok(answer)
+}
+
+/// The references of the definitions, in file order; the one error is want of memory.
+fn rows_from(
+    alloc: Global,
+    _view: &View,
+    _bounds: Bounds,
+    links: &Links,
+    definitions: &[Hit],
+) -> Result<Hits, AllocError>
+    requires { IsTable _bounds (graphs_seen _view.now) (IsHeld links.now.whole definitions.now) links.now.list.items links.now.limit }
+    ensures { IfOk result (λ rows. AreRows (IsReferenceOfAny _bounds (graphs_seen _view.now) definitions.now) rows) }
+{
+    let rows = rows_of_any(alloc, &links.list, definitions)?;
+    Ok(Hits::of(in_order(rows)))
 }

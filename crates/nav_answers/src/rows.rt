@@ -22,13 +22,29 @@ pub fn rows_of(alloc: Global, view: &View, runs: &[EdgePath]) -> Result<Vec<Hit>
     ensures rising { IfOk result (λ rows. IsRising rows.items) }
     ensures exact { IfOk result (λ rows. (hit : Hit) → Contains rows.items hit ↔ Contains (ends_of (graphs_seen view.now) runs.now) hit) }
 {
+    if runs.len() < 2 {
+        return ends_alone(alloc, view, runs);
+    }
     let kept = unshadowed(alloc, paths_of(alloc, view, runs)?)?;
     let ends = ends_of(alloc, view, runs, &kept)?;
     Ok(in_order(ends))
 }
 
+/// The same of at most one run, which nothing shadows.
+fn ends_alone(alloc: Global, _view: &View, runs: &[EdgePath]) -> Result<Vec<Hit>, AllocError>
+    requires { length runs.now < 2 }
+    ensures rising { IfOk result (λ rows. IsRising rows.items) }
+    ensures exact { IfOk result (λ rows. (hit : Hit) → Contains rows.items hit ↔ Contains (ends_of (graphs_seen _view.now) runs.now) hit) }
+{
+    let mut rows = Vec::new(alloc);
+    for run in runs {
+        rows.push(hit_of(run.end))?;
+    }
+    Ok(rows)
+}
+
 /// These rows in file order, each once.
-fn in_order(rows: Vec<Hit>) -> Vec<Hit>
+pub fn in_order(rows: Vec<Hit>) -> Vec<Hit>
     ensures rising { IsRising result.items }
     ensures exact { (hit : Hit) → Contains result.items hit ↔ Contains rows.items hit }
 {

@@ -1,11 +1,13 @@
-ghost use Rattle.std.specs.Prelude.{◌≡◌, ℕ, ◌<◌, ◌≤◌, ◌%◌, length, All, Err, IfOk, Some, slice_get, slice_index_or, vec_len};
+ghost use Rattle.std.specs.Prelude.{◌≡◌, ℕ, ◌+◌, ◌%◌, ◌<◌, ◌≤◌, length, nat_eq, All, Err, IfOk, OnOk, slice_index_or, vec_len, IsTrue};
+ghost use Rattle.graph_nodes.specs.Whole.{is_reference_of};
 ghost use Rattle.root_index.specs.Roots.{IsIndexOfView};
 ghost use Rattle.whole_search.specs.Answers.{IsAnyCrowded};
-ghost use Rattle.nav_answers.specs.Asking.{IsDone, IsReferenceIn, IsTold, asked_in};
+ghost use Rattle.nav_answers.specs.Asking.{AddsLinks, AreFound, AreLinksOf, IsDone, IsInShares, IsReferenceIn};
 ghost use Rattle.nav_answers.specs.Sources.{graphs_seen};
-ghost use Rattle.nav_answers.specs.declared.asking.Told.{Told};
 
-use crate::asking::{Query, Told, ask};
+use crate::asking::{Query, ask};
+use crate::links::Links;
+use crate::rows::hit_of;
 use nav_io::Gate;
 use stacks_vars::NodeAt;
 use std::alloc::{AllocError, Global};
@@ -16,24 +18,23 @@ use stitcher::StitchFault;
 /// The most threads that ask.
 const MOST_THREADS: usize = 8;
 
-/// What one thread tells of its references, or why it stopped.
-type Share = Result<Vec<Told>, StitchFault>;
+/// What one thread finds of its references, or why it stopped.
+type Share = Result<Links, StitchFault>;
 
-/// What is told of each of these references, in their order. Each is a job between `enter` and `leave` of the gate,
-/// with its place among them as its number. With n threads the first one asks the references at the places 0, n, 2n
-/// and so on, the next one those at 1, n + 1 and so on. Where one of them has a fault, the fault is told once all
-/// threads have ended, of those of several the first by the threads' order.
+/// What is found of these references. Each is a job between `enter` and `leave` of the gate, with its place among them
+/// as its number. With n threads the first one asks the references at the places 0, n, 2n and so on, the next one those
+/// at 1, n + 1 and so on. Where one of them has a fault, the fault is told once all threads have ended, of those of
+/// several the first by the threads' order.
 pub fn ask_all<R: Threads + Sync, G: Gate + Sync>(
     rt: &R,
     alloc: Global,
     query: &Query,
     gate: &G,
     all: &[NodeAt],
-) -> Result<Vec<Told>, StitchFault>
+) -> Result<Links, StitchFault>
     requires index { IsIndexOfView query.now.index.now query.now.view.now }
     requires references { All (IsReferenceIn (graphs_seen query.now.view.now)) all.now }
-    ensures asked { IfOk result (λ told. asked_in told.items ≡ all.now) }
-    ensures told { IfOk result (λ told. All (IsTold query.now.bounds (graphs_seen query.now.view.now) query.now.definitions.now) told.items) }
+    ensures found { IfOk result (λ links. AreLinksOf query.now.bounds (graphs_seen query.now.view.now) query.now.definitions.now all.now links) }
     ensures crowded { result ≡ Err StitchFault.Crowded → IsAnyCrowded query.now.bounds (graphs_seen query.now.view.now) }
 {
     let mut shares = empty_shares(alloc, thread_count(rt, all.len()))?;
@@ -52,13 +53,13 @@ fn thread_count<R: Threads>(rt: &R, references: usize) -> usize
     }
 }
 
-/// So many shares, in which nothing is told yet.
+/// So many shares, in which nothing is found yet.
 fn empty_shares(alloc: Global, count: usize) -> Result<Vec<Share>, AllocError>
     ensures { IfOk result (λ shares. vec_len shares ≡ count) }
 {
     let mut shares = Vec::with_capacity(alloc, count)?;
     for _ in 0..count {
-        shares.push(Ok(Vec::new(alloc)))?;
+        shares.push(Ok(Links::new(alloc, 0)))?;
     }
     Ok(shares)
 }
@@ -87,7 +88,7 @@ fn ask_shares<R: Threads + Sync, G: Gate + Sync>(
     );
 }
 
-/// Asks the references at the places `first`, `first + step` and so on.
+/// Asks the references at the places `first`, `first + step` and so on, where `first` is less than `step`.
 fn ask_share<G: Gate>(
     alloc: Global,
     query: &Query,
@@ -101,57 +102,81 @@ fn ask_share<G: Gate>(
     requires step { 0 < step }
     ensures { IsDone query.now.bounds (graphs_seen query.now.view.now) query.now.definitions.now all.now step first result }
 {
-    let mut told = Vec::with_capacity(alloc, all.len().div_ceil(step))?;
-    let mut wait = first;
+    let mut links = Links::new(alloc, query.room / step);
     for job in 0..all.len() {
-        if wait > 0 {
-            wait -= 1;
+        if !is_in_share(job, first, step) {
             continue;
         }
-        told.push(ask(alloc, query, gate, job, all[job])?)?;
-        wait = step - 1;
+        ask_into(alloc, query, gate, job, all[job], &mut links)?;
+        links.hold(alloc, query.definitions)?;
     }
-    Ok(told)
+    Ok(links)
 }
 
-/// What the shares tell, in the order of the references.
+/// Whether the place is one of `first`, `first + step` and so on, where `first` is less than `step`.
+fn is_in_share(place: usize, first: usize, step: usize) -> bool
+    requires { 0 < step }
+    ensures { result ≡ nat_eq (place % step) first }
+{
+    place % step == first
+}
+
+/// Asks the reference, as the job of that number, and adds what is found of it.
+fn ask_into<G: Gate>(
+    alloc: Global,
+    query: &Query,
+    gate: &G,
+    job: usize,
+    reference: NodeAt,
+    links: &mut Links,
+) -> Result<(), StitchFault>
+    requires index { IsIndexOfView query.now.index.now query.now.view.now }
+    requires reference { IsTrue (is_reference_of (graphs_seen query.now.view.now) reference.file reference.node) }
+    ensures found { OnOk result (AddsLinks query.now.bounds (graphs_seen query.now.view.now) reference links.old links.new) }
+    ensures crowded { result ≡ Err StitchFault.Crowded → IsAnyCrowded query.now.bounds (graphs_seen query.now.view.now) }
+{
+    let found = ask(alloc, query, gate, job, reference)?;
+    links.add(hit_of(reference), &found)?;
+    Ok(())
+}
+
+/// What the shares tell together.
 fn together(
     alloc: Global,
     query: &Query,
     all: &[NodeAt],
     shares: &[Share],
-) -> Result<Vec<Told>, StitchFault>
+) -> Result<Links, StitchFault>
     requires some { 0 < length shares.now }
     requires done { (i : ℕ) (d : _) → i < length shares.now → IsDone query.now.bounds (graphs_seen query.now.view.now) query.now.definitions.now all.now (length shares.now) i (slice_index_or shares.now i d) }
-    ensures asked { IfOk result (λ told. asked_in told.items ≡ all.now) }
-    ensures told { IfOk result (λ told. All (IsTold query.now.bounds (graphs_seen query.now.view.now) query.now.definitions.now) told.items) }
+    ensures found { IfOk result (λ links. AreLinksOf query.now.bounds (graphs_seen query.now.view.now) query.now.definitions.now all.now links) }
     ensures crowded { result ≡ Err StitchFault.Crowded → IsAnyCrowded query.now.bounds (graphs_seen query.now.view.now) }
 {
-    let step = shares.len();
-    let mut told = Vec::with_capacity(alloc, all.len())?;
-    for place in 0..all.len() {
-        told.push(told_at(query, all, place, step, &shares[place % step])?)?;
+    let count = shares.len();
+    let mut links = Links::new(alloc, query.room);
+    for place in 0..count {
+        add_share(query, all, count, place, &shares[place], &mut links)?;
     }
-    Ok(told)
+    Ok(links)
 }
 
-/// What the share tells of the reference at the place, which is one of its own.
-fn told_at(
+/// Adds what the share at that place of so many tells, those before it being added; the error is the share's, or want
+/// of memory.
+fn add_share(
     _query: &Query,
-    all: &[NodeAt],
-    place: usize,
-    step: usize,
+    _all: &[NodeAt],
+    _count: usize,
+    _place: usize,
     share: &Share,
-) -> Result<Told, StitchFault>
-    requires step { 0 < step }
-    requires inside { place < length all.now }
-    requires done { IsDone _query.now.bounds (graphs_seen _query.now.view.now) _query.now.definitions.now all.now step (place % step) share.now }
-    ensures asked { IfOk result (λ told. slice_get all.now place ≡ Some told.reference) }
-    ensures told { IfOk result (IsTold _query.now.bounds (graphs_seen _query.now.view.now) _query.now.definitions.now) }
+    links: &mut Links,
+) -> Result<(), StitchFault>
+    requires done { IsDone _query.now.bounds (graphs_seen _query.now.view.now) _query.now.definitions.now _all.now _count _place share.now }
+    requires before { AreFound _query.now.bounds (graphs_seen _query.now.view.now) _query.now.definitions.now (IsInShares _all.now _count _place) links.old }
+    ensures added { OnOk result (AreFound _query.now.bounds (graphs_seen _query.now.view.now) _query.now.definitions.now (IsInShares _all.now _count (_place + 1)) links.new) }
     ensures crowded { result ≡ Err StitchFault.Crowded → IsAnyCrowded _query.now.bounds (graphs_seen _query.now.view.now) }
 {
     match share {
-        Ok(told) => Ok(told[place / step]),
+        Ok(found) => Ok(links.append(found)?),
         Err(fault) => Err(*fault),
     }
 }

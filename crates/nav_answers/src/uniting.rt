@@ -4,10 +4,10 @@ ghost use Rattle.root_index.specs.Roots.{IsIndexOfView};
 ghost use Rattle.nav_answers.specs.Asking.{definition_named, definitions_named};
 ghost use Rattle.nav_answers.specs.Replies.{IsReferencesOfAnyReply};
 
-use crate::asking::Query;
+use crate::asked_view::AskedView;
 use crate::found::{AskFault, At};
 use crate::meaning::{Asked, meant};
-use crate::referring::answer_to;
+use crate::referring::references_to_any;
 use crate::rows::hit_of;
 use nav_io::Gate;
 use partial_path::Bounds;
@@ -25,31 +25,26 @@ use whole_search::Hit;
 /// where memory is refused.
 ///
 /// Each reference of the files is asked once, on several threads, as by `references`, however many definitions there
-/// are. Among its own definitions each of them is looked for.
+/// are; what was found is kept beside the view and serves the next time, as there.
 pub fn references_of_any<R: Threads + Sync, G: Gate + Sync>(
     rt: &R,
     alloc: Global,
-    view: &View,
+    seen: &mut AskedView,
     index: &RootIndex,
     gate: &G,
     definitions: &[Row],
     bounds: Bounds,
 ) -> Result<Rows, AskFault>
-    requires { IsIndexOfView index.now view.now }
-    ensures { result ≢ Err AskFault.NoMemory → IsReferencesOfAnyReply bounds (graph_rows view.now) definitions.now result }
+    requires { IsIndexOfView index.now seen.old }
+    ensures reply { result ≢ Err AskFault.NoMemory → IsReferencesOfAnyReply bounds (graph_rows seen.old) definitions.now result }
+    ensures same { seen.new ≡ seen.old }
 {
-    let hits = definitions_named(alloc, view, definitions)?;
+    let hits = definitions_named(alloc, seen.view(), definitions)?;
     let named = hits.as_slice();
     if named.is_empty() {
         return Ok(Rows::of(Vec::new(alloc)));
     }
-    let query = Query {
-        view,
-        index,
-        definitions: named,
-        bounds,
-    };
-    match answer_to(rt, alloc, &query, gate) {
+    match references_to_any(rt, alloc, seen, index, gate, named, bounds) {
         Ok(answer) => Ok(answer.rows),
         Err(fault) => Err(fault),
     }

@@ -201,7 +201,7 @@ fn definition<B: Pins>(
     let view = editor.take_view(alloc, &pinned.version)?;
     let outcome = tell_definitions(
         alloc,
-        &view,
+        view.view(),
         &pinned.index,
         &editor.root,
         &editor.texts,
@@ -233,12 +233,12 @@ fn reference<R: Threads + Sync, B: Pins, G: Gate + Sync>(
     let Some(place) = place_of(alloc, &editor.root, &editor.texts, uri, at)? else {
         return Ok(Outcome::Null);
     };
-    let view = editor.take_view(alloc, &pinned.version)?;
+    let mut view = editor.take_view(alloc, &pinned.version)?;
     let (root, texts) = (&editor.root, &editor.texts);
     let outcome = tell_references(
         rt,
         alloc,
-        &view,
+        &mut view,
         &pinned.index,
         gate,
         root,

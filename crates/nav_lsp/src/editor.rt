@@ -7,23 +7,24 @@ ghost use Rattle.nav_lsp.specs.Editing.{operator};
 
 use crate::phase::Phase;
 use lsp_texts::OpenTexts;
+use nav_answers::AskedView;
 use nav_session::Desk;
 use std::alloc::{AllocError, Global};
-use version_tree::{Version, View};
+use version_tree::Version;
 
 /// The user as whom an editor acts.
 pub(crate) const OPERATOR: &str = "operator";
 
 /// What the session of an editor keeps between its messages: how far it is, the root of the project, the texts of open
 /// documents, the documents with their paths, and what the operator sees of the version that is pinned, once it was
-/// looked at. A contract sees it by `editing_at` and `IsReady` (`specs/Held.antt`).
+/// looked at, with what was found of its references. A contract sees it by `editing_at` and `IsReady` (`specs/Held.antt`).
 #[derive(Drop)]
 pub struct Editor {
     pub(crate) phase: Phase,
     pub(crate) root: Vec<u8>,
     pub(crate) texts: OpenTexts,
     pub(crate) desk: Desk,
-    view: Option<View>,
+    view: Option<AskedView>,
 }
 
 impl Editor {
@@ -44,21 +45,25 @@ impl Editor {
         }
     }
 
-    /// What the operator sees of the version: the view that is kept, which is taken out, or one that is made. The one
-    /// error is want of memory.
-    pub(crate) fn take_view(&mut self, alloc: Global, version: &Version) -> Result<View, AllocError>
+    /// What the operator sees of the version: the view that is kept, which is taken out, or one that is made, of whose
+    /// references nothing is kept. The one error is want of memory.
+    pub(crate) fn take_view(
+        &mut self,
+        alloc: Global,
+        version: &Version,
+    ) -> Result<AskedView, AllocError>
         requires { IfSome self.old.view (λ rows. rows ≡ granted_rows operator version.now.content) }
         ensures view { IfOk result (λ view. view ≡ granted_rows operator version.now.content) }
         ensures rest { self.new ≡ record self.old { view = None } }
     {
         match self.view.take() {
             Some(view) => Ok(view),
-            None => version.view(alloc, OPERATOR),
+            None => Ok(AskedView::of(version.view(alloc, OPERATOR)?)),
         }
     }
 
     /// Keeps the view.
-    pub(crate) fn keep_view(&mut self, view: View)
+    pub(crate) fn keep_view(&mut self, view: AskedView)
         ensures { self.new ≡ record self.old { view = Some view } }
     {
         self.view = Some(view);

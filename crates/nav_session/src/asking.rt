@@ -46,7 +46,7 @@ pub fn define<B: Pins>(
     }
     let pinned = board.pinned();
     let view = desk.take_view(alloc, &pinned.version)?;
-    let found = nav_answers::define(alloc, &view, &pinned.index, path, at, bounds);
+    let found = nav_answers::define(alloc, view.view(), &pinned.index, path, at, bounds);
     desk.keep_view(view);
     query_reply(found)
 }
@@ -74,8 +74,17 @@ pub fn references<R: Threads + Sync, B: Pins, G: Gate + Sync>(
         return Ok(Reply::Plain(PlainError::NoUser));
     }
     let pinned = board.pinned();
-    let view = desk.take_view(alloc, &pinned.version)?;
-    let found = nav_answers::references(rt, alloc, &view, &pinned.index, gate, path, at, bounds);
+    let mut view = desk.take_view(alloc, &pinned.version)?;
+    let found = nav_answers::references(
+        rt,
+        alloc,
+        &mut view,
+        &pinned.index,
+        gate,
+        path,
+        at,
+        bounds,
+    );
     desk.keep_view(view);
     query_reply(found)
 }

@@ -4,11 +4,12 @@ ghost use Rattle.version_tree.specs.Contents.{granted_rows};
 ghost use Rattle.nav_session.specs.Desks.{is_accepted, max_cost};
 ghost use Rattle.nav_session.specs.Inside.{change_refusal};
 
+use nav_answers::AskedView;
 use nav_proto::{PlainError, Reply};
 use path_store::PathStore;
 use std::alloc::{AllocError, Global};
 use std::marker::Model;
-use version_tree::{UserText, Version, View};
+use version_tree::{UserText, Version};
 
 /// The most that the documents may cost that are kept when a commit was accepted: the weights of their paths and their
 /// bytes together.
@@ -18,12 +19,13 @@ pub const MAX_COST: u64 = 48_000_000;
 const OPERATOR: &str = "operator";
 
 /// What a session keeps between its lines: documents with their paths, which outlive it, its user, where one is named,
-/// and what that one sees of the version that its board pins, once it was looked at. A contract sees these three.
+/// and what that one sees of the version that its board pins, once it was looked at, with what was found of its
+/// references. A contract sees the documents, the user and the view.
 #[derive(Drop)]
 pub struct Desk {
     pub(crate) store: PathStore,
     user: Option<UserText>,
-    view: Option<View>,
+    view: Option<AskedView>,
 }
 
 impl Model for Desk {
@@ -92,21 +94,25 @@ impl Desk {
         }
     }
 
-    /// What the user sees of the version: the view that is kept, which is taken out, or one that is made. The one error
-    /// is want of memory.
-    pub(crate) fn take_view(&mut self, alloc: Global, version: &Version) -> Result<View, AllocError>
+    /// What the user sees of the version: the view that is kept, which is taken out, or one that is made, of whose
+    /// references nothing is kept. The one error is want of memory.
+    pub(crate) fn take_view(
+        &mut self,
+        alloc: Global,
+        version: &Version,
+    ) -> Result<AskedView, AllocError>
         requires { IfSome self.old.view (λ rows. IfSome self.old.user (λ user. rows ≡ granted_rows user version.now.content)) }
         ensures view { IfOk result (λ view. IfSome self.old.user (λ user. view ≡ granted_rows user version.now.content)) }
         ensures rest { self.new ≡ record { store = self.old.store; user = self.old.user; view = None } }
     {
         match self.view.take() {
             Some(view) => Ok(view),
-            None => version.view(alloc, self.user_text()),
+            None => Ok(AskedView::of(version.view(alloc, self.user_text())?)),
         }
     }
 
     /// Keeps the view.
-    pub(crate) fn keep_view(&mut self, view: View)
+    pub(crate) fn keep_view(&mut self, view: AskedView)
         ensures { self.new ≡ record { store = self.old.store; user = self.old.user; view = Some view } }
     {
         self.view = Some(view);
@@ -120,6 +126,14 @@ impl Desk {
             Some(user) => user.as_str(),
             None => "",
         }
+    }
+
+    /// Lets go of the documents that are kept, but for such as cost nothing. What the pinned version holds of them stays
+    /// there, so a session that commits one text at a time keeps no more than its version. It takes no memory.
+    pub fn let_documents_go(&mut self)
+        ensures { self.new ≡ record { store = swept 0 self.old.store; user = self.old.user; view = self.old.view } }
+    {
+        self.store.sweep(0);
     }
 
     /// Drops the oldest documents until all cost at most `MAX_COST`, where the reply accepts a commit. It takes no memory.

@@ -1,7 +1,8 @@
 -- Which clause rests on which file. `PartialPath::check` on Firsts; `moved` on MovedRules and FileNumberLaws;
 -- `meets`, `apply` and `apply_to` on Lefts, Asked and Put. `FilePaths::new`: order and keys on Pieces and KeyOrders,
--- its sets on Reordered; `paths_from` and `paths_asking` on Halved; `next_offer` on Offered, which Orders, Halved,
--- KeyOrders, Asking and Standing serve. `FileList` on Asking and Listing; `is_cut_edge` on Edges.
+-- its sets on Reordered; `paths_from`, `paths_asking` and `next_offer` on Halved, StartRuns and Narrowed;
+-- `next_offer` on Offered, which Orders, KeyOrders, Asking and Standing serve. `FileList` on Asking and Listing;
+-- `is_cut_edge` on Edges.
 -- The laws: of one file, Prefixes, Cycles, Edgeless; of moved paths, SwappedRuns, FileNumberLaws; of offers,
 -- Applied, OfferedStored, Listing; of cut runs, CutRuns, Joints, OnlyCuts, HighJoints, CutJoints, Returned. RunsOn,
 -- Swaps, SwappedRules, Followed, MovedWalks and Exported serve these. Positions is for layers above, Equals and
@@ -23,6 +24,8 @@ pub mod KeyOrders
 pub mod Pieces
 pub mod Asking
 pub mod Standing
+pub mod StartRuns
+pub mod Narrowed
 pub mod Offered
 pub mod Listing
 pub mod Edgeless

@@ -1,8 +1,9 @@
 use crate::offers::{FileOffers, next_offer};
 use crate::path::PartialPath;
 use crate::rule::Start;
-use crate::slots::run_asking;
+use crate::slots::run_within;
 use crate::sorting::sort_paths;
+use crate::start_table::StartTable;
 use graph_nodes::{FileGraph, Node, Place};
 use stacks_vars::SymbolStack;
 use std::marker::Model;
@@ -16,6 +17,8 @@ pub struct FilePaths {
     /// In the order of their starts, those of one start in the order of their keys.
     paths: Vec<PartialPath>,
     weight: u32,
+    /// Where the paths of each start and first symbol stand.
+    starts: StartTable,
 }
 
 impl Model for FilePaths {
@@ -41,7 +44,8 @@ impl FilePaths {
     ghost use Rattle.partial_path.specs.Offers.{offers_left};
 
     /// The paths of this file, sorted by their starts, and those of one start by their keys. It takes memory
-    /// for the sort by starts, which moves each path once, and does without where that is refused.
+    /// for the sort by starts, which moves each path once, and for a table of two numbers a node and one a path
+    /// that tells where the paths of a start and a first symbol stand; where that is refused it does without.
     pub fn new(graph: FileGraph, mut paths: Vec<PartialPath>, weight: u32) -> FilePaths
         requires paths { IsPathSet graph paths.items }
         requires weight { IsWeight graph weight }
@@ -52,10 +56,12 @@ impl FilePaths {
         ensures keys { IsByKey result.rules }
     {
         sort_paths(&mut paths);
+        let starts = StartTable::of(*paths.allocator(), paths.as_slice(), graph.node_count());
         FilePaths {
             graph,
             paths,
             weight,
+            starts,
         }
     }
 
@@ -69,28 +75,32 @@ impl FilePaths {
         self.paths.as_slice()
     }
 
-    /// The paths that begin there, found by halving.
+    /// The paths that begin there. It takes constant time where there was memory for the table of starts, and
+    /// else halves over all paths.
     pub fn paths_from(&self, start: Start) -> &[PartialPath]
         ensures value { result.now ≡ rules_at start self.now.rules }
         ensures sets { AreFileRules self.now }
     {
-        run_of(self.paths.as_slice(), start)
+        let (low, high) = self.starts.run(self.paths.as_slice(), start);
+        &self.paths.as_slice()[low..high]
     }
 
     /// The paths that begin there and whose key is made of the texts of the stack's first symbols, so many
-    /// of them, found by halving.
+    /// of them, found by halving among those that begin there, first over the heads of their first symbols.
     pub fn paths_asking(&self, start: Start, symbols: &SymbolStack, count: usize) -> &[PartialPath]
         requires { count ≤ key_size }
         ensures value { result.now ≡ rules_asking start (take count (texts symbols.now)) self.now.rules }
         ensures sets { AreFileRules self.now }
     {
-        let (place, end) = run_asking(self.paths.as_slice(), start, symbols, count);
+        let run = self.starts.run(self.paths.as_slice(), start);
+        let heads = self.starts.heads(run.0, run.1);
+        let (place, end) = run_within(self.paths.as_slice(), heads, run, start, symbols, count);
         &self.paths.as_slice()[place..end]
     }
 
     /// The path that comes next in a look-up that stands there, and where the look-up stands after it; None
     /// where no more is offered. It takes constant time within a run of equal keys. The next run is found by
-    /// halving, at most seven in a look-up.
+    /// halving among the paths that begin there, at most seven in a look-up.
     pub fn next_offer(
         &self,
         symbols: &SymbolStack,
@@ -100,7 +110,7 @@ impl FilePaths {
         ensures start { IfSome result (λ found. found.1.start ≡ at.start) }
         ensures sets { AreFileRules self.now }
     {
-        next_offer(self.paths.as_slice(), symbols, at)
+        next_offer(self.paths.as_slice(), &self.starts, symbols, at)
     }
 
     /// How many edges all walks of the file have together.
@@ -162,58 +172,4 @@ impl FilePaths {
     {
         self.graph.edge(e).precedence
     }
-}
-
-ghost use Rattle.std.specs.Prelude.{◌≡◌, ◌≤◌, length, drop};
-ghost use Rattle.std.specs.List.{prefix_len};
-ghost use Rattle.std.specs.List.Sorted.{IsPartitionedBy};
-ghost use Rattle.partial_path.specs.Starts.{IsByStart, begins_at, is_before, rules_at};
-
-/// The paths that begin there, of paths in the order of their starts.
-fn run_of(paths: &[PartialPath], start: Start) -> &[PartialPath]
-    requires { IsByStart paths.now }
-    ensures { result.now ≡ rules_at start paths.now }
-{
-    let rest = rest_of(paths, start);
-    &rest[..count_at(rest, start)]
-}
-
-/// The paths that don't begin before the start, of paths in the order of their starts.
-fn rest_of(paths: &[PartialPath], start: Start) -> &[PartialPath]
-    requires { IsByStart paths.now }
-    ensures { result.now ≡ drop (prefix_len (is_before start) paths.now) paths.now }
-{
-    &paths[count_before(paths, start)..]
-}
-
-/// How many of the paths, which are in the order of their starts, begin before the start.
-fn count_before(paths: &[PartialPath], start: Start) -> usize
-    requires { IsByStart paths.now }
-    ensures value { result ≡ prefix_len (is_before start) paths.now }
-    ensures bound { result ≤ length paths.now }
-{
-    paths.partition_point(|path| begins_before(path, start))
-}
-
-/// How many of the first paths begin there, of paths of which none begins there after one that doesn't.
-fn count_at(paths: &[PartialPath], start: Start) -> usize
-    requires { IsPartitionedBy (begins_at start) paths.now }
-    ensures value { result ≡ prefix_len (begins_at start) paths.now }
-    ensures bound { result ≤ length paths.now }
-{
-    paths.partition_point(|path| begins_at(path, start))
-}
-
-/// Whether the path begins before the start, in the order of starts.
-fn begins_before(path: &PartialPath, start: Start) -> bool
-    ensures { result ≡ is_before start path.now }
-{
-    path.start() < start
-}
-
-/// Whether the path begins there.
-fn begins_at(path: &PartialPath, start: Start) -> bool
-    ensures { result ≡ begins_at start path.now }
-{
-    path.start() == start
 }

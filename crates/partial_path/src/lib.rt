@@ -20,6 +20,7 @@ mod shared;
 mod slots;
 mod sorting;
 mod source;
+mod start_table;
 mod stepping;
 
 pub use bounds::{Bounds, MAX_RUNS};

@@ -5,7 +5,8 @@ ghost use Rattle.partial_path.specs.Offers.{is_later, next_rules, offers_left};
 
 use crate::path::PartialPath;
 use crate::rule::Start;
-use crate::slots::{KEY_SIZE, run_asking};
+use crate::slots::{KEY_SIZE, run_within};
+use crate::start_table::StartTable;
 use stacks_vars::SymbolStack;
 
 /// Where a look-up in the paths of one file stands.
@@ -59,6 +60,7 @@ impl FileOffers {
 /// are in the order of their keys.
 pub fn next_offer<'a>(
     paths: &'a [PartialPath],
+    starts: &StartTable,
     symbols: &SymbolStack,
     at: FileOffers,
 ) -> Option<(&'a PartialPath, FileOffers)>
@@ -68,7 +70,7 @@ pub fn next_offer<'a>(
 {
     match next_here(paths, at) {
         Some(path) => Some((path, at.passed())),
-        None => next_run(paths, symbols, at),
+        None => next_run(paths, starts, symbols, at),
     }
 }
 
@@ -87,6 +89,7 @@ fn next_here(paths: &[PartialPath], at: FileOffers) -> Option<&PartialPath>
 /// The first path of the runs to come, and where the look-up stands after it; None where they have none.
 fn next_run<'a>(
     paths: &'a [PartialPath],
+    starts: &StartTable,
     symbols: &SymbolStack,
     at: FileOffers,
 ) -> Option<(&'a PartialPath, FileOffers)>
@@ -95,8 +98,10 @@ fn next_run<'a>(
     ensures start { IfSome result (λ found. found.1.start ≡ at.start) }
 {
     let most = KEY_SIZE.min(symbols.len());
+    let run = starts.run(paths, at.start);
+    let heads = starts.heads(run.0, run.1);
     for asked in at.asked..most + 1 {
-        let (place, end) = run_asking(paths, at.start, symbols, asked);
+        let (place, end) = run_within(paths, heads, run, at.start, symbols, asked);
         if place < end {
             let after = FileOffers {
                 start: at.start,

@@ -118,6 +118,26 @@ run_is_one paths asked low at_low inside first stops =
           ap (λ j. is_within_key true asked (get_or paths j (root_path [] 0 None))) same ∙ here
     ]
 
+-- where the path at a place isn't before the key, and the one before it is, so many are before it
+pub starts_here : (paths : List RootPath) (asked : List (List ℕ)) (place : ℕ) → AreByRank paths
+    → option_map_or (is_within_key false asked) (slice_get paths place) false ≡ false
+    → (0 < place → option_map_or (is_within_key false asked) (slice_get paths (place - 1)) false ≡ true)
+    → (0 < place → place - 1 < length paths)
+    → place ≡ prefix_len (is_within_key false asked) paths
+starts_here paths asked place sorted stops before there =
+    ends_at paths (is_within_key false asked) place (root_path [] 0 None) inside passes stops
+  where
+    inside : place ≤ length paths
+    inside = elim (cases_lt 0 place) [ inl some ↦ (let low = there some in omega (arith, low, some)) | inr none ↦ omega (arith, none) ]
+
+    passes : (k : ℕ) → k < place → is_within_key false asked (get_or paths k (root_path [] 0 None)) ≡ true
+    passes k l =
+        let some : 0 < place = omega (arith, l) in
+        let low = there some in
+        let last : is_within_key false asked (get_or paths (place - 1) (root_path [] 0 None)) ≡ true
+        = sym (ap (λ o. option_map_or (is_within_key false asked) o false) (slice_get-get_or paths (place - 1) (root_path [] 0 None) low)) ∙ before some in
+        parted_within paths false asked sorted k (place - 1) (root_path [] 0 None) (omega (arith, l)) low last
+
 -- no path stands before the key of no symbol
 pub none_before : (paths : List RootPath) → 0 ≡ prefix_len (is_within_key false []) paths
 none_before [] = refl

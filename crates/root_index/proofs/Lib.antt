@@ -2,10 +2,12 @@
 -- WithoutFile, which Amended, Ranked and Seen serve; `look` and `next_path` on Looked; `offers` on Seen;
 -- `next_offer` on Runs and KeyRuns, and on Seen for a file's number. `rows_have_one_index` on Unique.
 -- How paths stand in blocks, and blocks in groups: InBlocks, Sized and Starts find the place of a path, Placed and
--- Grouped put one in or take one out. KeyOrders serves most of these. WithFile is also for `version_board`.
+-- Grouped put one in or take one out. KeyOrders serves most of these. HeadOrders is for `key_heads`. WithFile is also
+-- for `version_board`.
 mod Amended
 mod Gathered
 mod Grouped
+mod HeadOrders
 mod InBlocks
 mod KeyOrders
 mod KeyRuns

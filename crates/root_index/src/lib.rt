@@ -8,6 +8,7 @@ mod group;
 mod group_list;
 mod groups;
 mod index;
+mod key_heads;
 mod laws;
 mod looks;
 mod offers;

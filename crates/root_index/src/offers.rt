@@ -1,5 +1,5 @@
 //! Taking from an index what it offers to a stack of symbols, path by path.
-ghost use Rattle.std.specs.Prelude.{◌≡◌, ◌≤◌, ◌<◌, ◌+◌, ◌-◌, [], ◌∷◌, length, take, drop, filter, slice_get, true, false, None, Some, MatchOption, IfSome};
+ghost use Rattle.std.specs.Prelude.{◌≡◌, ◌≤◌, ◌<◌, ◌+◌, ◌-◌, [], ◌∷◌, length, take, drop, filter, slice_get, true, false, None, Some, MatchOption, IfSome, IsTrue};
 ghost use Rattle.std.specs.List.{prefix_len};
 ghost use Rattle.std.specs.Option.{option_map_or};
 ghost use Rattle.partial_path.specs.Keys.{key_size, texts};
@@ -72,8 +72,9 @@ fn next_run<'a>(
     ensures { MatchOption result (filter (asks symbols.now at.asked) slots.now ≡ []) (λ found. filter (asks symbols.now at.asked) slots.now ≡ found.0.now ∷ paths_left found.1 symbols.now slots.now) }
 {
     let most = KEY_SIZE.min(symbols.len());
+    let mut behind = at.end;
     for asked in at.asked..most + 1 {
-        let (place, end) = run_asking(slots, symbols, asked, at.near);
+        let (place, end) = run_asking(slots, symbols, asked, behind, at.near);
         if place < end {
             let (slot, near) = slots.at(place, at.near);
             let after = RootOffers {
@@ -84,26 +85,41 @@ fn next_run<'a>(
             };
             return Some((slot, after));
         }
+        behind = end;
     }
     None
 }
 
 /// Where the paths stand whose key is made of the texts of the stack's first symbols, so many of them: from
-/// which place on, and before which. The first of them is found by halving; that there is none, or one alone, is seen
-/// there, and the end of more is found by halving once more.
-fn run_asking(slots: &GroupList, symbols: &SymbolStack, count: usize, near: usize) -> (usize, usize)
+/// which place on, and before which. It is tried first whether they begin at the place that is told, as they do
+/// behind a shorter key where no path stands between; else the first of them is found by halving. That there is
+/// none, or one alone, is seen there, and the end of more is found by halving once more.
+fn run_asking(
+    slots: &GroupList,
+    symbols: &SymbolStack,
+    count: usize,
+    behind: usize,
+    near: usize,
+) -> (usize, usize)
     requires order { AreByRank slots.now }
     requires count { count ≤ key_size }
     ensures run { take (result.1 - result.0) (drop result.0 slots.now) ≡ filter (is_at_key (take count (texts symbols.now))) slots.now }
     ensures bound { result.1 ≤ length slots.now }
 {
-    let place = run_start(slots, symbols, count);
+    let place = run_start(slots, symbols, count, behind, near);
     let end = run_end(slots, symbols, count, place, near);
     (place, end)
 }
 
-/// How many paths stand before that key: none before that of no symbol.
-fn run_start(slots: &GroupList, symbols: &SymbolStack, count: usize) -> usize
+/// How many paths stand before that key: none before that of no symbol. It is tried first whether so many as are
+/// told do, by a look at the paths there.
+fn run_start(
+    slots: &GroupList,
+    symbols: &SymbolStack,
+    count: usize,
+    behind: usize,
+    near: usize,
+) -> usize
     requires order { AreByRank slots.now }
     requires count { count ≤ key_size }
     ensures { result ≡ prefix_len (is_within_key false (take count (texts symbols.now))) slots.now }
@@ -111,7 +127,31 @@ fn run_start(slots: &GroupList, symbols: &SymbolStack, count: usize) -> usize
     if count == 0 {
         return 0;
     }
+    if starts_at(slots, symbols, count, behind, near) {
+        return behind;
+    }
     slots.end_of(symbols, count, false)
+}
+
+/// Whether the path at the place doesn't stand before that key, and the one before it does, where there are such.
+fn starts_at(
+    slots: &GroupList,
+    symbols: &SymbolStack,
+    count: usize,
+    place: usize,
+    near: usize,
+) -> bool
+    requires order { AreByRank slots.now }
+    requires count { count ≤ key_size }
+    ensures { IsTrue result → place ≡ prefix_len (is_within_key false (take count (texts symbols.now))) slots.now }
+{
+    if is_within(slots, symbols, count, false, place, near) {
+        return false;
+    }
+    if place == 0 {
+        return true;
+    }
+    is_within(slots, symbols, count, false, place - 1, near)
 }
 
 /// How many paths stand before that key or have it, where so many stand before it.
@@ -129,29 +169,30 @@ fn run_end(
     ensures bound { result ≤ length slots.now }
 {
     let _count = slots.len();
-    if !is_within(slots, symbols, count, place, near) {
+    if !is_within(slots, symbols, count, true, place, near) {
         return place;
     }
-    if !is_within(slots, symbols, count, place + 1, near) {
+    if !is_within(slots, symbols, count, true, place + 1, near) {
         return place + 1;
     }
     slots.end_of(symbols, count, true)
 }
 
-/// Whether there is a path at the place, and it stands before that key or has it.
+/// Whether there is a path at the place, and it stands before that key, or has it where that is closed.
 fn is_within(
     slots: &GroupList,
     symbols: &SymbolStack,
     count: usize,
+    closed: bool,
     place: usize,
     near: usize,
 ) -> bool
     requires { count ≤ key_size }
-    ensures value { result ≡ option_map_or (is_within_key true (take count (texts symbols.now))) (slice_get slots.now place) false }
+    ensures value { result ≡ option_map_or (is_within_key closed (take count (texts symbols.now))) (slice_get slots.now place) false }
     ensures there { result ≡ true → place < length slots.now }
 {
     match slots.get(place, near) {
-        Some((slot, _)) => is_within_key(slot, symbols, count, true),
+        Some((slot, _)) => is_within_key(slot, symbols, count, closed),
         None => false,
     }
 }

@@ -1,39 +1,47 @@
 use crate::file_handle::FileHandle;
-use partial_path::{PartialPath, keys_cmp};
+use crate::key_heads::{heads_of, heads_order, heads_side};
+use partial_path::{PartialPath, key_side, keys_cmp};
+use stacks_vars::SymbolStack;
 use std::alloc::AllocError;
 use std::cmp::Ordering;
 use std::marker::Model;
 
-/// A path from the root in an index: its file, and its place among the file's paths.
+/// A path from the root in an index: its file, its place among the file's paths, and the heads of the symbols
+/// whose texts make its key.
 #[derive(Drop)]
 pub(crate) struct Slot {
     file: FileHandle,
     place: usize,
+    heads: [u64; 6],
 }
 
 impl Model for Slot {
     ghost use Rattle.std.specs.Prelude.{◌<◌, length, slice_get};
-    ghost use Rattle.root_index.specs.Roots.{RootPath, root_path};
+    ghost use Rattle.root_index.specs.Roots.{RootPath, root_path, root_key};
+    ghost use Rattle.root_index.specs.Heads.{AreHeads};
 
     ghost Value = { RootPath };
 
     ghost view = { λ s. root_path s.file.path s.place (slice_get s.file.file.rules s.place) };
 
-    ghost invariant = { λ s. s.place < length s.file.file.rules };
+    ghost invariant = { λ s. (s.place < length s.file.file.rules) × AreHeads s.heads (root_key (root_path s.file.path s.place (slice_get s.file.file.rules s.place))) };
 }
 
 impl Slot {
-    ghost use Rattle.std.specs.Prelude.{◌≡◌, ◌<◌, Some, IfOk, length, slice_get};
+    ghost use Rattle.std.specs.Prelude.{◌≡◌, ◌<◌, ◌≤◌, Some, IfOk, length, take, slice_get};
     ghost use Rattle.std.specs.Ordering.{nat_cmp, ordering_then};
     ghost use Rattle.version_tree.specs.Contents.{path_cmp};
-    ghost use Rattle.root_index.specs.Roots.{root_path, rank, rank_cmp};
+    ghost use Rattle.partial_path.specs.Keys.{key_cmp, key_size, texts};
+    ghost use Rattle.root_index.specs.Roots.{root_path, root_key, rank, rank_cmp};
+    ghost use Rattle.root_index.specs.Inside.{key_order};
 
     /// The path at that place of the file.
     pub(crate) fn of(file: FileHandle, place: usize) -> Slot
         requires { place < length file.file.rules }
         ensures { result ≡ root_path file.path place (slice_get file.file.rules place) }
     {
-        Slot { file, place }
+        let heads = heads_of(&file.paths().get().paths()[place]);
+        Slot { file, place, heads }
     }
 
     /// The same path once more, not copied. The one error is want of room to count one holder more.
@@ -43,6 +51,7 @@ impl Slot {
         Ok(Slot {
             file: self.file.share()?,
             place: self.place,
+            heads: self.heads,
         })
     }
 
@@ -60,14 +69,37 @@ impl Slot {
         &self.file.paths().get().paths()[self.place]
     }
 
+    /// How its key stands to the texts of the stack's first symbols, so many of them: as the heads of its symbols
+    /// tell it, and by a look at the path where they don't.
+    pub(crate) fn key_side(&self, symbols: &SymbolStack, count: usize) -> Ordering
+        requires { count ≤ key_size }
+        ensures { result ≡ key_order (take count (texts symbols.now)) self.now }
+    {
+        match heads_side(&self.heads, symbols, count) {
+            Some(order) => order,
+            None => key_side(self.rule(), symbols, count),
+        }
+    }
+
     /// How it stands to another: by key, then by file, and then by place.
     pub(crate) fn order(&self, other: &Slot) -> Ordering
         ensures { result ≡ rank_cmp (rank self.now) (rank other.now) }
     {
-        match keys_cmp(self.rule(), other.rule()) {
+        match self.order_of_keys(other) {
             Ordering::Less => Ordering::Less,
             Ordering::Equal => self.order_in_key(other),
             Ordering::Greater => Ordering::Greater,
+        }
+    }
+
+    /// How its key stands to another's: as the heads of their symbols tell it, and by a look at both paths where
+    /// they don't.
+    fn order_of_keys(&self, other: &Slot) -> Ordering
+        ensures { result ≡ key_cmp (root_key self.now) (root_key other.now) }
+    {
+        match heads_order(&self.heads, &other.heads) {
+            Some(order) => order,
+            None => keys_cmp(self.rule(), other.rule()),
         }
     }
 

@@ -7,7 +7,6 @@ ghost use Rattle.root_index.specs.Blocks.{begins_by, first_passes, is_within_key
 use crate::block::Block;
 use crate::blocks::Blocks;
 use crate::slot::Slot;
-use partial_path::key_side;
 use stacks_vars::SymbolStack;
 use std::alloc::{AllocError, Global};
 use std::marker::Model;
@@ -179,6 +178,6 @@ pub(crate) fn is_within_key(slot: &Slot, symbols: &SymbolStack, count: usize, cl
     requires { count ≤ key_size }
     ensures { result ≡ is_within_key closed (take count (texts symbols.now)) slot.now }
 {
-    let order = key_side(slot.rule(), symbols, count);
+    let order = slot.key_side(symbols, count);
     order.is_lt() || (closed && order.is_eq())
 }

@@ -1,3 +1,5 @@
 -- Which clause rests on which file. `same` of SymbolItem, SymbolStack and ScopeStack: exact on SameLaws, and eq of
--- the two stacks. SameLaws is also for `partial_path`, `path_join` and `stitcher`.
+-- the two stacks. SameLaws is also for `partial_path`, `path_join` and `stitcher`. `order` and `same` of Symbol on
+-- HeadLaws.
 pub mod SameLaws
+pub mod HeadLaws

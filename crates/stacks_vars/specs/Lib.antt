@@ -1,2 +1,3 @@
 pub mod Enter
+pub mod Head
 pub mod Same

@@ -1,32 +1,42 @@
 use std::alloc::{AllocError, Global};
+use std::cmp::Ordering;
 use std::marker::Model;
 use std::sync::Arc;
 
-/// A symbol, whose bytes are shared by all that hold it. A contract sees its bytes.
+/// A symbol, whose bytes are shared by all that hold it, with its head beside them, by which most symbols
+/// are compared without a look at their bytes. A contract sees its bytes.
 #[derive(Debug, Drop)]
 pub struct Symbol {
+    head: u64,
     bytes: Arc<Vec<u8>, Global>,
 }
 
 impl Model for Symbol {
     ghost use Rattle.std.specs.Prelude.{ℕ, List};
     ghost use Rattle.std.specs.Arc.{arc_value};
+    ghost use Rattle.stacks_vars.specs.Head.{IsHead};
 
     ghost Value = { List ℕ };
 
     ghost view = { λ s. (arc_value s.bytes).items };
+
+    ghost invariant = { λ s. IsHead s.head (arc_value s.bytes).items };
 }
 
 impl Symbol {
     ghost use Rattle.std.specs.Prelude.{◌≡◌, ◌↔◌, IfOk, IsTrue};
     ghost use Rattle.std.specs.Arc.{arc_value};
+    ghost use Rattle.std.specs.Cmp.Lexicographic.{slice_cmp};
+    ghost use Rattle.std.specs.Ordering.{nat_cmp};
     ghost use Rattle.std.specs.Str.{bytes_eq};
+    ghost use Rattle.stacks_vars.specs.Head.{IsHead, head};
 
     /// A symbol of these bytes, which are copied; the one error is want of memory.
     pub fn of(alloc: Global, bytes: &[u8]) -> Result<Symbol, AllocError>
         ensures { IfOk result (λ symbol. symbol ≡ bytes.now) }
     {
         Ok(Symbol {
+            head: head_of(bytes),
             bytes: Arc::new(alloc, Vec::from_slice(alloc, bytes)?)?,
         })
     }
@@ -35,7 +45,10 @@ impl Symbol {
     pub fn sharing(bytes: Arc<Vec<u8>, Global>) -> Symbol
         ensures { result ≡ (arc_value bytes).items }
     {
-        Symbol { bytes }
+        Symbol {
+            head: head_of(bytes.as_slice()),
+            bytes,
+        }
     }
 
     /// Its bytes.
@@ -45,12 +58,22 @@ impl Symbol {
         self.bytes.as_slice()
     }
 
+    /// Its head: its first seven bytes as a number, the first greatest, with zeros behind a shorter text,
+    /// and then the lesser of its length and 8, plus 1. Heads that differ stand as their symbols do; equal
+    /// heads of symbols of at most seven bytes are those of one symbol. It takes constant time.
+    pub fn head(&self) -> u64
+        ensures { IsHead result self.now }
+    {
+        self.head
+    }
+
     /// The same symbol once more, whose bytes are shared and not copied. It takes no memory; the one
     /// error is want of room to count one holder more.
     pub fn copy(&self) -> Result<Symbol, AllocError>
         ensures { IfOk result (λ copy. copy ≡ self.now) }
     {
         Ok(Symbol {
+            head: self.head,
             bytes: Arc::try_clone(&self.bytes)?,
         })
     }
@@ -62,11 +85,72 @@ impl Symbol {
         self.as_bytes() == bytes
     }
 
-    /// Whether both are the same symbol.
+    /// How it stands to the other one: by their bytes, a shorter one before those that begin with it. Bytes
+    /// are looked at only where both heads are equal and the symbols have more than seven.
+    pub fn order(&self, other: &Symbol) -> Ordering
+        ensures { result ≡ slice_cmp nat_cmp self.now other.now }
+    {
+        if self.head != other.head {
+            return self.head.cmp(&other.head);
+        }
+        if is_whole(self.head) {
+            return Ordering::Equal;
+        }
+        self.as_bytes().cmp(other.as_bytes())
+    }
+
+    /// Whether both are the same symbol. Bytes are looked at only where both heads are equal and the
+    /// symbols have more than seven.
     pub fn same(&self, other: &Symbol) -> bool
         ensures eq { result ≡ bytes_eq self.now other.now }
         ensures exact { IsTrue result ↔ (self.now ≡ other.now) }
     {
-        self.is(other.as_bytes())
+        if self.head != other.head {
+            return false;
+        }
+        is_whole(self.head) || self.is(other.as_bytes())
     }
+}
+
+ghost use Rattle.std.specs.Prelude.{◌≡◌, ◌↔◌, ◌+◌, ◌%◌, ◌≤◌, IsTrue, length, min, slice_index};
+ghost use Rattle.stacks_vars.specs.Head.{IsHead, last_digit};
+
+/// The head of a symbol of these bytes.
+fn head_of(bytes: &[u8]) -> u64
+    ensures { IsHead result bytes.now }
+{
+    u64::from_be_bytes([
+        digit_at(bytes, 0),
+        digit_at(bytes, 1),
+        digit_at(bytes, 2),
+        digit_at(bytes, 3),
+        digit_at(bytes, 4),
+        digit_at(bytes, 5),
+        digit_at(bytes, 6),
+        last_digit(bytes.len()),
+    ])
+}
+
+/// The byte at that place; 0 behind the end.
+fn digit_at(bytes: &[u8], place: usize) -> u8
+    ensures { result ≡ slice_index bytes.now place }
+{
+    match bytes.get(place) {
+        Some(byte) => *byte,
+        None => 0,
+    }
+}
+
+/// The last byte of the head of a symbol of that length.
+fn last_digit(length: usize) -> u8
+    ensures { result ≡ min length 8 + 1 }
+{
+    length.min(8) as u8 + 1
+}
+
+/// Whether the head is one of a symbol of at most seven bytes, all of which it has.
+fn is_whole(head: u64) -> bool
+    ensures { IsTrue result ↔ (head % 256 ≤ 8) }
+{
+    head % 256 <= 8
 }

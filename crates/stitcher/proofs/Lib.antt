@@ -3,7 +3,8 @@
 -- what is still ahead is counted in, Reached that no run is missed. Meeting, Leading, Straight, Offered and Same
 -- serve these. `joined_paths_tell` on Telling.
 -- What one path more does: Opening and Tried for all that are offered, Joining (it is joined where it should be),
--- Within and Heights (the bounds), Noting (the tally), Landed (where the trail has been).
+-- Within and Heights (the bounds), Pruned (a path of which nothing comes), Noting (the tally), Landed (where the trail
+-- has been).
 pub mod Leading
 pub mod Offered
 pub mod Straight
@@ -20,4 +21,5 @@ pub mod Noting
 pub mod Within
 pub mod Tried
 pub mod Opening
+pub mod Pruned
 pub mod Going

@@ -26,7 +26,7 @@ use Rattle.stitcher.proofs.Offered.{source_at}
 use Rattle.stitcher.proofs.Heights.{symbols_met, mapped_some, moved_reaches, bounded-with}
 use Rattle.stitcher.proofs.Noting.{noted, opened_as}
 
-some_there : {X : Type 0} (o : Option X) → is_some o ≡ true → (x : X) × (o ≡ Some x)
+pub some_there : {X : Type 0} (o : Option X) → is_some o ≡ true → (x : X) × (o ≡ Some x)
 some_there None h = absurd (false≢true h)
 some_there (Some x) h = (x, refl)
 
@@ -55,20 +55,20 @@ within_is q trail at next p edges within here applies rule count low tells =
     tells ∙ (λ i. nat_le (count i + length p.1.edges) q.bounds.edges && nat_le (height (moved p.0 p.1) at) q.bounds.depth)
     ∙ sym (bounded-with q (joined (paths_of trail) at) p next here.leads applies (moved_reaches p.0 p.1 rule) low)
 
-and_false : (b : Bool) → (b && false) ≡ false
+pub and_false : (b : Bool) → (b && false) ≡ false
 and_false true = refl
 and_false false = refl
+
+pub or_false : (b : Bool) → b ≡ (b || false)
+or_false true = refl
+or_false false = refl
 
 pub none_noted : (q : Asked) (t : Tally) → IsNoted q [] t t
 none_noted q t = record {
   counted = omega arith;
   complete = sym (append-nil (kept_runs t.complete.items));
-  limit = by t.limit;
+  limit = or_false t.limit;
 }
-  where
-    by : (b : Bool) → b ≡ (b || false)
-    by true = refl
-    by false = refl
 
 module _ (q : Asked) (trail : List Level) (at : Config) (p : ℕ × Rule) where
   j : Joined
@@ -99,7 +99,7 @@ module _ (q : Asked) (trail : List Level) (at : Config) (p : ℕ × Rule) where
   by_keeps P next true none one = one
   by_keeps P next false none one = none
 
-  by_apply : (P : List Joined → Type 0) (o : Option Config) → apply (moved p.0 p.1) at ≡ o → P [] → ((next : Config) → apply (moved p.0 p.1) at ≡ Some next → P (joined (with_path (paths_of trail) p) next ∷ [])) → P (option_map_or (landed q (joined (paths_of trail) at) p) o [])
+  pub by_apply : (P : List Joined → Type 0) (o : Option Config) → apply (moved p.0 p.1) at ≡ o → P [] → ((next : Config) → apply (moved p.0 p.1) at ≡ Some next → P (joined (with_path (paths_of trail) p) next ∷ [])) → P (option_map_or (landed q (joined (paths_of trail) at) p) o [])
   by_apply P None e none one = none
   by_apply P (Some next) e none one = by_keeps P next (keeps_straight q (paths_of trail) next) none (one next e)
 

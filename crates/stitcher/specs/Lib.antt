@@ -3,3 +3,4 @@ pub mod Laws
 pub mod Answers
 pub mod Trail
 pub mod Opens
+pub mod Ends

@@ -4,19 +4,20 @@ ghost use Rattle.std.specs.Option.{option_map_or};
 ghost use Rattle.std.specs.List.{list_any};
 ghost use Rattle.partial_path.specs.Same.{config_eq};
 ghost use Rattle.partial_path.specs.Apply.{apply};
-ghost use Rattle.partial_path.specs.Moved.{moved};
+ghost use Rattle.partial_path.specs.Moved.{moved, moved_end};
 ghost use Rattle.partial_path.specs.Limits.{max_runs};
 ghost use Rattle.partial_path.specs.Cutting.{edge_count, heights};
 ghost use Rattle.partial_path.specs.Step.{start};
 ghost use Rattle.partial_path.specs.Walks.{is_cut_spot_of};
 ghost use Rattle.partial_path.specs.Sources.{IsSourceFile, graphs_of};
 ghost use Rattle.partial_path.specs.Laws.{IsSpotOf, IsAtStart};
+ghost use Rattle.stitcher.specs.Ends.{end_cut};
 ghost use Rattle.stitcher.specs.Joins.{joined, with_path, origin, joined_by, is_bounded_counted, goes_on};
 ghost use Rattle.stitcher.specs.Opens.{opens_of, IsNoted, AreAdded};
 ghost use Rattle.stitcher.specs.Trail.{Moves, paths_of, landed_at, asked, IsHere, IsOffered};
 
 use crate::found::StitchFault;
-use crate::landing::{is_at_cut, is_within};
+use crate::landing::{is_at_cut, is_cut_end, is_within, may_land};
 use crate::note::note;
 use crate::open::Open;
 use crate::query::Query;
@@ -29,16 +30,22 @@ use partial_path::{
 use stacks_vars::NodeAt;
 use std::alloc::{AllocError, Global};
 
+/// Where a stored path lands that is joined, and whether runs are cut there.
+#[derive(Drop)]
+pub struct Landing {
+    pub at: Config,
+    pub cut: bool,
+}
+
 /// Whether a run that lands there, at a cut, is where it was before: at its start, or where one of its paths landed.
-fn comes_back<P: PathSource>(source: &P, node: NodeAt, trail: &[Level], next: &Config) -> bool
-    requires { IsSpotOf (graphs_of (P.files source.now)) next.now.spot }
-    ensures { IsTrue result ↔ (IsTrue (is_cut_spot_of (graphs_of (P.files source.now)) next.now.spot) × (IsAtStart node next.now ⊎ IsTrue (list_any (config_eq next.now) (map landed_at trail.now)))) }
+fn comes_back(node: NodeAt, trail: &[Level], cut: bool, next: &Config) -> bool
+    ensures { IsTrue result ↔ (IsTrue cut × (IsAtStart node next.now ⊎ IsTrue (list_any (config_eq next.now) (map landed_at trail.now)))) }
 {
-    is_at_cut(source, next.spot) && (is_back(node, next) || has_landed(trail, next))
+    cut && (is_back(node, next) || has_landed(trail, next))
 }
 
 /// Where the path lands that is joined to the trail, which landed at `at`; None where it doesn't apply, or the run
-/// wouldn't be straight.
+/// wouldn't be straight. It is told whether the path ends at a cut, where the path tells that.
 pub fn landing_of<P: PathSource>(
     alloc: Global,
     source: &P,
@@ -47,14 +54,17 @@ pub fn landing_of<P: PathSource>(
     at: &Config,
     file: u32,
     path: &PartialPath,
-) -> Result<Option<Config>, AllocError>
+    cut: Option<bool>,
+) -> Result<Option<Landing>, AllocError>
     requires sources { All IsSourceFile (P.files source.now) }
     requires begins { start (graphs_of (P.files source.now)) query.node ≡ Some (asked (P.files source.now) query).start }
     requires here { IsHere (asked (P.files source.now) query) trail.now at.now }
     requires offered { IsOffered (asked (P.files source.now) query) trail.now at.now (file, path.now) }
-    ensures applies { IfOk result (λ o. IfSome o (λ next. apply (moved file path.now) at.now ≡ Some next)) }
-    ensures spot { IfOk result (λ o. IfSome o (λ next. IsSpotOf (graphs_of (P.files source.now)) next.spot)) }
-    ensures joined { IfOk result (λ o. joined_by (asked (P.files source.now) query) (joined (paths_of trail.now) at.now) (file, path.now) ≡ option_map_or (λ next. joined (with_path (paths_of trail.now) (file, path.now)) next ∷ []) o []) }
+    requires cut { cut ≡ end_cut (graphs_of (P.files source.now)) (moved_end file path.now.end) }
+    ensures applies { IfOk result (λ o. IfSome o (λ landing. apply (moved file path.now) at.now ≡ Some landing.at)) }
+    ensures spot { IfOk result (λ o. IfSome o (λ landing. IsSpotOf (graphs_of (P.files source.now)) landing.at.spot)) }
+    ensures cut { IfOk result (λ o. IfSome o (λ landing. landing.cut ≡ is_cut_spot_of (graphs_of (P.files source.now)) landing.at.spot)) }
+    ensures joined { IfOk result (λ o. joined_by (asked (P.files source.now) query) (joined (paths_of trail.now) at.now) (file, path.now) ≡ option_map_or (λ landing. joined (with_path (paths_of trail.now) (file, path.now)) landing.at ∷ []) o []) }
 {
     file_zero_moves();
     joined_paths_are_runs();
@@ -63,14 +73,19 @@ pub fn landing_of<P: PathSource>(
     let Some(next) = path.apply_to(alloc, file, at.copy(alloc)?)? else {
         return Ok(None);
     };
-    if comes_back(source, query.node, trail, &next) {
+    let is_cut = is_at_cut(source, cut, next.spot);
+    if comes_back(query.node, trail, is_cut, &next) {
         return Ok(None);
     }
-    Ok(Some(next))
+    Ok(Some(Landing {
+        at: next,
+        cut: is_cut,
+    }))
 }
 
 /// Joins a stored path that is offered to the trail, which landed at `at` and has so many edges, and notes what comes
-/// of it. Past the bounds it is looked at only until one counted run past them is found.
+/// of it. A path that ends at no cut and leaves symbols isn't applied: no run is told of there. Past the bounds it is
+/// looked at only until one counted run past them is found.
 pub fn join<'a, P: PathSource>(
     alloc: Global,
     source: &P,
@@ -100,6 +115,8 @@ pub fn join<'a, P: PathSource>(
     ensures crowded { result ≡ Err StitchFault.Crowded → length (filter (is_bounded_counted (asked (P.files source.now) query)) (joined_by (asked (P.files source.now) query) (joined (paths_of trail.now) at.now) (file, path.now))) ≡ 1 }
 {
     file_zero_moves();
+    joined_paths_are_runs();
+    runs_end_in_files();
     let more = path.edges().len();
     if !path.meets(file, at) {
         return Ok(());
@@ -108,13 +125,17 @@ pub fn join<'a, P: PathSource>(
     if tally.limit && !bounded {
         return Ok(());
     }
-    let Some(next) = landing_of(alloc, source, query, trail, at, file, path)? else {
+    let cut = is_cut_end(source, file, path);
+    if !may_land(cut, path, at) {
+        return Ok(());
+    }
+    let Some(landing) = landing_of(alloc, source, query, trail, at, file, path, cut)? else {
         return Ok(());
     };
     let level = Level {
         file,
         path,
-        at: next,
+        at: landing.at,
     };
     note(
         alloc,
@@ -123,6 +144,7 @@ pub fn join<'a, P: PathSource>(
         trail,
         edges + more,
         bounded,
+        landing.cut,
         level,
         work,
         tally,

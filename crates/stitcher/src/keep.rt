@@ -1,4 +1,4 @@
-ghost use Rattle.std.specs.Prelude.{◌≡◌, ◌++◌, All, IfOk, OnOk, true};
+ghost use Rattle.std.specs.Prelude.{◌≡◌, ◌++◌, All, IfOk, IsOk, OnOk, true, false};
 ghost use Rattle.partial_path.specs.declared.config.Spot.TheVariants.{Root};
 ghost use Rattle.partial_path.specs.Cutting.{path_edges};
 ghost use Rattle.stitcher.specs.Joins.{with_path};
@@ -21,7 +21,8 @@ fn edges_with(alloc: Global, trail: &[Level], level: &Level) -> Result<Vec<EdgeA
     Ok(edges)
 }
 
-/// Keeps the run of the trail and the level, where it is complete: its edges, and the node where it ends.
+/// Keeps the run of the trail and the level, where it is complete: its edges, and the node where it ends. It takes
+/// memory for a complete one alone.
 pub fn keep_if(
     alloc: Global,
     complete: &mut Vec<EdgePath>,
@@ -32,7 +33,8 @@ pub fn keep_if(
     requires trail { All (λ l. Moves l.file l.path.now) trail.now }
     requires level { Moves level.now.file level.now.path.now }
     requires node { is_complete ≡ true → level.now.at.spot ≡ Root → ⊥ }
-    ensures { OnOk result (kept_runs complete.new.items ≡ kept_runs complete.old.items ++ those is_complete (path_edges (with_path (paths_of trail.now) (path_of level.now)), level.now.at.spot)) }
+    ensures kept { OnOk result (kept_runs complete.new.items ≡ kept_runs complete.old.items ++ those is_complete (path_edges (with_path (paths_of trail.now) (path_of level.now)), level.now.at.spot)) }
+    ensures memory { is_complete ≡ false → IsOk result }
 {
     if !is_complete {
         return Ok(());

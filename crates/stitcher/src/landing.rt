@@ -1,13 +1,15 @@
-ghost use Rattle.std.specs.Prelude.{◌≡◌, ◌≤◌, ◌+◌, ◌&&◌, ℕ, nat_le, length};
+ghost use Rattle.std.specs.Prelude.{◌≡◌, ◌≤◌, ◌+◌, ◌&&◌, ℕ, nat_le, length, IfSome};
 ghost use Rattle.partial_path.specs.Apply.{height};
-ghost use Rattle.partial_path.specs.Moved.{moved};
+ghost use Rattle.partial_path.specs.Moved.{moved, moved_end, FitsEnd};
 ghost use Rattle.partial_path.specs.Spots.{is_definition_spot};
 ghost use Rattle.partial_path.specs.Walks.{is_cut_spot_of};
 ghost use Rattle.partial_path.specs.Sources.{graphs_of};
 ghost use Rattle.partial_path.specs.Laws.{IsSpotOf};
+ghost use Rattle.stitcher.specs.Ends.{IsEndOf, end_cut, may_land};
 ghost use Rattle.stitcher.specs.Joins.{is_none};
 
-use partial_path::{Bounds, Config, PartialPath, PathSource, Spot};
+use partial_path::{Bounds, Config, End, PartialPath, PathSource, Spot};
+use stacks_vars::NodeAt;
 
 /// Whether runs are within the bounds with a path more, which meets the configuration where they stand: whether they
 /// have few enough edges with it, and it isn't too high there.
@@ -22,14 +24,41 @@ pub fn is_within(bounds: Bounds, edges: usize, path: &PartialPath, at: &Config) 
         && left <= (bounds.depth - path.peak()) as usize
 }
 
-/// Whether a run that lands there is cut there.
-pub fn is_at_cut<P: PathSource>(source: &P, at: Spot) -> bool
-    requires { IsSpotOf (graphs_of (P.files source.now)) at }
+/// Whether runs are cut where a path of the file ends; None where the stack tells where that is.
+pub fn is_cut_end<P: PathSource>(source: &P, file: u32, path: &PartialPath) -> Option<bool>
+    requires fits { FitsEnd file path.now.end }
+    requires spot { IsEndOf (graphs_of (P.files source.now)) (moved_end file path.now.end) }
+    ensures { result ≡ end_cut (graphs_of (P.files source.now)) (moved_end file path.now.end) }
+{
+    match path.end() {
+        End::At(Spot::At(end)) => Some(source.is_cut(&NodeAt {
+            file: file + end.file,
+            node: end.node,
+        })),
+        End::At(Spot::Root) => Some(true),
+        End::ByStack => None,
+    }
+}
+
+/// Whether anything can come of a run with the path, told whether it ends at a cut, where that is known. It costs two
+/// comparisons.
+pub fn may_land(cut: Option<bool>, path: &PartialPath, at: &Config) -> bool
+    ensures { result ≡ may_land cut path.now at.now }
+{
+    cut.unwrap_or(true)
+        || (path.post().symbols.is_empty() && path.pre().symbols.len() == at.stacks.symbols.len())
+}
+
+/// Whether a run that lands there is cut there; it may be known.
+pub fn is_at_cut<P: PathSource>(source: &P, known: Option<bool>, at: Spot) -> bool
+    requires known { IfSome known (λ cut. cut ≡ is_cut_spot_of (graphs_of (P.files source.now)) at) }
+    requires spot { IsSpotOf (graphs_of (P.files source.now)) at }
     ensures { result ≡ is_cut_spot_of (graphs_of (P.files source.now)) at }
 {
-    match at {
-        Spot::Root => true,
-        Spot::At(node) => source.is_cut(&node),
+    match (known, at) {
+        (Some(cut), _) => cut,
+        (None, Spot::Root) => true,
+        (None, Spot::At(node)) => source.is_cut(&node),
     }
 }
 
@@ -40,6 +69,6 @@ pub fn is_at_result<P: PathSource>(source: &P, at: &Config) -> bool
 {
     match at.spot {
         Spot::Root => false,
-        Spot::At(node) => source.is_definition(&node) && at.stacks.symbols.is_empty(),
+        Spot::At(node) => at.stacks.symbols.is_empty() && source.is_definition(&node),
     }
 }

@@ -10,7 +10,7 @@ ghost use Rattle.stitcher.specs.Trail.{Moves, asked, paths_of, path_of, IsHere};
 
 use crate::found::StitchFault;
 use crate::keep::keep_if;
-use crate::landing::{is_at_cut, is_at_result};
+use crate::landing::is_at_result;
 use crate::open::{Open, push_if};
 use crate::query::Query;
 use crate::tally::Tally;
@@ -18,8 +18,8 @@ use crate::trail::Level;
 use partial_path::PathSource;
 use std::alloc::Global;
 
-/// Notes the run of the trail and the level, told whether it is bounded and how many edges it has: it is counted and
-/// kept as it lands, and open where more paths are joined to it.
+/// Notes the run of the trail and the level, told whether it is bounded and ends at a cut, and how many edges it has: it is
+/// counted and kept as it lands, and open where more paths are joined to it.
 pub fn note<'a, P: PathSource>(
     alloc: Global,
     source: &P,
@@ -27,12 +27,14 @@ pub fn note<'a, P: PathSource>(
     trail: &[Level],
     edges: usize,
     bounded: bool,
+    cut: bool,
     level: Level<'a>,
     work: &mut Vec<Open<'a>>,
     tally: &mut Tally,
 ) -> Result<(), StitchFault>
     requires spot { IsSpotOf (graphs_of (P.files source.now)) level.at.spot }
     requires bounded { bounded ≡ is_bounded (asked (P.files source.now) query) (with_path (paths_of trail.now) (path_of level)) }
+    requires cut { cut ≡ is_cut_spot_of (graphs_of (P.files source.now)) level.at.spot }
     requires here { IsTrue (is_cut_spot_of (graphs_of (P.files source.now)) level.at.spot) → IsHere (asked (P.files source.now) query) (trail.now ++ level ∷ []) level.at }
     requires edges { edges ≡ edge_count (with_path (paths_of trail.now) (path_of level)) }
     requires trail { All (λ l. Moves l.file l.path.now) trail.now }
@@ -45,7 +47,6 @@ pub fn note<'a, P: PathSource>(
     ensures full { result ≡ Err StitchFault.Crowded → tally.old.counted ≡ max_runs }
     ensures crowded { result ≡ Err StitchFault.Crowded → IsTrue (is_bounded_counted (asked (P.files source.now) query) (joined (with_path (paths_of trail.now) (path_of level.entry)) level.entry.at)) }
 {
-    let cut = is_at_cut(source, level.at.spot);
     let complete = is_at_result(source, &level.at);
     tally.count(cut | complete, bounded)?;
     keep_if(

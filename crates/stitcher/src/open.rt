@@ -1,4 +1,4 @@
-ghost use Rattle.std.specs.Prelude.{◌≡◌, ◌+◌, ◌++◌, [], ◌∷◌, length, OnOk, if◌then◌else◌};
+ghost use Rattle.std.specs.Prelude.{◌≡◌, ◌+◌, ◌++◌, [], ◌∷◌, length, false, IsOk, OnOk, if◌then◌else◌};
 ghost use Rattle.stitcher.specs.Joins.{joined, with_path};
 ghost use Rattle.stitcher.specs.Opens.{opened_at, opens_of, those};
 ghost use Rattle.stitcher.specs.Trail.{paths_of, path_of};
@@ -17,7 +17,8 @@ pub struct Open<'a> {
     pub level: Level<'a>,
 }
 
-/// Adds the trail with the level to the open ones, where more paths are joined to it.
+/// Adds the trail with the level to the open ones, where more paths are joined to it. It takes memory for an open one
+/// alone.
 pub fn push_if<'a>(
     work: &mut Vec<Open<'a>>,
     goes_on: bool,
@@ -27,6 +28,7 @@ pub fn push_if<'a>(
 ) -> Result<(), AllocError>
     ensures opens { OnOk result (opens_of trail.now work.new.items ≡ opens_of trail.now work.old.items ++ those goes_on (joined (with_path (paths_of trail.now) (path_of level.entry)) level.entry.at)) }
     ensures added { OnOk result (work.new.items ≡ work.old.items ++ those goes_on (opened_at trail.now edges level.entry)) }
+    ensures memory { goes_on ≡ false → IsOk result }
 {
     if !goes_on {
         return Ok(());

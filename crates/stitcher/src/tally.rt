@@ -1,4 +1,4 @@
-ghost use Rattle.std.specs.Prelude.{◌≡◌, ◌≤◌, ◌+◌, ◌&&◌, ◌||◌, not, [], false, IsTrue, OnOk, if◌then◌else◌};
+ghost use Rattle.std.specs.Prelude.{◌≡◌, ◌≢◌, ◌≤◌, ◌+◌, ◌&&◌, ◌||◌, not, [], false, IsTrue, OnOk, if◌then◌else◌};
 ghost use Rattle.partial_path.specs.Limits.{max_runs};
 
 use crate::found::{EdgePath, StitchFault};
@@ -31,7 +31,7 @@ impl Tally {
     }
 
     /// Counts a run, told whether it is counted and whether it is bounded; `Crowded` where there were as many that are
-    /// both as a reference may have.
+    /// both as a reference may have. It takes no memory.
     pub fn count(&mut self, lands: bool, bounded: bool) -> Result<(), StitchFault>
         requires { self.old.counted ≤ max_runs }
         ensures counted { OnOk result (self.new.counted ≡ self.old.counted + (if lands && bounded then 1 else 0)) }
@@ -40,6 +40,7 @@ impl Tally {
         ensures limit { OnOk result (self.new.limit ≡ (self.old.limit || (lands && not bounded))) }
         ensures full { result ≡ Err StitchFault.Crowded → self.old.counted ≡ max_runs }
         ensures crowded { result ≡ Err StitchFault.Crowded → IsTrue (lands && bounded) }
+        ensures memory { result ≢ Err StitchFault.NoMemory }
     {
         if !lands {
             return Ok(());

@@ -8,7 +8,7 @@ from __future__ import annotations
 import json
 import re
 from dataclasses import dataclass
-from typing import Any, Callable, Iterator, Union
+from typing import Any, Callable, Generator, Iterator, Optional, Union
 
 # So many bytes the body of a message may have; a longer one is passed over.
 LONGEST_BODY = 256 * 1024 * 1024
@@ -67,7 +67,7 @@ class _Stream:
             if not self._more():
                 return self._take(len(self._held))
 
-    def bytes(self, number: int) -> bytes:
+    def exactly(self, number: int) -> bytes:
         """So many bytes, or fewer where the stream ends."""
         while len(self._held) < number and self._more():
             pass
@@ -97,14 +97,14 @@ def read_messages(read: Callable[[int], bytes]) -> Iterator[Union[Message, BadFr
             stream.pass_over(length)
             yield BadFrame(f"a message of {length} bytes is too long")
             continue
-        body = stream.bytes(length)
+        body = stream.exactly(length)
         if len(body) < length:
             yield BadFrame("the input ends within a message")
             return
         yield _value(body)
 
 
-def _header(stream: _Stream) -> Iterator[BadFrame]:
+def _header(stream: _Stream) -> Generator[BadFrame, None, Optional[int]]:
     """Reads a header; returns the length of the body, or None at the end of the stream."""
     length = None
     is_bad = False

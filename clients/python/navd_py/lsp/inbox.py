@@ -77,7 +77,7 @@ class Inbox:
             self._cancel(message.get("params"))
         else:
             with self._lock:
-                if is_known:
+                if identifier is not None:
                     self._unanswered.add(identifier)
             self._queue.put(message)
 

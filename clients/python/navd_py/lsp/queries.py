@@ -134,5 +134,9 @@ def _at(what: str, name: Name) -> Dict[str, Any]:
 
 def _places(folder: Folder, reply: Reply) -> List[Place]:
     """The places of the rows of a reply; a row whose place is gone has none."""
-    rows = [row for row in reply.get("rows", ()) if row["span"] is not None]
-    return [(folder.path_of_row(row["path"]), tuple(row["span"])) for row in rows]
+    places: List[Place] = []
+    for row in reply.get("rows", ()):
+        if row["span"] is not None:
+            line, start, last, end = row["span"]
+            places.append((folder.path_of_row(row["path"]), (line, start, last, end)))
+    return places

@@ -25,9 +25,7 @@ MAPPINGS = frozenset(
     "Dict dict Mapping MutableMapping DefaultDict defaultdict OrderedDict ChainMap WeakValueDictionary".split()
 )
 TUPLES = frozenset(["Tuple", "tuple"])
-MANAGERS = frozenset(
-    "ContextManager AbstractContextManager AsyncContextManager AbstractAsyncContextManager".split()
-)
+MANAGERS = frozenset("ContextManager AbstractContextManager AsyncContextManager AbstractAsyncContextManager".split())
 OTHERS = frozenset(["Callable", "Literal", "Generic", "Protocol", "Concatenate", "Unpack"])
 FORMS = ONE_OF | LAST_OF | CLASS_OF | LISTS | MAPPINGS | TUPLES | MANAGERS | OTHERS
 

@@ -96,9 +96,7 @@ class Graph:
     def reference(self, name: str, line: int, start: int, end: int, sinks: Sequence[int]) -> int:
         """A reference; its edges are these sinks from now on, without a copy."""
         number = len(self.texts)
-        self.texts.append(
-            f'{{"kind":"push","reference":true,"span":[{line},{start},{line},{end}],"symbol":"{name}"}}'
-        )
+        self.texts.append(f'{{"kind":"push","reference":true,"span":[{line},{start},{line},{end}],"symbol":"{name}"}}')
         self.out.append(sinks)
         self.references.append(number)
         return number

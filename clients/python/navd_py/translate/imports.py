@@ -66,9 +66,7 @@ class Imports(Expressions):
             sinks = (ROOT,)
         self.graph.reference(part, line, start, end, sinks)
 
-    def bind_import(
-        self, name: str, place: Optional[Place], values: Values, targets: Optional[Sequence[int]]
-    ) -> None:
+    def bind_import(self, name: str, place: Optional[Place], values: Values, targets: Optional[Sequence[int]]) -> None:
         """Binds an imported name. `targets` are where its references lead, or None where they lead to its value."""
         if place is not None and self.inner == 0:
             self.told(name, "import", place)

@@ -149,6 +149,7 @@ class Modules:
         names.statements(tree.body)
         return names
 
+
 def folders_of(name: str) -> List[str]:
     """The module and the packages above it."""
     parts = name.split(".")

@@ -3,7 +3,7 @@
 from __future__ import annotations
 
 import ast
-from typing import Callable, Dict, List, Optional, Tuple
+from typing import Callable, Dict, List, Optional, Sequence, Tuple
 
 from .bindings import IMPORTED, VARIABLE, Bound, ClassParts, Frame, Names, merged
 from .graph import MOST_VALUES, NOTHING, ROOT, Graph, Values, joined
@@ -160,6 +160,12 @@ class State:
     def arguments(self, node: ast.Call, function: Values = NOTHING) -> List[Values]:
         """Goes through the arguments of a call of these values, and answers those without a name."""
         raise NotImplementedError
+
+    def block(self, body: Sequence[ast.stmt]) -> None:
+        """Goes through statements in their order."""
+        executors = self.executors
+        for statement in body:
+            executors[statement.__class__](statement)
 
     def value(self, node: ast.expr) -> Values:
         """Goes through an expression and answers its value."""

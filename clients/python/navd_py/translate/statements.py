@@ -11,6 +11,7 @@ from .places import Place
 from .scopes import Scopes
 from .state import CALL
 
+
 class Statements(Scopes):
     """Going through statements."""
 
@@ -47,11 +48,6 @@ class Statements(Scopes):
         }
         for kind in ast.stmt.__subclasses__():
             self.executors[kind] = table.get(kind.__name__, self.passed)
-
-    def block(self, body: Sequence[ast.stmt]) -> None:
-        executors = self.executors
-        for statement in body:
-            executors[statement.__class__](statement)
 
     # -- simple statements ------------------------------------------------------------------------
 

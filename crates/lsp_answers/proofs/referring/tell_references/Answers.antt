@@ -1,12 +1,15 @@
+use Rattle.std.proofs.Common.{subst, List, Ok}
+use Rattle.version_tree.specs.Contents.{FileRow}
 use Rattle.version_tree.specs.Graphs.{graph_rows}
 use Rattle.nav_answers.specs.declared.found.At.TheVariants as at
 use Rattle.lsp_texts.specs.Texts.{texts_in}
+use Rattle.lsp_answers.specs.Queries.{AreTargets}
 use Rattle.lsp_answers.proofs.Asked.{tells_if}
 use Rattle.lsp_answers.proofs.referring.tell_references.Goals as goal
 
-pub returns-in-Ok : goal.returns-in-Ok
-returns-in-Ok g c =
-    tells_if (graph_rows c.args.view.now) c.args.root.now (texts_in c.args.texts.now) c.args.declaration c.args.place.now.path
+pub returns-in-Ok-clause-told : goal.returns-in-Ok-clause-told
+returns-in-Ok-clause-told g c =
+    tells_if (graph_rows c.args.seen.now) c.args.root.now (texts_in c.args.texts.now) c.args.declaration c.args.place.now.path
     (at.Point c.args.place.now.line c.args.place.now.column) c.in-Ok.targets c.tell_asked.result
-    (c.in-Ok.ensures (λ e. cc))
-    (c.tell_asked.ensures (graph_rows c.args.view.now) (rw c.items.ensures at c.refer_to_all-asked.ensures))
+    (subst (λ (rows : List FileRow). AreTargets (graph_rows rows) c.args.place.now.path (at.Point c.args.place.now.line c.args.place.now.column) (Ok c.in-Ok.targets)) c.view.ensures (c.in-Ok.ensures (λ e. cc)))
+    (c.tell_asked.ensures (graph_rows c.args.seen.now) (rw c.items.ensures at c.refer_to_all-asked.ensures.reply))

@@ -1,21 +1,25 @@
-use Rattle.std.proofs.Common.{◌∙◌, sym, ap, subst, Some, List, ◌+◌, ◌-◌, arith}
-use Rattle.std.proofs.lemmas.Bool.Decides.{nat_tests}
-use Rattle.std.proofs.lemmas.List.{get_or_default}
-use Rattle.std.proofs.lemmas.Option.{slice_get-get_or}
-use Rattle.nav_answers.specs.declared.asking.Told.{Told}
-use Rattle.nav_answers.specs.Asking.{IsTold}
+use Rattle.std.proofs.Common.{◌∙◌, ◌+◌, sym, arith}
 use Rattle.nav_answers.specs.Sources.{graphs_seen}
-use Rattle.nav_answers.proofs.Shared.{IsSoFar, added}
+use Rattle.nav_answers.proofs.Shared.{share_begun, share_left, share_grown, share_held, share_ended}
 use Rattle.nav_answers.proofs.sharing.ask_share.Goals as goal
+
+pub loop-job-init : goal.loop-job-init
+loop-job-init g c =
+    share_begun c.args.query.now.bounds (graphs_seen c.args.query.now.view.now) c.args.query.now.definitions.now c.args.all.now c.args.step c.args.first c.new-links.result
+    c.new-links.ensures.list c.new-links.ensures.limit c.new-links.ensures.whole
+
+pub loop-job-preserved-then-not-is_in_share : goal.loop-job-preserved-then-not-is_in_share
+loop-job-preserved-then-not-is_in_share g c =
+    share_left c.args.query.now.bounds (graphs_seen c.args.query.now.view.now) c.args.query.now.definitions.now c.args.all.now c.args.step c.args.first c.loop-job.job c.loop-job.links
+    (sym c.is_in_share.ensures ∙ c.if-not-is_in_share.true) c.loop-job.invariant
 
 pub loop-job-preserved : goal.loop-job-preserved
 loop-job-preserved g c =
-    let none = c.if-wait-gt0.false in
-    let inside = c.loop-job-test.true in
-    subst (λ (told : List Told). IsSoFar (IsTold c.args.query.now.bounds (graphs_seen c.args.query.now.view.now) c.args.query.now.definitions.now) c.args.all.now c.args.step c.args.first (c.loop-job.job + 1) (c.args.step - 1) told)
-    (sym c.in_ok-push.ensures.items)
-    (added (IsTold c.args.query.now.bounds (graphs_seen c.args.query.now.view.now) c.args.query.now.definitions.now) c.args.all.now c.args.step c.args.first c.loop-job.told.items c.loop-job.job c.loop-job.wait c.in_ok-ask.field-0
-    c.loop-job.invariant (grind (arith, nat_tests, none)) c.requires.step
-    (slice_get-get_or c.args.all.now c.loop-job.job c.in_ok-ask.field-0.reference inside
-    ∙ ap (λ x. Some x) (get_or_default c.args.all.now c.loop-job.job c.in_ok-ask.field-0.reference _ inside ∙ sym c.in_ok-ask.ensures.asked))
-    c.in_ok-ask.ensures.told)
+    share_held c.args.query.now.bounds (graphs_seen c.args.query.now.view.now) c.args.query.now.definitions.now c.args.all.now c.args.step c.args.first (c.loop-job.job + 1) c.ask_into.new.links c.hold.new.self c.in_ok-hold.ensures
+    (share_grown c.args.query.now.bounds (graphs_seen c.args.query.now.view.now) c.args.query.now.definitions.now c.args.all.now c.args.step c.args.first c.loop-job.job _ c.loop-job.links c.ask_into.new.links
+    (sym c.is_in_share.ensures ∙ c.if-not-is_in_share.false) c.loop-job-test.true c.loop-job.invariant c.in_ok-ask_into.ensures.found)
+
+pub returns : goal.returns
+returns g c =
+    share_ended c.args.query.now.bounds (graphs_seen c.args.query.now.view.now) c.args.query.now.definitions.now c.args.all.now c.args.step c.args.first c.loop-job.job c.loop-job.links
+    (omega (arith, c.loop-job-test.false, c.loop-job.auto.job-end)) c.loop-job.invariant

@@ -1,0 +1,8 @@
+use Rattle.std.proofs.Common.{subst, sym}
+use Rattle.index_gate.specs.Indexed.{AreIndexed}
+use Rattle.nav_session.proofs.Kept.{swept_indexed}
+use Rattle.nav_session.proofs.desk.Desk.let_documents_go.Goals as goal
+
+-- the documents that stay still have no fault, and all paths of their graphs
+pub invariant_of-self : goal.invariant_of-self
+invariant_of-self c = subst AreIndexed (sym c.sweep.ensures) (swept_indexed 0 c.self.inside.store c.self.invariant)

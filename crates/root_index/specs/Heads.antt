@@ -1,0 +1,12 @@
+-- The heads of the symbols whose texts make the key of a path of an index; no public clause cites this.
+use Rattle.std.specs.Prelude.{◌≡◌, ℕ, ◌<◌, List, Option, Some, None, slice_get, slice_index}
+use Rattle.stacks_vars.specs.Head.{IsHead}
+
+-- the head of the text, 0 where there is none
+abbrev pub IsHeadAt : ℕ → Option (List ℕ) → Type 0
+IsHeadAt n None = n ≡ 0
+IsHeadAt n (Some text) = IsHead n text
+
+-- the heads of the first six texts, 0 where there are fewer
+abbrev pub AreHeads : List ℕ → List (List ℕ) → Type 0
+AreHeads heads texts = (i : ℕ) → i < 6 → IsHeadAt (slice_index heads i) (slice_get texts i)
