@@ -1,0 +1,4 @@
+pub mod Cuts
+pub mod Lists
+pub mod Sources
+pub mod Laws
