@@ -3,8 +3,7 @@
 ghost use Rattle.std.specs.Prelude.{◌≡◌};
 ghost use Rattle.shared_board.specs.Seats.{AreSeats};
 
-use left_right::Absorb;
-use shared_board::{Head, Naming, Note, Seat, SeatOf, SharedBoard, Slot, close, tie};
+use shared_board::{Naming, Note, Seat, SeatOf, SharedBoard, close, tie};
 use std::alloc::Global;
 use std::marker::Brand;
 use std::sync::Wait;
@@ -40,10 +39,7 @@ fn answer<J: Naming, R: Wait + Drop>(
     alloc: Global,
     seat: &mut Seat<J, R>,
     step: &str,
-) -> Result<String, Fail>
-where
-    Slot<J>: Absorb<Head<J>, State = ()>,
-{
+) -> Result<String, Fail> {
     let Some((base, word)) = step.split_once(' ') else {
         seat.pin();
         return Ok(String::new(alloc));
@@ -63,8 +59,6 @@ fn played<J: Naming, R: Wait + Drop>(
     seats: &mut [Seat<J, R>],
     script: &str,
 ) -> Result<String, Fail>
-where
-    Slot<J>: Absorb<Head<J>, State = ()>,
     requires { J.board.seats ≡ 3 }
 {
     let mut text = String::new(alloc);
@@ -82,8 +76,6 @@ fn line_of<J: Naming, R: Wait + Drop>(
     seats: &mut [Seat<J, R>],
     line: &str,
 ) -> Result<String, Fail>
-where
-    Slot<J>: Absorb<Head<J>, State = ()>,
     requires { J.board.seats ≡ 3 }
 {
     let (name, step) = line.split_once(' ').unwrap_or((line, ""));
@@ -108,10 +100,7 @@ fn note_of<J: Naming, R: Wait + Drop>(
     rt: &R,
     seats: &[Seat<J, R>],
     step: &str,
-) -> Result<Option<Note<J>>, Fail>
-where
-    Slot<J>: Absorb<Head<J>, State = ()>,
-{
+) -> Result<Option<Note<J>>, Fail> {
     let Some(name) = step.strip_prefix("< ") else {
         return Ok(None);
     };
@@ -146,8 +135,6 @@ fn steps_of_three<J: Naming, R: Wait>(
     alloc: Global,
     board: SharedBoard,
 ) -> Result<String, Fail>
-where
-    Slot<J>: Absorb<Head<J>, State = ()>,
     requires board { board ≡ J.board }
     requires three { board.seats ≡ 3 }
 {
@@ -182,8 +169,6 @@ fn tied_by_three<J: Naming + Send + Sync, R: Wait + Threads + Sync>(
     alloc: Global,
     board: SharedBoard,
 ) -> Result<String, Fail>
-where
-    Slot<J>: Absorb<Head<J>, State = ()> + Send + Sync,
     requires board { board ≡ J.board }
     requires three { board.seats ≡ 3 }
 {
@@ -198,8 +183,6 @@ fn all_tied<'a, J: Naming + Send + Sync, R: Wait + Threads + Sync>(
     alloc: Global,
     seats: &mut [Seat<J, &'a R>],
 ) -> Result<String, Fail>
-where
-    Slot<J>: Absorb<Head<J>, State = ()> + Send + Sync,
     requires three { J.board.seats ≡ 3 }
     requires all { AreSeats 3 seats.old }
 {
@@ -220,8 +203,6 @@ fn all_commit<'a, J: Naming + Send + Sync, R: Wait + Threads + Sync>(
     seats: &mut [Seat<J, &'a R>],
     edits: &[Edit],
 )
-where
-    Slot<J>: Absorb<Head<J>, State = ()> + Send + Sync,
     requires { AreSeats 3 seats.old }
     ensures { AreSeats 3 seats.new }
 {
@@ -229,8 +210,6 @@ where
 }
 
 fn commit_one<'a, J: Naming, R: Wait>(rt: &'a R, seat: &mut Seat<J, &'a R>, edits: &[Edit])
-where
-    Slot<J>: Absorb<Head<J>, State = ()>,
     ensures { seat.new.seat ≡ seat.old.seat }
 {
     let _ = seat.commit(&rt, None, edits);

@@ -2,11 +2,10 @@
 ghost use Rattle.std.specs.Prelude.{◌≡◌, ◌<◌};
 
 use graph_nodes::Steps;
-use left_right::Absorb;
 use nav_doors::serve_house;
 use nav_io::{MemDoor, MemHouse, NoNotices, TcpHouse, Unguarded};
 use nav_session::{Desk, answer_line};
-use shared_board::{Head, Naming, SharedBoard, Slot, close};
+use shared_board::{Naming, SharedBoard, close};
 use std::alloc::Global;
 use std::io::{Read, Write};
 use std::marker::Brand;
@@ -94,8 +93,6 @@ fn replied<J: Naming + Send + Sync, R: Threads + Wait + Sync, L: Ledger>(
     board: SharedBoard,
     blank: Blank,
 ) -> Result<String, Fail>
-where
-    Slot<J>: Absorb<Head<J>, State = ()> + Send + Sync,
     requires board { board ≡ J.board }
     requires name { blank.name ≡ L.name }
     requires parts { blank.parts ≡ L.parts }

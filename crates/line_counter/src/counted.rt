@@ -11,6 +11,9 @@ pub struct Counted<'a, W> {
 }
 
 impl<'a, W: Write> Write for Counted<'a, W> {
+    /// What it holds is what the other holds, so each write takes those bytes there and no others.
+    ghost contents = { λ counted. W.contents counted.writer };
+
     fn write(&mut self, buf: &[u8]) -> io::Result<usize> {
         let took = self.writer.write(buf)?;
         let lines = buf[..took].iter().filter(|byte| **byte == b'\n').count();

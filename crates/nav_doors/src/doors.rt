@@ -10,10 +10,9 @@ use crate::door::{ACCEPT_FAILED, ALL_SERVED, NO_MEMORY, serve_door};
 use crate::place::Place;
 use crate::placing::{places_of, take_apart};
 use graph_nodes::Steps;
-use left_right::Absorb;
 use nav_io::{Door, Unguarded};
 use nav_session::Desk;
-use shared_board::{Head, Naming, Seat, Slot, tie};
+use shared_board::{Naming, Seat, tie};
 use std::alloc::Global;
 use std::marker::Brand;
 use std::sync::Wait;
@@ -168,7 +167,6 @@ pub fn serve_doors<'a, R: Threads + Wait + Sync, D: Door + Send + Drop, J: Namin
 where
     D::S: Send,
     D::K: Send,
-    Slot<J>: Absorb<Head<J>, State = ()> + Send + Sync,
     requires seats { AreSeats J.board.seats seats.old.items }
     requires doors { vec_len doors.old ≡ J.board.seats }
     ensures served { ServesTied

@@ -7,9 +7,8 @@ ghost use Rattle.nav_doors.specs.Houses.{house_with, ServesHouse, ServesOneBoard
 
 use crate::door::{ACCEPT_FAILED, NO_MEMORY};
 use crate::doors::serve_doors;
-use left_right::Absorb;
 use nav_io::{Door, House, HouseFault};
-use shared_board::{Head, Naming, Seat, SharedBoard, Slot, close};
+use shared_board::{Naming, Seat, SharedBoard, close};
 use std::alloc::Global;
 use std::marker::Brand;
 use std::sync::Wait;
@@ -84,7 +83,6 @@ where
     H::D: Send + Drop,
     <H::D as Door>::S: Send,
     <H::D as Door>::K: Send,
-    Slot<J>: Absorb<Head<J>, State = ()> + Send + Sync,
     requires board { board ≡ J.board }
     requires all { board.seats ≡ doors }
     ensures served { ServesHouse
@@ -114,7 +112,6 @@ where
     H::D: Send + Drop,
     <H::D as Door>::S: Send,
     <H::D as Door>::K: Send,
-    Slot<J>: Absorb<Head<J>, State = ()> + Send + Sync,
     requires seats { AreNewcomers J.board.seats seats.old.items }
     requires all { J.board.seats ≡ doors }
     ensures served { ServesHouse
@@ -144,7 +141,6 @@ fn serve_opened<'a, J: Naming + Send + Sync, R: Threads + Wait + Sync, D: Door +
 where
     D::S: Send,
     D::K: Send,
-    Slot<J>: Absorb<Head<J>, State = ()> + Send + Sync,
     requires seats { AreNewcomers J.board.seats seats.old.items }
     requires doors { vec_len doors.old ≡ J.board.seats }
     ensures served { ServesOneBoard

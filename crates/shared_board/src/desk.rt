@@ -7,61 +7,87 @@ ghost use Rattle.shared_board.specs.Commits.{Settles};
 
 use crate::book::{Book, Draft, Naming};
 use crate::head::{Head, Slot};
-use left_right::{Absorb, ReadHandle, WriteHandle};
-use std::alloc::Global;
+use crate::showing::Shows;
+use left_right::{ReadHandle, WriteHandle};
+use std::alloc::{AllocError, Global};
 use std::marker::Model;
-use std::sync::{Arc, Mutex, Wait};
+use std::sync::{Arc, Mutex};
 use version_board::CommitFault;
 use version_tree::Edit;
 
 /// What a seat reads the newest head by.
 pub type HeadReader<J> = ReadHandle<Slot<J>>;
 
-/// What all seats of a board share.
+/// What shows the newest head to the seats' readers.
+pub type HeadWriter<J, R> = WriteHandle<Slot<J>, Head<J>, R>;
+
+/// What all seats of a board share, with what shows the newest head.
 #[derive(Drop)]
-pub struct Shared<J: Naming, R: Wait + Drop>
-where
-    Slot<J>: Absorb<Head<J>, State = ()>,
-{
+pub struct SharedBy<J: Naming, W: Shows<Head<J>> + Drop> {
     pub(crate) book: Book<J>,
-    pub(crate) desk: Mutex<Desk<J, R>>,
+    pub(crate) desk: Mutex<Desk<J, W>>,
 }
 
-/// The newest head. Contracts see it as its log.
+/// What all seats of a board share.
+pub type Shared<J, R> = SharedBy<J, HeadWriter<J, R>>;
+
+/// The newest head, which is what the seats' readers are shown, but where memory for that was refused. Contracts see it
+/// as its log.
 #[derive(Drop)]
-pub struct Desk<J: Naming, R: Wait + Drop>
-where
-    Slot<J>: Absorb<Head<J>, State = ()>,
-{
-    pub(crate) writer: WriteHandle<Slot<J>, Head<J>, R>,
-    pub(crate) head: Head<J>,
+pub struct Desk<J: Naming, W: Shows<Head<J>> + Drop> {
+    writer: W,
+    head: Head<J>,
+    /// Whether the newest head may not be shown, since memory for that was refused.
+    unshown: bool,
 }
 
-impl<J: Naming, R: Wait + Drop> Model for Desk<J, R>
-where
-    Slot<J>: Absorb<Head<J>, State = ()>,
-{
-    ghost use Rattle.std.specs.Prelude.{List};
+impl<J: Naming, W: Shows<Head<J>> + Drop> Model for Desk<J, W> {
+    ghost use Rattle.std.specs.Prelude.{◌≡◌, List, false};
     ghost use Rattle.version_tree.specs.declared.entry.Entry.{Entry};
 
     ghost Value = { List Entry };
 
     ghost view = { λ d. d.head };
+
+    ghost invariant = { λ d. d.unshown ≡ false → W.shows d.writer d.head };
 }
 
-impl<J: Naming, R: Wait + Drop> Desk<J, R>
-where
-    Slot<J>: Absorb<Head<J>, State = ()>,
-{
+impl<J: Naming, W: Shows<Head<J>> + Drop> Desk<J, W> {
+    /// A desk whose newest head is this one, and is shown. The one error is want of memory.
+    pub(crate) fn first(writer: W, head: Head<J>) -> Result<Desk<J, W>, AllocError>
+        ensures { IfOk result (λ desk. desk ≡ head) }
+    {
+        let mut writer = writer;
+        let shown = head.share()?;
+        writer.show(shown)?;
+        Ok(Desk {
+            writer,
+            head,
+            unshown: false,
+        })
+    }
+
     pub(crate) fn head(&self) -> &Head<J>
         ensures { result.now ≡ self.now }
     {
         &self.head
     }
 
-    /// Appends the seat's next entry, and gives the head that ends with it; `None` where the log is longer than the
-    /// head, which by the rule never comes. All that takes memory is made before the entry is appended. Where the
-    /// writer is refused memory then, other seats find the entry with the next one.
+    /// Shows the newest head where it isn't shown. The one error is want of memory.
+    fn catch_up(&mut self) -> Result<(), AllocError>
+        ensures { self.new ≡ self.old }
+    {
+        if self.unshown {
+            let shown = self.head.share()?;
+            self.writer.show(shown)?;
+            self.unshown = false;
+        }
+        Ok(())
+    }
+
+    /// Appends the seat's next entry, shows the head that ends with it, and gives that head; `None` where the log is
+    /// longer than the head, which by the rule never comes. All that takes memory is made before the entry is appended,
+    /// but for what shows it: where that is refused memory, the entry is shown before another is appended.
     fn extended(
         &mut self,
         alloc: Global,
@@ -79,6 +105,7 @@ where
         ensures stale { (n : ℕ) → result ≡ Err (why.Stale n) → IsStale base (length self.old) n }
         ensures edit { (e : Faults) → result ≡ Err (why.Edit e) → IsRefused base edits.now self.old e }
     {
+        self.catch_up()?;
         let body = self.head.next_body(alloc, seat, base, edits)?;
         let body = Arc::new(alloc, body)?;
         let for_seat = Arc::try_clone(&body)?;
@@ -97,8 +124,7 @@ where
         let mine = Head::of(for_seat, front.again());
         let shown = Head::of(for_readers, front.again());
         self.head = Head::of(body, front);
-        let _kept = self.writer.append(shown);
-        let _shown = self.writer.publish();
+        self.unshown = self.writer.show(shown).is_err();
         Ok(Some(mine))
     }
 

@@ -121,7 +121,9 @@ impl<J: Naming> Head<J> {
 pub struct Slot<J: Naming>(pub(crate) Option<Head<J>>);
 
 impl<J: Naming> Default for Slot<J> {
-    ghost is_default = { λ _. Unit {0} };
+    ghost use Rattle.std.specs.Prelude.{◌≡◌, None};
+
+    ghost is_default = { λ slot. slot.0 ≡ None };
 
     fn default() -> Slot<J> {
         Slot(None)
@@ -130,11 +132,13 @@ impl<J: Naming> Default for Slot<J> {
 
 /// An operation replaces the whole value. It takes no memory.
 impl<J: Naming> Absorb<Head<J>> for Slot<J> {
-    type State = ();
+    ghost use Rattle.std.specs.Prelude.{Some};
 
-    ghost state = { λ _. tt };
+    type State = Option<Head<J>>;
 
-    ghost applied = { λ _ _. tt };
+    ghost state = { λ slot. slot.0 };
+
+    ghost applied = { λ _ head. Some head };
 
     fn absorb_first(&mut self, operation: &Head<J>, _other: &Slot<J>) -> Result<(), AllocError> {
         let head = operation.share()?;

@@ -9,12 +9,14 @@ mod making;
 mod next;
 mod note;
 mod seat;
+mod showing;
 mod tying;
 
 pub use book::{Naming, SharedBoard};
-pub use desk::Shared;
+pub use desk::{HeadWriter, Shared, SharedBy};
 pub use head::{Head, Slot};
 pub use making::close;
 pub use note::Note;
 pub use seat::{Seat, SeatOf};
+pub use showing::Shows;
 pub use tying::tie;

@@ -4,10 +4,10 @@ ghost use Rattle.shared_board.specs.Seats.{AreNewcomers, max_seats};
 
 use crate::body::Body;
 use crate::book::{Naming, SharedBoard};
-use crate::desk::{Desk, Shared};
+use crate::desk::{Desk, HeadWriter, Shared, SharedBy};
 use crate::head::{Head, Slot};
 use crate::seat::{Seat, SeatOf};
-use left_right::{Absorb, ReadHandleFactory};
+use left_right::ReadHandleFactory;
 use std::alloc::{AllocError, Global};
 use std::sync::{Arc, Mutex, Wait};
 
@@ -19,8 +19,6 @@ impl SharedBoard {
         rt: &'a R,
         alloc: Global,
     ) -> Result<(Arc<Shared<J, &'a R>>, Vec<Seat<J, &'a R>>), AllocError>
-    where
-        Slot<J>: Absorb<Head<J>, State = ()>,
         requires { self ≡ J.board }
         ensures { IfOk result (λ made. AreNewcomers J.board.seats made.1.items) }
     {
@@ -30,7 +28,7 @@ impl SharedBoard {
         let head = Head::of(Arc::new(alloc, body)?, front);
         let (desk, factory) = first_desk(rt, alloc, &head, count)?;
         let desk = Mutex::new(desk);
-        let shared = Arc::new(alloc, Shared { book, desk })?;
+        let shared = Arc::new(alloc, SharedBy { book, desk })?;
         let seats = all_seats(alloc, &shared, &factory, &head, count)?;
         Ok((shared, seats))
     }
@@ -42,16 +40,14 @@ fn first_desk<'a, J: Naming, R: Wait>(
     alloc: Global,
     head: &Head<J>,
     count: u32,
-) -> Result<(Desk<J, &'a R>, ReadHandleFactory<Slot<J>>), AllocError>
-where
-    Slot<J>: Absorb<Head<J>, State = ()>,
+) -> Result<(Desk<J, HeadWriter<J, &'a R>>, ReadHandleFactory<Slot<J>>), AllocError>
     requires few { count ≤ max_seats }
 {
     let mine = head.share()?;
     let readers = count as usize + 1;
     let (writer, _reader) = left_right::new::<Slot<J>, Head<J>, &'a R, Global>(alloc, rt, readers)?;
     let factory = writer.factory()?;
-    Ok((Desk { writer, head: mine }, factory))
+    Ok((Desk::first(writer, mine)?, factory))
 }
 
 #[tactic(auto, using(crate::proofs::Newcomers::newcomers_none, crate::proofs::Newcomers::newcomers_push))]

@@ -5,9 +5,8 @@ ghost use Rattle.shared_board.specs.Seats.{HasLearnt};
 
 use crate::book::Naming;
 use crate::desk::Shared;
-use crate::head::{Head, Slot};
+use crate::head::Head;
 use crate::seat::SeatOf;
-use left_right::Absorb;
 use std::alloc::AllocError;
 use std::marker::Model;
 use std::sync::Wait;
@@ -27,10 +26,7 @@ impl<J: Naming> Model for Note<J> {
     ghost view = { λ n. n.head };
 }
 
-impl<J: Naming, R: Wait + Drop> SeatOf<J, Shared<J, R>>
-where
-    Slot<J>: Absorb<Head<J>, State = ()>,
-{
+impl<J: Naming, R: Wait + Drop> SeatOf<J, Shared<J, R>> {
     /// A note of the log that is published so far, which begins with all that the seat has seen. It waits for the
     /// board's lock. The one error is that there are too many holders of a version.
     #[tactic(auto, using(crate::proofs::Fronts::begins_self))]

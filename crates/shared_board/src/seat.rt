@@ -6,8 +6,7 @@ ghost use Rattle.shared_board.specs.Commits.{Settles};
 
 use crate::book::Naming;
 use crate::desk::{HeadReader, Shared};
-use crate::head::{Head, Slot};
-use left_right::Absorb;
+use crate::head::Head;
 use std::alloc::Global;
 use std::marker::Model;
 use std::mem;
@@ -162,8 +161,6 @@ fn settle<J: Naming, R: Wait + Drop>(
     base: Option<u32>,
     edits: &[Edit],
 ) -> Result<Head<J>, (CommitFault, Option<Head<J>>)>
-where
-    Slot<J>: Absorb<Head<J>, State = ()>,
     requires { seat < J.board.seats }
     ensures { Settles seat base edits.now seen.now result }
 {
@@ -184,8 +181,6 @@ fn try_once<J: Naming, R: Wait + Drop>(
     base: Option<u32>,
     edits: &[Edit],
 ) -> Option<Result<Head<J>, (CommitFault, Option<Head<J>>)>>
-where
-    Slot<J>: Absorb<Head<J>, State = ()>,
     requires { seat < J.board.seats }
     ensures { IfSome result (λ r. Settles seat base edits.now seen.now r) }
 {
@@ -195,10 +190,7 @@ where
         .commit(alloc, &shared.book, seen, seat, base, edits)
 }
 
-impl<J: Naming, R: Wait + Drop> Commits<R> for SeatOf<J, Shared<J, R>>
-where
-    Slot<J>: Absorb<Head<J>, State = ()>,
-{
+impl<J: Naming, R: Wait + Drop> Commits<R> for SeatOf<J, Shared<J, R>> {
     #[tactic(auto, using(crate::proofs::Fronts::later_self, crate::proofs::Fronts::begins_self))]
     fn commit(&mut self, rt: &R, base: Option<u32>, edits: &[Edit]) -> Result<(), CommitFault> {
         match settle(

@@ -5,9 +5,7 @@ ghost use Rattle.shared_board.specs.Tied.{AllBegin, HaveOwn};
 
 use crate::book::Naming;
 use crate::desk::Shared;
-use crate::head::{Head, Slot};
 use crate::seat::Seat;
-use left_right::Absorb;
 use std::alloc::AllocError;
 use std::sync::Wait;
 
@@ -17,8 +15,6 @@ use std::sync::Wait;
 /// seat than that one has made, which by the rule never comes, it goes round again.
 #[tactic(auto, using(crate::proofs::Passed::have_self, crate::proofs::Passed::have_trans))]
 pub fn tie<J: Naming, R: Wait + Drop>(rt: &R, seats: &mut [Seat<J, R>]) -> Result<(), AllocError>
-where
-    Slot<J>: Absorb<Head<J>, State = ()>,
     requires { AreSeats J.board.seats seats.old }
     ensures learnt { HaveLearnt seats.old seats.new }
     ensures tied { OnOk result (IsLogOfAll seats.old (last_log seats.new)) }
@@ -36,8 +32,6 @@ fn passed_on<J: Naming, R: Wait + Drop>(
     rt: &R,
     seats: &mut [Seat<J, R>],
 ) -> Result<bool, AllocError>
-where
-    Slot<J>: Absorb<Head<J>, State = ()>,
     ensures learnt { HaveLearnt seats.old seats.new }
     ensures begin { IfOk result (λ all. IsTrue all → AllBegin seats.old (last_log seats.new)) }
 {
@@ -52,8 +46,6 @@ where
 
 /// Whether the last seat finds as many entries of each seat as that one does.
 fn have_own<J: Naming, R: Wait + Drop>(seats: &[Seat<J, R>]) -> bool
-where
-    Slot<J>: Absorb<Head<J>, State = ()>,
     requires { AreSeats J.board.seats seats.now }
     ensures { IsTrue result → HaveOwn seats.now (last_log seats.now) }
 {
