@@ -1,16 +1,16 @@
 -- Which clause rests on which file. `answer_line` and `reply_to`: reply on Asked (who may ask), Seen (`hello` and
 -- `pin`), Judged (changes) and Committed (commits). That a swept desk still has its documents in order, on Kept.
 -- `serve_session`: served and seat on UnderWay, with Turned where no line was answered; Seen, Longer, Passed and
--- Reached serve UnderWay. `lines_have_one_script` on OneScript, which Plain and Alike serve.
--- CallerLemmas is for `nav_demo`, `nav_lsp` and `nav_serve`.
+-- Reached serve UnderWay. The laws on OneScript, which Plain and Alike serve.
+-- CallerLemmas is for `nav_demo`, `nav_lsp` and `nav_serve`, and OneScript and Plain are for their laws too.
 mod Kept
 mod Seen
 mod Judged
 mod Asked
 mod Committed
-mod Plain
+pub mod Plain
 mod Alike
-mod OneScript
+pub mod OneScript
 mod Longer
 mod Passed
 mod Reached

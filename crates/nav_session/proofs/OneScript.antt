@@ -23,6 +23,7 @@ use Rattle.nav_answers.specs.declared.found.At.{At}
 use Rattle.nav_answers.specs.declared.found.AskFault.{AskFault}
 use Rattle.nav_answers.specs.Laws.{OneReply, QueriesHaveOneReply}
 use Rattle.nav_answers.specs.Replies.{IsDefineReply, IsReferencesReply}
+use Rattle.nav_answers.proofs.OneReply.{one_reply}
 use Rattle.nav_proto.specs.declared.proto_fault.ProtoFault.{ProtoFault}
 use Rattle.nav_proto.specs.declared.request.FileEdit.{FileEdit}
 use Rattle.nav_proto.specs.declared.request.Request.{Request}
@@ -36,7 +37,7 @@ use Rattle.nav_session.specs.Refusals.{edit_reply, fault_reply, is_stale, query_
 use Rattle.nav_session.specs.Requests.{at_of, docs_in, edits_with, is_operator}
 use Rattle.nav_session.specs.Sessions.{Asker, Session, Sees, Stays, Pins, Refuses, Accepts, IsJudged, IsRuled, IsCommitted, Finds, QueryReply, IsAnswered, asked_by, opened}
 use Rattle.nav_session.specs.Transcripts.{AreReplies, IsTranscript}
-use Rattle.nav_session.specs.Laws.{LinesHaveOneScript}
+use Rattle.nav_session.specs.Laws.{FirstLinesHaveOneScript, LinesHaveOneScript}
 use Rattle.nav_session.proofs.Alike.{alike_edits, fault_or_files, one_first_fault}
 use Rattle.nav_session.proofs.Plain.{alike_faults, alike_views, plain_edit, plain_log}
 
@@ -288,6 +289,11 @@ request_same laws seat a b s (References path point bounds) r q t u oa ob same h
     (λ asker. Finds IsReferencesReply a s asker path (at_of point) bounds r t) (λ asker. Finds IsReferencesReply b s asker path (at_of point) bounds q u) same same.pin
     (λ asker low x y. finds_same IsReferencesReply a b s asker path (at_of point) bounds r q t u laws.references same low x y) h k
 
+-- the same for callers
+pub answered_same : (seat : ℕ) (a b : List Entry) (s : Session) (request : Request) (r q : Reply) (t u : Session)
+    → own seat a ≡ a → own seat b ≡ b → IsSame a b s → IsAnswered seat a s request r t → IsAnswered seat b s request q u → StaySame a b r q t u
+answered_same = request_same one_reply
+
 -- one line
 line_same : QueriesHaveOneReply → (seat : ℕ) (a b : List Entry) (s : Session) (read : Result Request ProtoFault) (r q : Reply) (t u : Session)
     → own seat a ≡ a → own seat b ≡ b → IsSame a b s
@@ -308,10 +314,31 @@ all_same laws seat a b s (line ∷ lines) (r ∷ rs) (q ∷ qs) t u oa ob same (
     let rest = all_same laws seat a b next lines rs qs t u oa ob one.same hs (subst (λ (x : Session). AreReplies seat b x lines qs u) (sym one.sessions) ks) in
     ap (λ (x : Reply). x ∷ rs) one.replies ∙ ap (λ (xs : List Reply). q ∷ xs) rest
 
+-- the lines that both have, where the one has more
+firsts_same : QueriesHaveOneReply → (seat : ℕ) (a b : List Entry) (s : Session) (lines more : List (List ℕ)) (rs qs : List Reply) (t u : Session)
+    → own seat a ≡ a → own seat b ≡ b → IsSame a b s → AreReplies seat a s lines rs t → AreReplies seat b s (lines ++ more) qs u
+    → (rest : List Reply) × (rs ++ rest ≡ qs)
+firsts_same laws seat a b s [] more [] qs t u oa ob same h k = (qs, refl)
+firsts_same laws seat a b s [] more (r ∷ rs) qs t u oa ob same h k = absurd h
+firsts_same laws seat a b s (line ∷ lines) more [] qs t u oa ob same h k = absurd h
+firsts_same laws seat a b s (line ∷ lines) more (r ∷ rs) [] t u oa ob same h k = absurd k
+firsts_same laws seat a b s (line ∷ lines) more (r ∷ rs) (q ∷ qs) t u oa ob same (next, h, hs) (other, k, ks) =
+    let one = line_same laws seat a b s (request_from line) r q next other oa ob same h k in
+    let rest = firsts_same laws seat a b next lines more rs qs t u oa ob one.same hs
+    (subst (λ (x : Session). AreReplies seat b x (lines ++ more) qs u) (sym one.sessions) ks) in
+    (rest.0, ap (λ (x : Reply). x ∷ (rs ++ rest.0)) one.replies ∙ ap (λ (xs : List Reply). q ∷ xs) rest.1)
+
 none_taken : (k : ℕ) (a b : List Entry) → k ≡ 0 → plain_log (take k a) ≡ plain_log (take k b)
 none_taken k a b e = subst (λ (n : ℕ). plain_log (take n a) ≡ plain_log (take n b)) (sym e) refl
 
+-- nothing is seen of either log at first
+pub same_opened : (a b : List Entry) → IsSame a b (opened 0)
+same_opened a b = record { alike = (λ n low. none_taken n a b (omega (arith, low))); pin = tt }
+
 pub one_script : QueriesHaveOneReply → LinesHaveOneScript
 one_script laws seat log other lines replies others oa ob h k =
-    all_same laws seat log other (opened 0) lines replies others h.last k.last oa ob
-    (record { alike = (λ n low. none_taken n log other (omega (arith, low))); pin = tt }) h.replied k.replied
+    all_same laws seat log other (opened 0) lines replies others h.last k.last oa ob (same_opened log other) h.replied k.replied
+
+pub one_beginning : QueriesHaveOneReply → FirstLinesHaveOneScript
+one_beginning laws seat log other lines more replies others oa ob h k =
+    firsts_same laws seat log other (opened 0) lines more replies others h.last k.last oa ob (same_opened log other) h.replied k.replied

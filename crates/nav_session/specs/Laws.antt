@@ -1,5 +1,5 @@
 -- Laws of transcripts.
-use Rattle.std.specs.Prelude.{◌≡◌, ℕ, List}
+use Rattle.std.specs.Prelude.{◌≡◌, ℕ, List, ◌++◌}
 use Rattle.version_tree.specs.declared.entry.Entry.{Entry}
 use Rattle.version_board.specs.Logs.{own}
 use Rattle.nav_proto.specs.declared.reply.Reply.{Reply}
@@ -11,3 +11,12 @@ LinesHaveOneScript =
     (seat : ℕ) (log other : List Entry) (lines : List (List ℕ)) (replies others : List Reply)
     → own seat log ≡ log → own seat other ≡ other
     → IsTranscript seat 0 log lines replies → IsTranscript seat 0 other lines others → replies ≡ others
+
+-- of two such sessions, of which the one has more lines behind those of the other, the replies to the lines of both are
+-- the same
+abbrev pub FirstLinesHaveOneScript : Type 0
+FirstLinesHaveOneScript =
+    (seat : ℕ) (log other : List Entry) (lines more : List (List ℕ)) (replies others : List Reply)
+    → own seat log ≡ log → own seat other ≡ other
+    → IsTranscript seat 0 log lines replies → IsTranscript seat 0 other (lines ++ more) others
+    → (rest : List Reply) × (replies ++ rest ≡ others)

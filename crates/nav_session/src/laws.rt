@@ -1,4 +1,4 @@
-ghost use Rattle.nav_session.specs.Laws.{LinesHaveOneScript};
+ghost use Rattle.nav_session.specs.Laws.{FirstLinesHaveOneScript, LinesHaveOneScript};
 
 use nav_answers::queries_have_one_reply;
 
@@ -6,6 +6,14 @@ use nav_answers::queries_have_one_reply;
 /// text of replies. So what is written to an input is a function of the input.
 pub fn lines_have_one_script()
     ensures { LinesHaveOneScript }
+{
+    queries_have_one_reply();
+}
+
+/// A law of transcripts: of two sessions as above the one whose lines begin those of the other has the first replies of
+/// the other. So where fewer lines are answered than are to be, what is written begins what is written of all.
+pub fn first_lines_have_one_script()
+    ensures { FirstLinesHaveOneScript }
 {
     queries_have_one_reply();
 }

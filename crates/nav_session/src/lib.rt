@@ -21,7 +21,7 @@ pub use answering::{answer_line, reply_to};
 pub use bad_file::file_error;
 pub use desk::{Desk, MAX_COST};
 pub use halt::{ANSWERED, BAD_WORDS, Halt};
-pub use laws::lines_have_one_script;
+pub use laws::{first_lines_have_one_script, lines_have_one_script};
 pub use output::{reply_bytes, write_line};
 pub use serving::serve_session;
 pub use step::Step;
