@@ -2,3 +2,4 @@ pub mod Documents
 pub mod Queries
 pub mod Placing
 pub mod Inside
+pub mod Laws

@@ -2,11 +2,13 @@
 //! documents.
 #![tactic(auto)]
 
+mod laws;
 mod outcomes;
 mod paths;
 mod querying;
 mod referring;
 
+pub use laws::places_have_one_outcome;
 pub use paths::path_under;
 pub use querying::{Place, place_of, tell_definitions};
 pub use referring::tell_references;
