@@ -1,3 +1,4 @@
 pub mod MadeTree
 pub mod Summary
 pub mod Inside
+pub mod Laws

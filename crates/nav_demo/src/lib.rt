@@ -2,10 +2,12 @@
 #![tactic(auto)]
 
 mod graph;
+mod laws;
 mod session;
 mod showing;
 mod totals;
 mod tree;
 
+pub use laws::trees_have_one_summary;
 pub use showing::demo;
 pub use totals::Totals;
