@@ -5,11 +5,13 @@
 mod answering;
 mod committing;
 mod editor;
+mod laws;
 mod phase;
 mod refusals;
 mod serving;
 
 pub use answering::answer_message;
 pub use editor::Editor;
+pub use laws::messages_have_one_script;
 pub use phase::Phase;
 pub use serving::serve_lsp;
