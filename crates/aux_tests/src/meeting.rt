@@ -38,11 +38,6 @@ impl Meeting {
         }
     }
 
-    /// How many jobs have begun.
-    pub fn begun(&self) -> u64 {
-        self.begun.load(Ordering::SeqCst)
-    }
-
     /// How many jobs met no other one.
     pub fn missed(&self) -> u64 {
         self.missed.load(Ordering::SeqCst)

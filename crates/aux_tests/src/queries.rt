@@ -1,4 +1,4 @@
-//! That the references of a view are asked at once, and once for all queries within the same bounds.
+//! That the references of a definition are asked at once.
 use crate::meeting::Meeting;
 use crate::paths::paths_of;
 use nav_answers::{AskedView, At, references};
@@ -46,37 +46,5 @@ fn missed<R: Threads + Sync>(rt: &R, alloc: Global) -> Result<u64, Fail> {
 fn two_references_are_asked_at_once(rt: HostRuntime) -> Result<(), Fail> {
     let alone = available_parallelism(&rt)?.get() == 1;
     assert_eq!(rt; missed(&rt, rt.alloc())?, u64::from(alone));
-    Ok(())
-}
-
-/// How many references were asked in all after each of some queries to one view of two references: about a definition
-/// within so many edges.
-fn asked_so_far<R: Threads + Sync>(rt: &R, alloc: Global) -> Result<String, Fail> {
-    let version = version(alloc)?;
-    let index = RootIndex::afresh(alloc, &version)?;
-    let mut view = AskedView::of(version.view(alloc, "operator")?);
-    let gate = Meeting::new();
-    let mut text = String::new(alloc);
-    for (node, edges) in [(3, 128), (2, 128), (3, 128), (3, 127), (2, 127), (3, 128)] {
-        let at = At::Node(node);
-        let bounds = Bounds { edges, depth: 48 };
-        references(
-            rt,
-            alloc,
-            &mut view,
-            &index,
-            &gate,
-            "two.sg.json",
-            at,
-            bounds,
-        )?;
-        text.push_str(format!(in alloc; "{} ", gate.begun())?.as_str())?;
-    }
-    Ok(text)
-}
-
-#[test]
-fn references_are_asked_once_within_the_same_bounds(rt: HostRuntime) -> Result<(), Fail> {
-    assert_eq!(rt; asked_so_far(&rt, rt.alloc())?.as_str(), "2 2 2 4 4 6 ");
     Ok(())
 }
