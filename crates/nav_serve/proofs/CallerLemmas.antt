@@ -13,11 +13,11 @@ use Rattle.nav_serve.specs.declared.words.Command.TheVariants.{Once, Upgrade, Ru
 use Rattle.nav_serve.specs.declared.tasks.Task.{Task}
 use Rattle.nav_serve.specs.declared.tasks.Task.TheVariants as task
 use Rattle.nav_serve.specs.Outside.{seen}
-use Rattle.nav_serve.specs.Taken.{IsBeginning, WritesBeginning}
+use Rattle.nav_serve.specs.Taken.{IsBeginning}
 use Rattle.nav_serve.specs.Commands.{DoesTask, Does, Ends, may_end}
 
 -- nothing more was written
-append_known-nil : (held : Option (List ℕ)) → held ≡ append_known held []
+pub append_known-nil : (held : Option (List ℕ)) → held ≡ append_known held []
 append_known-nil None = refl
 append_known-nil (Some bytes) = ap Some (sym (append-nil bytes))
 

@@ -1,7 +1,8 @@
 -- Which clause rests on which file. `run`: does, statuses and complete on CallerLemmas, where memory for the words
 -- is refused; what `serve` asks of a house, on Spelled. `perform`: does on Writing, from the text: of `once` on
 -- Replies (with Found for the rows), of `upgrade` on Upgraded. FirstLine serves both, BothLines Replies.
--- `command_of` on CommandLine, with Hyphens and, for the parser, Builders. CallerLemmas is also for `navd`.
+-- `command_of` on CommandLine, with Hyphens and, for the parser, Builders. `run_alone`: does rests on NoBoard, wherever no
+-- board is made, and gives on Given, which OneOutput serves; so does the law of outputs.
 pub mod FirstLine
 pub mod BothLines
 pub mod Replies
@@ -9,6 +10,9 @@ pub mod Writing
 pub mod Upgraded
 pub mod Found
 pub mod CallerLemmas
+mod NoBoard
+mod OneOutput
+mod Given
 mod Spelled
 mod Hyphens
 mod CommandLine

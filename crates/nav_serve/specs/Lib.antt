@@ -7,6 +7,8 @@ pub mod Upgrade
 pub mod Taken
 pub mod Outside
 pub mod Commands
+pub mod Outputs
+pub mod Alone
 pub mod Serving
 pub mod Refused
 pub mod Reads

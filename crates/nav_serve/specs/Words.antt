@@ -1,9 +1,9 @@
 -- Which command the words after the program's name are.
-use Rattle.std.specs.Prelude.{ℕ, ◌+◌, ◌-◌, ◌*◌, ◌==◌, ◌&&◌, nat_le, List, [], ◌∷◌, Option, Some, None, if◌then◌else◌, codes, map}
+use Rattle.std.specs.Prelude.{ℕ, ◌+◌, ◌-◌, ◌*◌, ◌==◌, ◌&&◌, nat_le, List, [], ◌∷◌, Option, Some, None, Result, Ok, Err, if◌then◌else◌, codes, map}
 use Rattle.std.specs.Option.{option_and_then}
 use Rattle.std.specs.Str.{bytes_eq}
 use Rattle.std.specs.Prelude.{String}
-use Rattle.std.specs.Global.{Global}
+use Rattle.std.specs.Global.{Global, Vec}
 use Rattle.std.specs.String.{string_bytes}
 use Rattle.nav_serve.specs.declared.words.Command.{Command}
 use Rattle.nav_serve.specs.declared.words.Command.TheVariants.{Once, Upgrade, Run, Lsp, Demo, Serve}
@@ -65,3 +65,8 @@ command_of (word ∷ port ∷ doors ∷ connections ∷ more ∷ words) = None
 -- the texts of the words
 abbrev pub texts : List (String Global) → List (List ℕ)
 texts words = map string_bytes words
+
+-- the command that the words are, where they can be had; none where they can't
+abbrev pub command_in : {E : Type 0} → Result (Vec (String Global)) E → Option Command
+command_in (Ok words) = command_of (texts words.items)
+command_in (Err error) = None

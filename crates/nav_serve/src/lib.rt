@@ -1,6 +1,7 @@
 //! The program as a function: the words after its name, its input and output, and its status.
 #![tactic(auto)]
 
+mod alone;
 mod file;
 mod found_rows;
 mod input_lines;
@@ -14,7 +15,8 @@ mod tasks;
 mod upgrade_input;
 mod words;
 
-pub use laws::once_and_upgrade_are_tasks;
+pub use alone::run_alone;
+pub use laws::{commands_have_one_output, once_and_upgrade_are_tasks};
 pub use running::run;
 pub use tasks::{Task, perform};
 pub use words::{Command, command_of};

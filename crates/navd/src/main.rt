@@ -2,28 +2,18 @@
 //! status.
 #![tactic(auto)]
 
-ghost use Rattle.std.specs.Prelude.{◌≡◌, ◌<◌, ◌⊎◌, None, IsTrue, IfOk, OnErr};
-ghost use Rattle.nav_serve.specs.Words.{command_of, texts};
-ghost use Rattle.nav_serve.specs.Commands.{may_end};
-
-use graph_nodes::Steps;
 use line_counter::Counted;
-use nav_io::{Door, House, StdSink, StdSource, TcpHouse};
-use std::alloc::Global;
+use nav_io::{StdSink, StdSource, TcpHouse};
+use nav_serve::run_alone;
 use std::cell::Cell;
-use std::io::{ErrorKind, Read, Write};
 use std::marker::Brand;
 use std::process::ExitCode;
-use std::sync::Wait;
-use std::sync::ledger::{Blank, Ledger};
-use std::thread::Threads;
+use std::sync::ledger::Blank;
 use std::{env, io};
 
-mod alone;
 mod opened;
 mod told;
 
-use crate::alone::run_alone;
 use crate::opened::Opened;
 use crate::told::Told;
 
@@ -45,33 +35,41 @@ const NO_MESSAGES: u8 = 9;
 
 fn main(rt: HostRuntime) -> ExitCode {
     let told = Told { rt: &rt };
-    let mut house = TcpHouse::new(&rt, &told);
-    let words = words_of(&rt);
-    let command = named(&words);
     let replies = Cell::new(0);
     let first = Cell::new(0);
-    let status = ended::<_, _, _, _, Brand>(
+    let words = words_of(&rt);
+    let mut source = StdSource::new(Opened {
+        reader: rt.stdin(),
+        first: &first,
+    });
+    let mut sink = StdSink::new(Counted {
+        writer: rt.stdout(),
+        lines: &replies,
+    });
+    let mut house = TcpHouse::new(&rt, &told);
+    let status = run_alone::<_, _, _, _, Brand>(
         &rt,
         rt.alloc(),
-        words,
-        Opened {
-            reader: rt.stdin(),
-            first: &first,
-        },
-        Counted {
-            writer: rt.stdout(),
-            lines: &replies,
-        },
+        &words,
+        &mut source,
+        &mut sink,
         &mut house,
         Blank::new(1),
     );
+    explain(&rt, named(&words), status, replies.get(), first.get());
+    ExitCode::from(status)
+}
+
+/// Tells on standard error why the program did no more: with so many replies written, and an input that begins with
+/// this byte.
+fn explain(rt: &HostRuntime, command: Spoken, status: u8, replies: usize, first: u8) {
     match (command, status) {
         (Spoken::Run, LONG_LINE) => {
             // Each line before it has one reply.
-            let line = replies.get().saturating_add(1);
+            let line = replies.saturating_add(1);
             let _ = eprintln!(rt; "navd: line {line} has more than 8388608 bytes");
         }
-        (Spoken::Lsp, NO_MESSAGES) if first.get() == b'{' => {
+        (Spoken::Lsp, NO_MESSAGES) if first == b'{' => {
             let _ = eprintln!(rt;
                 "navd: lsp reads messages, each behind a header Content-Length; navd run reads lines of JSON"
             );
@@ -86,7 +84,6 @@ fn main(rt: HostRuntime) -> ExitCode {
             }
         }
     }
-    ExitCode::from(status)
 }
 
 /// The commands of which standard error tells more than why a status came.
@@ -135,59 +132,4 @@ fn words_of(rt: &HostRuntime) -> io::Result<Vec<String>> {
         words.push(word)?;
     }
     Ok(words)
-}
-
-/// The status with which the program ends on these words, or where they can't be had: that of `run_alone` over
-/// this reader, this writer and this house, with a counter that nobody reads.
-fn ended<T: Threads + Wait + Sync, R: Read + Drop, W: Write + Drop, H: House, L: Ledger>(
-    rt: &T,
-    alloc: Global,
-    words: io::Result<Vec<String>>,
-    reader: R,
-    writer: W,
-    house: &mut H,
-    blank: Blank,
-) -> u8
-where
-    H::D: Send + Drop,
-    <H::D as Door>::S: Send,
-    <H::D as Door>::K: Send,
-    requires name { blank.name ≡ L.name }
-    requires parts { blank.parts ≡ L.parts }
-    requires some { 0 < blank.parts }
-    ensures bad_words { IfOk words (λ some. result ≡ 2 → command_of (texts some.items) ≡ None) }
-    ensures statuses { IfOk words (λ some. IsTrue (may_end (command_of (texts some.items)) result)) }
-    ensures no_words { OnErr words ((result ≡ 2) ⊎ (result ≡ 5)) }
-{
-    match words {
-        Ok(words) => served::<_, _, _, _, L>(rt, alloc, &words, reader, writer, house, blank),
-        Err(e) if e.kind() == ErrorKind::OutOfMemory => NO_MEMORY,
-        Err(_) => BAD_WORDS,
-    }
-}
-
-/// Runs the words over this reader, this writer and this house.
-fn served<T: Threads + Wait + Sync, R: Read + Drop, W: Write + Drop, H: House, L: Ledger>(
-    rt: &T,
-    alloc: Global,
-    words: &[String],
-    reader: R,
-    writer: W,
-    house: &mut H,
-    blank: Blank,
-) -> u8
-where
-    H::D: Send + Drop,
-    <H::D as Door>::S: Send,
-    <H::D as Door>::K: Send,
-    requires name { blank.name ≡ L.name }
-    requires parts { blank.parts ≡ L.parts }
-    requires some { 0 < blank.parts }
-    ensures bad_words { result ≡ 2 → command_of (texts words.now) ≡ None }
-    ensures statuses { IsTrue (may_end (command_of (texts words.now)) result) }
-{
-    let mut source = StdSource::new(reader);
-    let mut sink = StdSink::new(writer);
-    let mut steps = Steps::<L>::new(blank);
-    run_alone(rt, alloc, words, &mut source, &mut sink, house, &mut steps)
 }

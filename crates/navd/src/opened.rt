@@ -11,6 +11,9 @@ pub struct Opened<'a, R> {
 }
 
 impl<'a, R: Read> Read for Opened<'a, R> {
+    /// What it will give is what the other will, so each read gives those bytes and no others.
+    ghost remaining = { λ opened. R.remaining opened.reader };
+
     fn read(&mut self, buf: &mut [u8]) -> io::Result<usize> {
         let n = self.reader.read(buf)?;
         if self.first.get() == 0 {

@@ -1,4 +1,4 @@
 use Rattle.navd.proofs.main.Given as goal
 
-abbrev pub ghosts-ended : goal.ghosts-ended
-ghosts-ended a b = record { name = b.blank.name; parts = b.blank.parts }
+abbrev pub ghosts-run_alone : goal.ghosts-run_alone
+ghosts-run_alone a b = record { name = b.blank.name; parts = b.blank.parts }
