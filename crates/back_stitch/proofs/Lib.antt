@@ -7,3 +7,11 @@ mod Reached
 mod CutFrom
 mod OnlyCut
 mod MovedNone
+mod Matched
+mod Applied
+mod Stood
+mod Searched
+mod Longer
+mod Listed
+mod Going
+mod InOrder

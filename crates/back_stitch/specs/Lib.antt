@@ -2,3 +2,6 @@ pub mod Cuts
 pub mod Lists
 pub mod Sources
 pub mod Laws
+pub mod Joined
+pub mod Paths
+pub mod Held

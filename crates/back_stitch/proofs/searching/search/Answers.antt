@@ -1,0 +1,106 @@
+-- The search goes on from one rule to the next, until none is left.
+use Rattle.std.proofs.Common.{◌≡◌, ◌∙◌, ◌-◌, ◌<◌, ◌+◌, ℕ, Err, List, [], refl, take, length, append-nil, ap, sym, subst}
+use Rattle.std.proofs.lemmas.Result.{err_from_is_err_and}
+use Rattle.stacks_vars.specs.declared.scopes.NodeAt.{NodeAt}
+use Rattle.partial_path.specs.declared.config.Spot.TheVariants.{At}
+use Rattle.partial_path.specs.Rules.{Rule}
+use Rattle.back_stitch.specs.declared.fault.BackFault.TheVariants.{Many}
+use Rattle.back_stitch.specs.Held.{HasExtended, IsOverfull}
+use Rattle.back_stitch.specs.Lists.{most_lists}
+use Rattle.back_stitch.proofs.Searched.{few}
+use Rattle.back_stitch.proofs.Going.{IsGoing, going_first, going_on, open_last, falls, many_first, many_on, none_left, rows_begin}
+use Rattle.back_stitch.proofs.searching.search.Goals as goal
+
+pub returns-in_err-extend-clause-many : goal.returns-in_err-extend-clause-many
+returns-in_err-extend-clause-many g c h =
+    let files = g.P.BackSource.files c.args.source.now in
+    let d = c.args.definition in
+    let fault = err_from_is_err_and c.from_residual.result c.from_residual.ensures.1 in
+    let was : c.extend.result ≡ Err Many = cc (fault.1, fault.2, c.in_err-extend.was, h) in
+    many_first files d c.are_sources.ensures c.requires.definition (g.P.BackSource.listed c.args.source.now (At d)) c.extend.ensures.listed
+    (subst (λ (n : ℕ). IsOverfull files d [] (g.P.BackSource.listed c.args.source.now (At d)) n) c.new-tally.ensures.count (c.extend.ensures.many was d [] c.requires.definition (refl, refl)))
+
+pub loop-path-init : goal.loop-path-init
+loop-path-init g c =
+    let files = g.P.BackSource.files c.args.source.now in
+    let d = c.args.definition in
+    let listed = g.P.BackSource.listed c.args.source.now (At d) in record {
+      few = c.in_ok-extend.ensures.few;
+      going = λ sources at.
+          going_first files d sources at listed c.extend.new.tally.count c.extend.new.tally.rows.items c.extend.new.work.items c.extend.ensures.listed
+          (subst (λ (w : List Rule). HasExtended files d [] listed 0 c.extend.new.tally.count [] c.extend.new.tally.rows.items w c.extend.new.work.items) c.new-work.ensures.items
+          (subst (λ (r : List NodeAt). HasExtended files d [] listed 0 c.extend.new.tally.count r c.extend.new.tally.rows.items c.new-work.result.items c.extend.new.work.items) c.new-tally.ensures.rows
+          (subst (λ (n : ℕ). HasExtended files d [] listed n c.extend.new.tally.count c.new-tally.result.rows.items c.extend.new.tally.rows.items c.new-work.result.items c.extend.new.work.items) c.new-tally.ensures.count
+          (c.in_ok-extend.ensures.extended d [] at (refl, refl)))));
+    }
+
+pub go_on-requires-clause-short : goal.go_on-requires-clause-short
+go_on-requires-clause-short g c =
+    let files = g.P.BackSource.files c.args.source.now in
+    let d = c.args.definition in
+    let going = c.loop-path.invariant.going c.are_sources.ensures c.requires.definition in
+    (open_last files d c.are_sources.ensures c.requires.definition c.pop.new.self.items c.in-Some.path c.loop-path.tally.count c.loop-path.tally.rows.items
+    (subst (λ (w : List Rule). IsGoing files d c.are_sources.ensures c.requires.definition w c.loop-path.tally.count c.loop-path.tally.rows.items) c.in-Some.ensures.items going)).short
+
+pub go_on-requires-clause-low : goal.go_on-requires-clause-low
+go_on-requires-clause-low g c =
+    let files = g.P.BackSource.files c.args.source.now in
+    let d = c.args.definition in
+    let going = c.loop-path.invariant.going c.are_sources.ensures c.requires.definition in
+    (open_last files d c.are_sources.ensures c.requires.definition c.pop.new.self.items c.in-Some.path c.loop-path.tally.count c.loop-path.tally.rows.items
+    (subst (λ (w : List Rule). IsGoing files d c.are_sources.ensures c.requires.definition w c.loop-path.tally.count c.loop-path.tally.rows.items) c.in-Some.ensures.items going)).low
+
+pub loop-path-smaller : goal.loop-path-smaller
+loop-path-smaller g c =
+    let files = g.P.BackSource.files c.args.source.now in
+    let d = c.args.definition in
+    let going = c.loop-path.invariant.going c.are_sources.ensures c.requires.definition in
+    subst (λ (w : List Rule). (most_lists - c.go_on.new.tally.count) + length c.go_on.new.work.items < (most_lists - c.loop-path.tally.count) + length w) (sym c.in-Some.ensures.items)
+    (falls files d c.are_sources.ensures c.requires.definition (g.P.BackSource.listed c.args.source.now) c.pop.new.self.items c.go_on.new.work.items c.in-Some.path c.loop-path.tally.count c.go_on.new.tally.count c.loop-path.tally.rows.items c.go_on.new.tally.rows.items
+    (subst (λ (w : List Rule). IsGoing files d c.are_sources.ensures c.requires.definition w c.loop-path.tally.count c.loop-path.tally.rows.items) c.in-Some.ensures.items going)
+    (λ paths held. c.in_ok-go_on.ensures.gone d paths c.requires.definition held) c.in_ok-go_on.ensures.few)
+
+pub loop-path-preserved : goal.loop-path-preserved
+loop-path-preserved g c =
+    let files = g.P.BackSource.files c.args.source.now in
+    let d = c.args.definition in record {
+      few = c.in_ok-go_on.ensures.few;
+      going = λ sources at.
+          going_on files d sources at (g.P.BackSource.listed c.args.source.now) c.pop.new.self.items c.go_on.new.work.items c.in-Some.path c.loop-path.tally.count c.go_on.new.tally.count c.loop-path.tally.rows.items c.go_on.new.tally.rows.items
+          c.go_on.ensures.listed
+          (subst (λ (w : List Rule). IsGoing files d sources at w c.loop-path.tally.count c.loop-path.tally.rows.items) c.in-Some.ensures.items (c.loop-path.invariant.going sources at))
+          (λ paths held. c.in_ok-go_on.ensures.gone d paths at held);
+    }
+
+pub returns-in_err-go_on-clause-many : goal.returns-in_err-go_on-clause-many
+returns-in_err-go_on-clause-many g c h =
+    let files = g.P.BackSource.files c.args.source.now in
+    let d = c.args.definition in
+    let fault = err_from_is_err_and c.from_residual-in_err-go_on.result c.from_residual-in_err-go_on.ensures.1 in
+    let was : c.go_on.result ≡ Err Many = cc (fault.1, fault.2, c.in_err-go_on.was, h) in
+    many_on files d c.are_sources.ensures c.requires.definition (g.P.BackSource.listed c.args.source.now) c.pop.new.self.items c.in-Some.path c.loop-path.tally.count c.loop-path.tally.rows.items
+    c.go_on.ensures.listed
+    (subst (λ (w : List Rule). IsGoing files d c.are_sources.ensures c.requires.definition w c.loop-path.tally.count c.loop-path.tally.rows.items) c.in-Some.ensures.items (c.loop-path.invariant.going c.are_sources.ensures c.requires.definition))
+    (λ paths held. c.go_on.ensures.many was d paths c.requires.definition held)
+
+pub returns-clause-begin : goal.returns-clause-begin
+returns-clause-begin g c =
+    let files = g.P.BackSource.files c.args.source.now in
+    let d = c.args.definition in
+    let none : c.loop-path.work.items ≡ [] =
+    c.in_default.ensures.items ∙ (append-nil c.pop.new.self.items
+    ∙ (c.in_default.ensures.rest ∙ ap (λ (n : ℕ). take (n - 1) c.loop-path.work.items) c.in_default.ensures.cases.0)) in
+    let (noted, rules, searched) = none_left files d c.are_sources.ensures c.requires.definition c.loop-path.work.items c.loop-path.tally.count c.loop-path.tally.rows.items none
+    (c.loop-path.invariant.going c.are_sources.ensures c.requires.definition) in
+    rows_begin files d c.are_sources.ensures c.requires.definition noted rules c.loop-path.tally.count c.loop-path.tally.rows.items searched
+
+pub returns-clause-few : goal.returns-clause-few
+returns-clause-few g c =
+    let files = g.P.BackSource.files c.args.source.now in
+    let d = c.args.definition in
+    let none : c.loop-path.work.items ≡ [] =
+    c.in_default.ensures.items ∙ (append-nil c.pop.new.self.items
+    ∙ (c.in_default.ensures.rest ∙ ap (λ (n : ℕ). take (n - 1) c.loop-path.work.items) c.in_default.ensures.cases.0)) in
+    let (noted, rules, searched) = none_left files d c.are_sources.ensures c.requires.definition c.loop-path.work.items c.loop-path.tally.count c.loop-path.tally.rows.items none
+    (c.loop-path.invariant.going c.are_sources.ensures c.requires.definition) in
+    few files d c.are_sources.ensures noted rules c.loop-path.tally.count c.loop-path.tally.rows.items c.requires.definition searched c.loop-path.invariant.few

@@ -1,0 +1,95 @@
+//! All stored paths that may end at a spot, in front of what is known.
+ghost use Rattle.std.specs.Prelude.{◌≡◌, ◌≤◌, ◌∷◌, [], ℕ, List, All, Err, IfOk, IfSome, OnOk, IsTrue, IsPermutation, option_copied, true};
+ghost use Rattle.graph_nodes.specs.Whole.{is_definition_of};
+ghost use Rattle.stacks_vars.specs.declared.scopes.NodeAt.{NodeAt};
+ghost use Rattle.partial_path.specs.declared.config.Spot.{Spot};
+ghost use Rattle.partial_path.specs.Rules.{Rule};
+ghost use Rattle.partial_path.specs.Moved.{moved};
+ghost use Rattle.partial_path.specs.Cutting.{IsStoredIn};
+ghost use Rattle.partial_path.specs.Sources.{IsSourceFile, graphs_of};
+ghost use Rattle.back_stitch.specs.Lists.{most_lists};
+ghost use Rattle.back_stitch.specs.Sources.{may_end_at, rules_to};
+ghost use Rattle.back_stitch.specs.Held.{IsBack, IsBehind, IsOutcome, IsOpen, HasExtended, IsOverfull};
+
+use crate::fault::BackFault;
+use crate::join::{first_of, join_left};
+use crate::source::BackSource;
+use crate::tally::Tally;
+use partial_path::{PartialPath, Spot};
+use std::alloc::{AllocError, Global};
+
+/// What comes of a stored path in front of what is known: of one that may end at the definition, where nothing is
+/// known.
+fn outcome<P: BackSource>(
+    alloc: Global,
+    source: &P,
+    file: u32,
+    path: &PartialPath,
+    behind: Option<&PartialPath>,
+) -> Result<Option<PartialPath>, AllocError>
+    requires sources { All IsSourceFile (P.files source.now) }
+    requires stored { IsStoredIn (P.files source.now) (file, path.now) }
+    requires open { IfSome (option_copied behind) IsOpen }
+    ensures { IfOk result (λ found. (d : NodeAt) (paths : List (ℕ × Rule)) (at : Spot) → IsTrue (is_definition_of (graphs_of (P.files source.now)) d.file d.node) → IsBehind (P.files source.now) d paths at (option_copied behind.entry) → may_end_at (graphs_of (P.files source.now)) at (moved file path.now) ≡ true → IsOutcome (P.files source.now) d ((file, path.now) ∷ paths) found) }
+{
+    match behind {
+        Some(behind) => join_left(alloc, source, file, path, behind),
+        None => first_of(alloc, source, file, path),
+    }
+}
+
+/// Tries a stored path in front of what is known, and notes and keeps what comes of it.
+fn try_path<P: BackSource>(
+    alloc: Global,
+    source: &P,
+    file: u32,
+    path: &PartialPath,
+    behind: Option<&PartialPath>,
+    work: &mut Vec<PartialPath>,
+    tally: &mut Tally,
+) -> Result<(), BackFault>
+    requires sources { All IsSourceFile (P.files source.now) }
+    requires stored { IsStoredIn (P.files source.now) (file, path.now) }
+    requires open { IfSome (option_copied behind) IsOpen }
+    requires few { tally.old.count ≤ most_lists }
+    ensures tried { OnOk result ((d : NodeAt) (paths : List (ℕ × Rule)) (at : Spot) → IsTrue (is_definition_of (graphs_of (P.files source.now)) d.file d.node) → IsBehind (P.files source.now) d paths at (option_copied behind.entry) → may_end_at (graphs_of (P.files source.now)) at (moved file path.now) ≡ true → HasExtended (P.files source.now) d paths ((file, path.now) ∷ []) tally.old.count tally.new.count tally.old.rows.items tally.new.rows.items work.old.items work.new.items) }
+    ensures few { OnOk result (tally.new.count ≤ most_lists) }
+    ensures full { result ≡ Err BackFault.Many → tally.old.count ≡ most_lists }
+    ensures back { result ≡ Err BackFault.Many → (d : NodeAt) (paths : List (ℕ × Rule)) (at : Spot) → IsTrue (is_definition_of (graphs_of (P.files source.now)) d.file d.node) → IsBehind (P.files source.now) d paths at (option_copied behind.entry) → may_end_at (graphs_of (P.files source.now)) at (moved file path.now) ≡ true → IsBack (P.files source.now) d ((file, path.now) ∷ paths) }
+{
+    let Some(found) = outcome(alloc, source, file, path, behind)? else {
+        return Ok(());
+    };
+    tally.note(&found)?;
+    work.push(found)?;
+    Ok(())
+}
+
+/// Tries each path that may end at the spot in front of what is known, and notes and keeps what comes of them.
+pub fn extend<P: BackSource>(
+    alloc: Global,
+    source: &P,
+    spot: Spot,
+    behind: Option<&PartialPath>,
+    work: &mut Vec<PartialPath>,
+    tally: &mut Tally,
+) -> Result<(), BackFault>
+    requires sources { All IsSourceFile (P.files source.now) }
+    requires open { IfSome (option_copied behind) IsOpen }
+    requires few { tally.old.count ≤ most_lists }
+    ensures extended { OnOk result ((d : NodeAt) (paths : List (ℕ × Rule)) → IsTrue (is_definition_of (graphs_of (P.files source.now)) d.file d.node) → IsBehind (P.files source.now) d paths spot (option_copied behind.entry) → HasExtended (P.files source.now) d paths (P.listed source.now spot) tally.old.count tally.new.count tally.old.rows.items tally.new.rows.items work.old.items work.new.items) }
+    ensures few { OnOk result (tally.new.count ≤ most_lists) }
+    ensures many { result ≡ Err BackFault.Many → (d : NodeAt) (paths : List (ℕ × Rule)) → IsTrue (is_definition_of (graphs_of (P.files source.now)) d.file d.node) → IsBehind (P.files source.now) d paths spot (option_copied behind.entry) → IsOverfull (P.files source.now) d paths (P.listed source.now spot) tally.old.count }
+    ensures listed { IsPermutation (rules_to (P.files source.now) spot) (P.listed source.now spot) }
+{
+    let mut k = 0;
+    while let Some(found) = source.path_to(&spot, k) {
+        // No source has so many paths.
+        let Some(next) = k.checked_add(1) else {
+            return Err(BackFault::NoMemory);
+        };
+        try_path(alloc, source, found.0, found.1, behind, work, tally)?;
+        k = next;
+    }
+    Ok(())
+}
