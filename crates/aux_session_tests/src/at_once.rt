@@ -89,21 +89,10 @@ fn missed<R: Threads + Sync>(rt: &R, alloc: Global) -> Result<(u64, u64), Fail> 
     missed_on::<_, Brand>(rt, alloc, Blank::new(1))
 }
 
-/// How many jobs meet no other one on this machine: on one processor there is one thread, so the first job doesn't.
-fn lonely<R: Threads>(rt: &R) -> Result<u64, Fail> {
-    Ok(u64::from(available_parallelism(rt)?.get() == 1))
-}
-
+/// On one processor there is one thread, so the first job meets no other one.
 #[test]
-fn two_documents_are_worked_on_at_once(rt: HostRuntime) -> Result<(), Fail> {
-    let (indexed, _) = missed(&rt, rt.alloc())?;
-    assert_eq!(rt; indexed, lonely(&rt)?);
-    Ok(())
-}
-
-#[test]
-fn two_references_are_asked_at_once(rt: HostRuntime) -> Result<(), Fail> {
-    let (_, asked) = missed(&rt, rt.alloc())?;
-    assert_eq!(rt; asked, lonely(&rt)?);
+fn documents_and_references_are_worked_on_at_once(rt: HostRuntime) -> Result<(), Fail> {
+    let lonely = u64::from(available_parallelism(&rt)?.get() == 1);
+    assert_eq!(rt; missed(&rt, rt.alloc())?, (lonely, lonely));
     Ok(())
 }

@@ -6,7 +6,7 @@ use graph_nodes::{GraphFault, Name};
 use index_gate::{FileFault, IndexFault, ReadFault};
 use nav_answers::AskFault;
 use nav_io::{Failed, HouseFault};
-use nav_proto::{ProtoFault, ReplyText};
+use nav_proto::ProtoFault;
 use partial_path::PathFault;
 use py_graph::TransFault;
 use py_subset::PyFault;
@@ -15,7 +15,7 @@ use std::fmt;
 use std::test::Fail;
 use stitcher::StitchFault;
 use version_board::CommitFault;
-use version_tree::{EditFault, PathText, UserText};
+use version_tree::EditFault;
 use whole_search::SearchFault;
 
 /// What the faults say, those of the layers below first.
@@ -61,13 +61,7 @@ memory was refused
 memory was refused
 there is none of this user and prefix
 memory was refused
-a.py is put or removed twice
-there is no file a.py
-ann has no grant of lib
-ann has no deny of lib
-2049 files are too many
 a weight of 10 is too much
-the versions have no more numbers
 memory was refused
 the head is 3
 the versions have no more numbers
@@ -81,8 +75,6 @@ there is no reference
 there is no definition
 a reference has too many runs
 memory was refused
-the line isn't JSON
-the field do is wrong
 memory was refused
 the outside refused the call
 memory was refused
@@ -138,6 +130,14 @@ fn say_files(alloc: Global, said: &mut String) -> Result<(), Fail> {
     say(alloc, said, &names)
 }
 
+/// That a document has a fault.
+fn bad_file(alloc: Global) -> Result<IndexFault, Fail> {
+    Ok(IndexFault::BadFile {
+        path: Name::of(alloc, "a.py")?,
+        fault: FileFault::UnknownKind,
+    })
+}
+
 /// Those of paths and of documents.
 fn say_documents(alloc: Global, said: &mut String) -> Result<(), Fail> {
     say(alloc, said, &[PathFault::BadTail(2), PathFault::PeakLow])?;
@@ -151,50 +151,15 @@ fn say_documents(alloc: Global, said: &mut String) -> Result<(), Fail> {
         FileFault::Heavy(1),
     ];
     say(alloc, said, &files)?;
-    let indexed = [
-        IndexFault::BadFile {
-            path: Name::of(alloc, "a.py")?,
-            fault: FileFault::UnknownKind,
-        },
-        IndexFault::NoMemory,
-    ];
-    say(alloc, said, &indexed)?;
+    say(alloc, said, &[bad_file(alloc)?, IndexFault::NoMemory])?;
     let read = [ReadFault::File(FileFault::TooLarge(9)), ReadFault::NoMemory];
     say(alloc, said, &read)
 }
 
-/// The fault that a grant, or a deny, of ann isn't there.
-fn absent_rule(alloc: Global, denies: bool) -> Result<EditFault, Fail> {
-    let user = UserText::of(alloc, "ann")?;
-    let prefix = PathText::of(alloc, "lib")?;
-    if denies {
-        return Ok(EditFault::DenyAbsent(user, prefix));
-    }
-    Ok(EditFault::GrantAbsent(user, prefix))
-}
-
-/// Those of versions and of boards.
+/// Those of versions and of boards; most faults of edits are told by the versions that have them.
 fn say_versions(alloc: Global, said: &mut String) -> Result<(), Fail> {
     say(alloc, said, &[GrantFault::Absent, GrantFault::NoMemory])?;
-    say(
-        alloc,
-        said,
-        &[EditFault::Twice(PathText::of(alloc, "a.py")?)],
-    )?;
-    say(
-        alloc,
-        said,
-        &[EditFault::Absent(PathText::of(alloc, "a.py")?)],
-    )?;
-    say(alloc, said, &[absent_rule(alloc, false)?])?;
-    say(alloc, said, &[absent_rule(alloc, true)?])?;
-    let edits = [
-        EditFault::TooManyFiles(2049),
-        EditFault::TooHeavy(10),
-        EditFault::Spent,
-        EditFault::NoMemory,
-    ];
-    say(alloc, said, &edits)?;
+    say(alloc, said, &[EditFault::TooHeavy(10), EditFault::NoMemory])?;
     let commits = [
         CommitFault::Stale(3),
         CommitFault::Edit(EditFault::Spent),
@@ -215,12 +180,7 @@ fn say_answers(alloc: Global, said: &mut String) -> Result<(), Fail> {
         AskFault::NoMemory,
     ];
     say(alloc, said, &answers)?;
-    let lines = [
-        ProtoFault::BadJson,
-        ProtoFault::BadRequest(ReplyText::of(alloc, "do")?),
-        ProtoFault::NoMemory,
-    ];
-    say(alloc, said, &lines)?;
+    say(alloc, said, &[ProtoFault::NoMemory])?;
     say(alloc, said, &[HouseFault::Failed, HouseFault::NoMemory])?;
     say(alloc, said, &[Failed])
 }

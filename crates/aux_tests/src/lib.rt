@@ -8,12 +8,6 @@ mod faults;
 #[cfg(test)]
 mod indexed;
 #[cfg(test)]
-mod meeting;
-#[cfg(test)]
 mod paths;
 #[cfg(test)]
-mod queries;
-#[cfg(test)]
 mod roots;
-#[cfg(test)]
-mod searched;

@@ -28,15 +28,19 @@ const STACKS: [&str; 8] = [
 /// No look-up here gives so many paths.
 const PATHS: u32 = 10_000;
 
+/// Puts a file with the graph of that digit at the path.
+fn put(alloc: Global, path: &str, digit: usize) -> Result<Edit, Fail> {
+    let graph = GRAPHS.get(digit).copied().unwrap_or("scope");
+    let path = PathText::of(alloc, path)?;
+    let paths = paths_of(alloc, graph)?;
+    Ok(Edit::Put { path, paths })
+}
+
 /// The edit that a word stands for: `PATH=DIGIT` puts a file with the graph of that digit, `!PATH` grants ann
 /// what is under the path, and `PATH` alone removes the file.
 fn edit_of(alloc: Global, word: &str) -> Result<Edit, Fail> {
     if let Some((path, digit)) = word.split_once('=') {
-        let number: usize = digit.parse()?;
-        let graph = GRAPHS.get(number).copied().unwrap_or("scope");
-        let path = PathText::of(alloc, path)?;
-        let paths = paths_of(alloc, graph)?;
-        return Ok(Edit::Put { path, paths });
+        return put(alloc, path, digit.parse()?);
     }
     if let Some(prefix) = word.strip_prefix('!') {
         let user = UserText::of(alloc, "ann")?;
@@ -47,11 +51,31 @@ fn edit_of(alloc: Global, word: &str) -> Result<Edit, Fail> {
     Ok(Edit::Remove { path })
 }
 
-/// The edits that the words of a line stand for.
+/// Puts the numbered files from the first on, below the end, each with the graph of a digit of its number, or, as
+/// in `0..100=3`, all with that of one digit.
+fn push_numbered(
+    alloc: Global,
+    edits: &mut Vec<Edit>,
+    first: &str,
+    rest: &str,
+) -> Result<(), Fail> {
+    let (end, digit) = rest.split_once('=').unwrap_or((rest, ""));
+    let (first, end): (usize, usize) = (first.parse()?, end.parse()?);
+    for number in first..end {
+        let path = format!(in alloc; "f{number:03}")?;
+        edits.push(put(alloc, path.as_str(), digit.parse().unwrap_or(number % 5))?)?;
+    }
+    Ok(())
+}
+
+/// The edits that the words of a line stand for; `190..290` puts numbered files.
 fn edits_of(alloc: Global, line: &str) -> Result<Vec<Edit>, Fail> {
     let mut edits = Vec::new(alloc);
     for word in line.split(' ') {
-        edits.push(edit_of(alloc, word)?)?;
+        match word.split_once("..") {
+            Some((first, rest)) => push_numbered(alloc, &mut edits, first, rest)?,
+            None => edits.push(edit_of(alloc, word)?)?,
+        }
     }
     Ok(edits)
 }
@@ -200,215 +224,71 @@ lib/b
 lib/a=0 lib/b=4
 app/d lib/e=1 lib/f=2";
 
+/// Many files, and then small steps: one file is put with another graph, and at each second one another is removed,
+/// if it is there.
+const STEPS: &str = "0..200
+f000=1
+f037=2 f063
+f074=3
+f111=4 f167
+f148=1
+f185=2 f071
+f022=3
+f059=4 f175
+f096=1
+f133=2 f079
+f170=3
+f007=4 f183
+f044=1
+f081=2 f087
+f118=3
+f155=4 f191
+f192=1
+f029=2 f095
+f066=3
+f103=4 f199
+f140=1
+f177=2 f103
+f014=3
+f051=4 f007
+f088=1
+f125=2 f111
+f162=3
+f199=4 f015
+f036=1
+f073=2 f119
+f110=3
+f147=4 f023
+f184=1
+f021=2 f127
+f058=3
+f095=4 f031
+f132=1
+f169=2 f135
+f006=3
+f043=4 f039
+f080=1
+f117=2 f143
+f154=3
+f191=4 f047
+f028=1
+f065=2 f151
+f102=3
+f139=4 f055
+f176=1
+f013=2 f159";
+
+/// Large commits of a version of 200 files: one that names few of the files that are there, one that names many, and
+/// one of more edits than are sorted behind the old paths.
+const LARGE: &str = "0..200
+190..290 f000 f010 f020 f030 f040 f050 f060 f070 f080 f090
+0..100=3
+0..600";
+
 #[test]
 fn amended_indexes_offer_what_a_filter_keeps(rt: HostRuntime) -> Result<(), Fail> {
-    assert_eq!(rt; right_steps(rt.alloc(), EDITS)?, 7);
-    Ok(())
-}
-
-/// The path of the file of that number.
-fn path_of(alloc: Global, number: u32) -> Result<PathText, Fail> {
-    let text = format!(in alloc;
-        "f{}{}{}.sg.json",
-        number / 100,
-        number / 10 % 10,
-        number % 10
-    )?;
-    Ok(PathText::of(alloc, text.as_str())?)
-}
-
-/// Puts so many files, from the first number on, with the graph of the number's digit, or all with this one.
-fn many(alloc: Global, count: u32, graph: Option<&str>) -> Result<Vec<Edit>, Fail> {
-    let mut edits = Vec::new(alloc);
-    for number in 0..count {
-        let digit = number as usize % 5;
-        let paths = paths_of(alloc, graph.unwrap_or(GRAPHS[digit]))?;
-        let path = path_of(alloc, number)?;
-        edits.push(Edit::Put { path, paths })?;
+    for (lines, count) in [(EDITS, 7), (STEPS, 51), (LARGE, 4)] {
+        assert_eq!(rt; right_steps(rt.alloc(), lines)?, count);
     }
-    Ok(edits)
-}
-
-/// The edits of a step: one file is put with the graph of a digit, and another removed, if it is there.
-fn step_of(alloc: Global, version: &Version, step: u32) -> Result<Vec<Edit>, Fail> {
-    let mut edits = Vec::new(alloc);
-    let digit = step as usize % 4 + 1;
-    let paths = paths_of(alloc, GRAPHS[digit])?;
-    let path = path_of(alloc, step % 50 * 37 % 200)?;
-    edits.push(Edit::Put { path, paths })?;
-    let path = path_of(alloc, (step % 50 * 52 + 11) % 200)?;
-    if step % 2 == 1 && version.paths_at(path.as_str()).is_some() {
-        edits.push(Edit::Remove { path })?;
-    }
-    Ok(edits)
-}
-
-/// How many of fifty steps, from a version of 200 files on, are followed by indexes that offer what they have
-/// to.
-fn right_of_fifty(alloc: Global) -> Result<u32, Fail> {
-    let first = many(alloc, 200, None)?;
-    let mut kept = Kept::new(alloc).amended(alloc, first.as_slice())?;
-    let mut right: u32 = 0;
-    for step in 0..50 {
-        let edits = step_of(alloc, &kept.version, step)?;
-        kept = kept.amended(alloc, edits.as_slice())?;
-        right = right.saturating_add(kept.is_right(alloc)? as u32);
-    }
-    Ok(right)
-}
-
-#[test]
-fn fifty_steps_of_many_files_stay_right(rt: HostRuntime) -> Result<(), Fail> {
-    assert_eq!(rt; right_of_fifty(rt.alloc())?, 50);
-    Ok(())
-}
-
-/// A commit of 110 edits of a version of the first 200 files: 100 files are put, of which ten are there, and ten
-/// others are removed.
-fn large(alloc: Global) -> Result<Vec<Edit>, Fail> {
-    let mut edits = Vec::new(alloc);
-    for number in 190..290 {
-        let paths = paths_of(alloc, GRAPHS[number as usize % 4 + 1])?;
-        let path = path_of(alloc, number)?;
-        edits.push(Edit::Put { path, paths })?;
-    }
-    for number in 0..10 {
-        let path = path_of(alloc, number * 10)?;
-        edits.push(Edit::Remove { path })?;
-    }
-    Ok(edits)
-}
-
-/// How many of three large commits, from a version of 200 files on, are followed by indexes that offer what they
-/// have to: one that names few of the files that are there, one that names many, and one of more edits than are
-/// sorted behind the old paths.
-fn right_of_large(alloc: Global) -> Result<u32, Fail> {
-    let first = many(alloc, 200, None)?;
-    let kept = Kept::new(alloc).amended(alloc, first.as_slice())?;
-    let edits = large(alloc)?;
-    let kept = kept.amended(alloc, edits.as_slice())?;
-    let few = kept.is_right(alloc)?;
-    let edits = many(alloc, 100, Some(GRAPHS[3]))?;
-    let kept = kept.amended(alloc, edits.as_slice())?;
-    let known = kept.is_right(alloc)?;
-    let edits = many(alloc, 600, None)?;
-    let kept = kept.amended(alloc, edits.as_slice())?;
-    let right = kept.is_right(alloc)?;
-    Ok(few as u32 + known as u32 + right as u32)
-}
-
-#[test]
-fn large_commits_stay_right(rt: HostRuntime) -> Result<(), Fail> {
-    assert_eq!(rt; right_of_large(rt.alloc())?, 3);
-    Ok(())
-}
-
-/// How many paths a look at those that ask for `a` first gives, where they come in the order of their files.
-fn looked(alloc: Global, kept: &Kept) -> Result<u32, Fail> {
-    let view = kept.version.view(alloc, "operator")?;
-    let stacks = stacks_of(alloc, "a|")?;
-    let symbol = stacks.symbols.reversed().get(0).map(|item| &item.symbol);
-    let mut at = kept.index.look(symbol, &view);
-    let mut count: u32 = 0;
-    for _ in 0..PATHS {
-        let Some(next) = kept.index.next_path(symbol, &view, at) else {
-            break;
-        };
-        at = next.2;
-        if next.0 == count {
-            count = count.saturating_add(1);
-        }
-    }
-    Ok(count)
-}
-
-/// The same of a version of 130 files, of that without one of them, and of that with it again.
-fn looked_at_130(alloc: Global) -> Result<(u32, u32, u32), Fail> {
-    let first = many(alloc, 130, Some(GRAPHS[1]))?;
-    let kept = Kept::new(alloc).amended(alloc, first.as_slice())?;
-    let all = looked(alloc, &kept)?;
-    let mut removed = Vec::new(alloc);
-    let path = path_of(alloc, 64)?;
-    removed.push(Edit::Remove { path })?;
-    let kept = kept.amended(alloc, removed.as_slice())?;
-    let without = looked(alloc, &kept)?;
-    let mut again = Vec::new(alloc);
-    let path = path_of(alloc, 64)?;
-    let paths = paths_of(alloc, GRAPHS[1])?;
-    again.push(Edit::Put { path, paths })?;
-    let kept = kept.amended(alloc, again.as_slice())?;
-    Ok((all, without, looked(alloc, &kept)?))
-}
-
-#[test]
-fn a_removed_file_is_missed_and_found_again(rt: HostRuntime) -> Result<(), Fail> {
-    assert_eq!(rt; looked_at_130(rt.alloc())?, (130, 129, 130));
-    Ok(())
-}
-
-/// The paths that are offered to ann's stack, each by its file's number and by how many symbols it asks for.
-fn told_offers(alloc: Global, kept: &Kept, stack: &str) -> Result<String, Fail> {
-    let stacks = stacks_of(alloc, stack)?;
-    let mut text = String::new(alloc);
-    for (file, asked, _) in offered(alloc, &kept.index, &kept.version, "ann", &stacks.symbols)? {
-        text.push_str(format!(in alloc; " {file}:{asked}")?.as_str())?;
-    }
-    Ok(text)
-}
-
-/// The paths that a look of ann at the stack's first symbol gives, in the same words.
-fn told_look(alloc: Global, kept: &Kept, stack: &str) -> Result<String, Fail> {
-    let view = kept.version.view(alloc, "ann")?;
-    let stacks = stacks_of(alloc, stack)?;
-    let symbol = stacks.symbols.reversed().last().map(|item| &item.symbol);
-    let mut at = kept.index.look(symbol, &view);
-    let mut text = String::new(alloc);
-    for _ in 0..PATHS {
-        let Some(next) = kept.index.next_path(symbol, &view, at) else {
-            break;
-        };
-        at = next.2;
-        let (file, asked, _) = told(next.0, next.1);
-        text.push_str(format!(in alloc; " {file}:{asked}")?.as_str())?;
-    }
-    Ok(text)
-}
-
-/// The lines of edits, from nothing on, each with what is offered to two stacks of ann, and what looks at their
-/// first symbols give, after it.
-fn told_lines(alloc: Global, lines: &str) -> Result<String, Fail> {
-    let mut kept = Kept::new(alloc);
-    let mut text = String::new(alloc);
-    for line in lines.split('\n') {
-        let line = line.split_once(" => ").unwrap_or((line, "")).0;
-        let edits = edits_of(alloc, line)?;
-        kept = kept.amended(alloc, edits.as_slice())?;
-        text.push_str(line)?;
-        text.push_str(" =>")?;
-        for stack in &["a|", "bx|"] {
-            let offers = told_offers(alloc, &kept, stack)?;
-            let look = told_look(alloc, &kept, stack)?;
-            let told = format!(in alloc; " {stack}{offers} look{look},")?;
-            text.push_str(told.as_str())?;
-        }
-        text.push_str("\n")?;
-    }
-    Ok(text)
-}
-
-/// Files that ann isn't granted come and go, before, between and behind those that she sees, and nothing changes
-/// for her; then a file comes that she sees, and another goes.
-const UNSEEN: &str = "!lib lib/b=1 lib/c=2 => a| 0:1 look 0:1, bx| 1:2 look 1:2,
-aaa=1 lib0=2 => a| 0:1 look 0:1, bx| 1:2 look 1:2,
-zzz=1 app/d=2 aaa => a| 0:1 look 0:1, bx| 1:2 look 1:2,
-zzz lib0 app/d => a| 0:1 look 0:1, bx| 1:2 look 1:2,
-lib/a=1 => a| 0:1 1:1 look 0:1 1:1, bx| 2:2 look 2:2,
-lib/b zzz=2 => a| 0:1 look 0:1, bx| 1:2 look 1:2,
-";
-
-#[test]
-fn files_that_are_not_seen_change_no_look_up(rt: HostRuntime) -> Result<(), Fail> {
-    let lines = UNSEEN.trim_end();
-    assert_eq!(rt; told_lines(rt.alloc(), lines)?.as_str(), UNSEEN);
     Ok(())
 }

@@ -1,9 +1,7 @@
 //! What no clause says: that documents are kept with memory at hand, which are found and swept away, and a digest against
 //! one that another program made.
-use crate::bare::without_edges;
+use crate::bare::paths_of;
 use crate::tables::{Telling, others};
-use graph_nodes::{FileGraph, Node, NodeKind};
-use partial_path::SharedPaths;
 use path_store::{Digested, Document, PathStore};
 use std::alloc::Global;
 use std::test::Fail;
@@ -40,24 +38,6 @@ fn keep(alloc: Global, store: &mut PathStore, rest: &str) -> Result<(), Fail> {
     let paths = paths_of(alloc, count.parse()?)?;
     store.keep(alloc, &Digested::of(&document), paths)?;
     Ok(())
-}
-
-/// A file of so many nodes, at most 100, and no edges.
-fn paths_of(alloc: Global, count: u32) -> Result<SharedPaths, Fail> {
-    let mut nodes = Vec::new(alloc);
-    for _ in 0..count.min(100) {
-        nodes.push(Node {
-            kind: NodeKind::Drops,
-            span: None,
-        })?;
-    }
-    if nodes.len() > 100 {
-        return Err(Fail::new("too many nodes"));
-    }
-    match FileGraph::check(alloc, nodes, Vec::new(alloc)) {
-        Ok(graph) => Ok(SharedPaths::of(alloc, without_edges(alloc, graph))?),
-        Err(_) => Err(Fail::new("the nodes make no graph")),
-    }
 }
 
 fn found(alloc: Global, store: &PathStore, text: &str) -> Result<String, Fail> {

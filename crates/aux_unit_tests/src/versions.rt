@@ -1,8 +1,6 @@
 //! What no clause says: what versions tell, each made from the one before it, as a script.
 
-use crate::bare::without_edges;
-use graph_nodes::{FileGraph, Node, NodeKind};
-use partial_path::SharedPaths;
+use crate::bare::paths_of;
 use std::alloc::Global;
 use std::test::Fail;
 use version_tree::{Edit, EditList, PathText, UserText, Version, View};
@@ -124,24 +122,6 @@ see bob => nothing
 commit undeny ann lib/secret;undeny bob  => 4
 see ann => app/a lib/secret/c lib/secretary
 see bob => app/a lib/secret/ann/b lib/secret/c lib/secretary";
-
-/// A file of so many nodes and no edges.
-fn paths_of(alloc: Global, count: u32) -> Result<SharedPaths, Fail> {
-    let mut nodes = Vec::new(alloc);
-    for _ in 0..count {
-        nodes.push(Node {
-            kind: NodeKind::Drops,
-            span: None,
-        })?;
-    }
-    if nodes.len() > 100 {
-        return Err(Fail::new("too many nodes"));
-    }
-    match FileGraph::check(alloc, nodes, Vec::new(alloc)) {
-        Ok(graph) => Ok(SharedPaths::of(alloc, without_edges(alloc, graph))?),
-        Err(_) => Err(Fail::new("the nodes make no graph")),
-    }
-}
 
 fn number(text: &str) -> u32 {
     text.parse::<u32>().unwrap_or(0)
