@@ -1,7 +1,7 @@
 -- Symbols that are asked for, met one by one.
-use Rattle.std.proofs.Common.{◌≡◌, refl, sym, ◌∙◌, ap, ℕ, ◌+◌, ◌-◌, ◌<◌, ◌≤◌, List, [], ◌∷◌, ◌++◌, length, take, drop, reverse, map, Option, Some, None, get_or, arith, true, false}
+use Rattle.std.proofs.Common.{◌≡◌, refl, sym, ◌∙◌, ap, ℕ, ◌+◌, ◌-◌, ◌<◌, ◌≤◌, List, [], ◌∷◌, length, take, drop, reverse, map, Option, Some, None, get_or, arith, true, false}
 use Rattle.std.specs.Option.{option_map, option_and_then, is_some}
-use Rattle.std.proofs.lemmas.List.{drop_more, append_assoc, append-nil}
+use Rattle.std.proofs.lemmas.List.{drop_more}
 use Rattle.std.proofs.lemmas.Bool.{false≢true}
 use Rattle.std.proofs.Math.ListN.{drop_of_length-le}
 use Rattle.stacks_vars.specs.declared.scopes.NodeAt.{NodeAt}
@@ -11,65 +11,13 @@ use Rattle.partial_path.specs.Apply.{match_item, match_items}
 use Rattle.partial_path.specs.Moved.{moved_symbol}
 use Rattle.partial_path.proofs.Lefts.{last_first}
 
--- the rests so far, before those of the symbols left
-abbrev pub after_these : List (List NodeAt) → Option (List (List NodeAt)) → Option (List (List NodeAt))
-after_these rests left = option_map (λ (more : List (List NodeAt)). rests ++ more) left
-
-these_then : (rests : List (List NodeAt)) (r : List NodeAt) (left : Option (List (List NodeAt)))
-    → after_these rests (option_map (λ (more : List (List NodeAt)). r ∷ more) left) ≡ after_these (rests ++ r ∷ []) left
-these_then rests r None = refl
-these_then rests r (Some more) = ap Some (sym (append_assoc rests (r ∷ []) more))
-
-met_here : (pat : SymPat) (pats : List SymPat) (item : SymbolItem) (items : List SymbolItem) (r : List NodeAt) → match_item pat item ≡ Some r
-    → match_items (pat ∷ pats) (item ∷ items) ≡ option_map (λ (more : List (List NodeAt)). r ∷ more) (match_items pats items)
-met_here pat pats item items r e =
-    ap (option_and_then (λ (rest : List NodeAt). option_map (λ (more : List (List NodeAt)). rest ∷ more) (match_items pats items))) e
-
-not_met_here : (pat : SymPat) (pats : List SymPat) (item : SymbolItem) (items : List SymbolItem) → match_item pat item ≡ None
-    → match_items (pat ∷ pats) (item ∷ items) ≡ None
-not_met_here pat pats item items e =
-    ap (option_and_then (λ (rest : List NodeAt). option_map (λ (more : List (List NodeAt)). rest ∷ more) (match_items pats items))) e
-
 -- the patterns left, with the first of them apart
 split_asked : (base : ℕ) (asked : List SymPat) (i : ℕ) (d : SymPat) (items : List SymbolItem) → i < length asked
     → match_items (map (moved_symbol base) (drop i asked)) items
     ≡ match_items (moved_symbol base (get_or asked i d) ∷ map (moved_symbol base) (drop (i + 1) asked)) items
 split_asked base asked i d items a = ap (λ pats. match_items (map (moved_symbol base) pats) items) (drop_more asked i d a)
 
--- one symbol more is met
-pub met_more : (base : ℕ) (asked : List SymPat) (i : ℕ) (d : SymPat) (item : SymbolItem) (old items : List SymbolItem) (rests : List (List NodeAt)) (r : List NodeAt)
-    → i < length asked → old ≡ item ∷ items → match_item (moved_symbol base (get_or asked i d)) item ≡ Some r
-    → after_these rests (match_items (map (moved_symbol base) (drop i asked)) old) ≡ after_these (rests ++ r ∷ []) (match_items (map (moved_symbol base) (drop (i + 1) asked)) items)
-met_more base asked i d item old items rests r a o e =
-    ap (λ is. after_these rests (match_items (map (moved_symbol base) (drop i asked)) is)) o
-    ∙ ap (after_these rests) (split_asked base asked i d (item ∷ items) a ∙ met_here (moved_symbol base (get_or asked i d)) (map (moved_symbol base) (drop (i + 1) asked)) item items r e)
-    ∙ these_then rests r (match_items (map (moved_symbol base) (drop (i + 1) asked)) items)
-
--- one isn't
-pub met_no_more : (base : ℕ) (asked : List SymPat) (i : ℕ) (d : SymPat) (item : SymbolItem) (old items : List SymbolItem) (rests : List (List NodeAt))
-    → i < length asked → old ≡ item ∷ items → match_item (moved_symbol base (get_or asked i d)) item ≡ None
-    → after_these rests (match_items (map (moved_symbol base) (drop i asked)) old) ≡ None
-met_no_more base asked i d item old items rests a o e =
-    ap (λ is. after_these rests (match_items (map (moved_symbol base) (drop i asked)) is)) o
-    ∙ ap (after_these rests) (split_asked base asked i d (item ∷ items) a ∙ not_met_here (moved_symbol base (get_or asked i d)) (map (moved_symbol base) (drop (i + 1) asked)) item items e)
-
--- there are too few symbols
-pub none_to_meet : (base : ℕ) (asked : List SymPat) (i : ℕ) (d : SymPat) (old : List SymbolItem) (rests : List (List NodeAt)) → i < length asked → old ≡ []
-    → after_these rests (match_items (map (moved_symbol base) (drop i asked)) old) ≡ None
-none_to_meet base asked i d old rests a o =
-    ap (λ is. after_these rests (match_items (map (moved_symbol base) (drop i asked)) is)) o ∙ ap (after_these rests) (split_asked base asked i d [] a)
-
-these_alone : (rests : List (List NodeAt)) → after_these rests (Some []) ≡ Some rests
-these_alone rests = ap Some (append-nil rests)
-
--- all are met
-pub met_all : (base : ℕ) (asked : List SymPat) (i : ℕ) (items : List SymbolItem) (rests : List (List NodeAt)) → length asked ≤ i
-    → after_these rests (match_items (map (moved_symbol base) (drop i asked)) items) ≡ Some rests
-met_all base asked i items rests a =
-    ap (λ pats. after_these rests (match_items (map (moved_symbol base) pats) items)) (drop_of_length-le asked a) ∙ these_alone rests
-
--- the same, told only whether all are met
-
+-- whether all are met is told by the first and the others
 told_here : (m : Option (List NodeAt)) (left : Option (List (List NodeAt))) → is_some m ≡ true
     → is_some (option_and_then (λ (rest : List NodeAt). option_map (λ (more : List (List NodeAt)). rest ∷ more) left) m) ≡ is_some left
 told_here None left e = absurd (false≢true e)

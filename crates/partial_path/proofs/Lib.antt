@@ -1,6 +1,6 @@
 -- Which clause rests on which file. `PartialPath::check` on Firsts; `moved` on MovedRules and FileNumberLaws;
--- `meets`, `apply` and `apply_to` on Lefts, Asked and Put. `FilePaths::new`: order and keys on Pieces and KeyOrders,
--- its sets on Reordered; `paths_from`, `paths_asking` and `next_offer` on Halved, StartRuns and Narrowed;
+-- `meets` on Lefts and Asked, `apply` and `apply_met` on Leaving and Put. `FilePaths::new`: order and keys on Pieces
+-- and KeyOrders, its sets on Reordered; `paths_from`, `paths_asking` and `next_offer` on Halved, StartRuns and Narrowed;
 -- `next_offer` on Offered, which Orders, KeyOrders, Asking and Standing serve. `FileList` on Asking and Listing;
 -- `is_cut_edge` on Edges.
 -- The laws: of one file, Prefixes, Cycles, Edgeless; of moved paths, SwappedRuns, FileNumberLaws; of offers,
@@ -16,6 +16,7 @@ pub mod Cycles
 pub mod Firsts
 pub mod Lefts
 pub mod Put
+pub mod Leaving
 pub mod Asked
 pub mod Orders
 pub mod Reordered

@@ -17,3 +17,4 @@ pub mod Inside
 pub mod Sources
 pub mod Offers
 pub mod Cutting
+pub mod Left

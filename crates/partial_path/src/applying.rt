@@ -1,23 +1,23 @@
-ghost use Rattle.std.specs.Prelude.{◌≡◌, ◌&&◌, All, IfOk, IsTrue};
-ghost use Rattle.std.specs.Option.{option_map, is_some};
+ghost use Rattle.std.specs.Prelude.{◌≡◌, ◌&&◌, drop, length, All, IfOk, IsTrue};
+ghost use Rattle.std.specs.Option.{is_some};
 ghost use Rattle.partial_path.specs.Same.{spot_eq};
 ghost use Rattle.partial_path.specs.Rules.{start_spot};
-ghost use Rattle.partial_path.specs.Apply.{match_stacks, rewrite, end_at, apply};
+ghost use Rattle.partial_path.specs.Apply.{match_stacks, fill, end_at, apply};
+ghost use Rattle.partial_path.specs.Left.{left_in};
 ghost use Rattle.partial_path.specs.Moved.{moved, moved_spot, moved_start, moved_pre, moved_post, moved_end, Fits, FitsSpot, FitsEnd, FitsSymbol, FitsNode};
 
 use crate::config::{Config, Spot};
-use crate::filling::{Rests, last_scopes, moved_node, put_symbols};
-use crate::matching::{is_moved, meets_items, meets_scopes, rest_of, rests_of_items};
+use crate::filling::{Met, filled_scopes, filled_symbols, moved_node};
+use crate::matching::{is_moved, meets_items, meets_scopes};
 use crate::path::PartialPath;
 use crate::rule::{End, Start};
-use stacks_vars::{Post, Pre, Stacks, jump};
+use stacks_vars::{Post, Stacks, jump};
 use std::alloc::{AllocError, Global};
 
 impl PartialPath {
     /// The path with `base` added to each file number, applied to the configuration; None where the
     /// configuration isn't at its start, doesn't meet its precondition, or has no scope by which the path
-    /// could end. The one error is want of memory. What isn't met is refused at the cost of the pattern;
-    /// the stacks are copied only for a path that applies.
+    /// could end. The one error is want of memory. What isn't met is refused at the cost of the pattern.
     pub fn apply(&self, alloc: Global, base: u32, at: &Config) -> Result<Option<Config>, AllocError>
         requires { Fits base self.now }
         ensures { IfOk result (λ next. next ≡ apply (moved base self.now) at.now) }
@@ -25,27 +25,28 @@ impl PartialPath {
         if !self.meets(base, at) {
             return Ok(None);
         }
-        self.apply_to(alloc, base, at.copy(alloc)?)
+        self.apply_met(alloc, base, at)
     }
 
-    /// As `apply`, on a configuration that is taken over: it costs what the pattern and the postcondition
-    /// cost, and copies no rest of a stack that is used once, last, as the scope stack.
-    pub fn apply_to(
+    /// As `apply`, to a configuration that is met, which isn't looked at again: None only where it has no scope
+    /// by which the path ends. It costs what the postcondition and copies of what is left cost: of the symbols
+    /// behind those that are asked for, and of those scopes alone that are used.
+    pub fn apply_met(
         &self,
         alloc: Global,
         base: u32,
-        at: Config,
+        at: &Config,
     ) -> Result<Option<Config>, AllocError>
-        requires { Fits base self.now }
-        ensures { IfOk result (λ next. next ≡ apply (moved base self.now) at) }
+        requires fits { Fits base self.now }
+        requires met { IsTrue (spot_eq (start_spot (moved_start base self.now.start)) at.now.spot && is_some (match_stacks (moved_pre base self.now.pre) at.now.stacks)) }
+        ensures { IfOk result (λ next. next ≡ apply (moved base self.now) at.now) }
     {
-        if !begins_at(base, self.start(), at.spot) {
-            return Ok(None);
-        }
-        match rewrite(alloc, base, self.pre(), self.post(), at.stacks)? {
-            Some(stacks) => Ok(end_at(base, self.end(), stacks)),
-            None => Ok(None),
-        }
+        let met = Met {
+            pre: self.pre(),
+            stacks: &at.stacks,
+        };
+        let stacks = fill_met(alloc, base, &met, self.post())?;
+        Ok(end_at(base, self.end(), stacks))
     }
 
     /// Whether the configuration is at the path's start, moved by `base`, and meets its precondition. It
@@ -71,30 +72,15 @@ fn begins_at(base: u32, start: Start, at: Spot) -> bool
     }
 }
 
-/// What a rule of this precondition and postcondition, moved by `base`, makes of the stacks; None where
-/// they don't meet the precondition.
-fn rewrite(
-    alloc: Global,
-    base: u32,
-    pre: &Pre,
-    post: &Post,
-    stacks: Stacks,
-) -> Result<Option<Stacks>, AllocError>
+/// What a rule of this postcondition, moved by `base`, makes of stacks that meet its precondition.
+fn fill_met(alloc: Global, base: u32, met: &Met, post: &Post) -> Result<Stacks, AllocError>
     requires symbols { All (FitsSymbol base) post.now.symbols }
     requires scopes { All (FitsNode base) post.now.scopes.scopes }
-    ensures { IfOk result (λ next. next ≡ rewrite (moved_pre base pre.now) (moved_post base post.now) stacks) }
+    ensures { IfOk result (λ next. next ≡ fill (left_in met.now.pre.now met.now.stacks.now) (moved_post base post.now) (drop (length met.now.pre.now.symbols) met.now.stacks.now.symbols)) }
 {
-    let Some(front) = rest_of(base, &pre.scopes, stacks.scopes) else {
-        return Ok(None);
-    };
-    let mut symbols = stacks.symbols;
-    let Some(items) = rests_of_items(alloc, base, pre.symbols.items(), &mut symbols)? else {
-        return Ok(None);
-    };
-    let rests = Rests { front, items };
-    put_symbols(alloc, base, &rests, post.symbols.items(), &mut symbols)?;
-    let scopes = last_scopes(alloc, base, rests, &post.scopes)?;
-    Ok(Some(Stacks { symbols, scopes }))
+    let symbols = filled_symbols(alloc, base, met, post.symbols.items())?;
+    let scopes = filled_scopes(alloc, base, met, &post.scopes)?;
+    Ok(Stacks { symbols, scopes })
 }
 
 /// Where a path with this end, moved by `base`, stands with these stacks; None where it ends by the stack

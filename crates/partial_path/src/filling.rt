@@ -1,50 +1,85 @@
-ghost use Rattle.std.specs.Prelude.{◌≡◌, ◌≤◌, ◌+◌, ◌++◌, map, All, IfOk, OnOk};
-ghost use Rattle.partial_path.specs.Apply.{rests_of, tail_scopes, fill_scopes, fill_item};
+ghost use Rattle.std.specs.Prelude.{◌≡◌, ◌≤◌, ◌+◌, ◌++◌, [], map, drop, length, All, IfOk, OnOk, slice_get};
+ghost use Rattle.std.specs.Option.{option_map_or};
+ghost use Rattle.partial_path.specs.Apply.{tail_scopes, fill_scopes, fill_item};
+ghost use Rattle.partial_path.specs.Left.{left_scopes, left_attached, left_items, left_in};
 ghost use Rattle.partial_path.specs.Moved.{moved_node, moved_scopes_out, moved_symbol_out, FitsNode, FitsSymbol};
 
-use stacks_vars::{NodeAt, ScopeOut, ScopeStack, SymOut, SymbolItem, SymbolStack, Tail};
+use stacks_vars::{
+    NodeAt, Pre, ScopeOut, ScopePat, ScopeStack, Stacks, SymOut, SymPat, SymbolItem, SymbolStack,
+    Tail,
+};
 use std::alloc::{AllocError, Global};
 
-/// What a rule's variables stand for: the rest of the scope stack, and for each symbol of the
-/// precondition the rest of its attached scopes.
-#[derive(Drop)]
-pub struct Rests {
-    pub front: ScopeStack,
-    pub items: Vec<ScopeStack>,
+/// A rule's precondition, and stacks that meet it: what the rule's variables stand for is there, and is copied where the
+/// postcondition names it.
+#[derive(Clone, Copy)]
+pub struct Met<'a> {
+    pub pre: &'a Pre,
+    pub stacks: &'a Stacks,
 }
 
-/// Puts the symbols that a rule makes, moved by `base`, before those of the stack. The one error is want
-/// of memory.
-pub fn put_symbols(
+/// The symbols that a rule makes, moved by `base`, and those that it leaves, of which alone there are copies. The one
+/// error is want of memory.
+pub fn filled_symbols(
     alloc: Global,
     base: u32,
-    rests: &Rests,
+    met: &Met,
     outs: &[SymOut],
-    symbols: &mut SymbolStack,
+) -> Result<SymbolStack, AllocError>
+    requires { All (FitsSymbol base) outs.now }
+    ensures { IfOk result (λ symbols. symbols ≡ map (fill_item (left_in met.now.pre.now met.now.stacks.now)) (map (moved_symbol_out base) outs.now) ++ drop (length met.now.pre.now.symbols) met.now.stacks.now.symbols) }
+{
+    let asked = met.pre.symbols.len();
+    let left = met.stacks.symbols.len().saturating_sub(asked);
+    let mut items = Vec::with_capacity(alloc, outs.len().saturating_add(left))?;
+    put_made(alloc, base, met, outs, &mut items)?;
+    put_left(alloc, &met.stacks.symbols, asked, &mut items)?;
+    Ok(SymbolStack::of(items))
+}
+
+/// Puts the symbols that a rule makes, moved by `base`, behind the others. The one error is want of memory.
+fn put_made(
+    alloc: Global,
+    base: u32,
+    met: &Met,
+    outs: &[SymOut],
+    items: &mut Vec<SymbolItem>,
 ) -> Result<(), AllocError>
     requires { All (FitsSymbol base) outs.now }
-    ensures { OnOk result (symbols.new ≡ map (fill_item (rests_of rests.now.front rests.now.items.items)) (map (moved_symbol_out base) outs.now) ++ symbols.old) }
+    ensures { OnOk result (items.new.items ≡ items.old.items ++ map (fill_item (left_in met.now.pre.now met.now.stacks.now)) (map (moved_symbol_out base) outs.now)) }
 {
-    let mut left = outs.len();
+    for out in outs {
+        items.push(filled_item(alloc, base, met, out)?)?;
+    }
+    Ok(())
+}
+
+/// Puts copies of a stack's symbols behind the others, but for the first of them, so many. The one error is want of
+/// memory.
+fn put_left(
+    alloc: Global,
+    symbols: &SymbolStack,
+    but: usize,
+    items: &mut Vec<SymbolItem>,
+) -> Result<(), AllocError>
+    ensures { OnOk result (items.new.items ≡ items.old.items ++ drop but symbols.now) }
+{
+    let stored = symbols.reversed();
+    let mut left = stored.len().saturating_sub(but);
     while left > 0 {
         left -= 1;
-        symbols.push(filled_item(alloc, base, rests, &outs[left])?)?;
+        items.push(stored[left].copy(alloc)?)?;
     }
     Ok(())
 }
 
 /// A symbol that a rule makes.
-fn filled_item(
-    alloc: Global,
-    base: u32,
-    rests: &Rests,
-    out: &SymOut,
-) -> Result<SymbolItem, AllocError>
+fn filled_item(alloc: Global, base: u32, met: &Met, out: &SymOut) -> Result<SymbolItem, AllocError>
     requires { FitsSymbol base out.now }
-    ensures { IfOk result (λ item. item ≡ fill_item (rests_of rests.now.front rests.now.items.items) (moved_symbol_out base out.now)) }
+    ensures { IfOk result (λ item. item ≡ fill_item (left_in met.now.pre.now met.now.stacks.now) (moved_symbol_out base out.now)) }
 {
     let scopes = match &out.scopes {
-        Some(scopes) => Some(filled_scopes(alloc, base, rests, scopes.get())?),
+        Some(scopes) => Some(filled_scopes(alloc, base, met, scopes.get())?),
         None => None,
     };
     Ok(SymbolItem {
@@ -54,63 +89,70 @@ fn filled_item(
 }
 
 /// The scopes that a rule makes, with a copy of what its variable stands for.
-fn filled_scopes(
+pub fn filled_scopes(
     alloc: Global,
     base: u32,
-    rests: &Rests,
+    met: &Met,
     out: &ScopeOut,
 ) -> Result<ScopeStack, AllocError>
     requires { All (FitsNode base) out.now.scopes }
-    ensures { IfOk result (λ scopes. scopes ≡ fill_scopes (rests_of rests.now.front rests.now.items.items) (moved_scopes_out base out.now)) }
+    ensures { IfOk result (λ scopes. scopes ≡ fill_scopes (left_in met.now.pre.now met.now.stacks.now) (moved_scopes_out base out.now)) }
 {
-    let mut scopes = tail_copy(alloc, rests, out.tail)?;
-    put_fixed(base, out.scopes.items(), &mut scopes)?;
-    Ok(scopes)
-}
-
-/// The scope stack that a rule makes. What its variable stands for is moved there and not copied.
-pub fn last_scopes(
-    alloc: Global,
-    base: u32,
-    rests: Rests,
-    out: &ScopeOut,
-) -> Result<ScopeStack, AllocError>
-    requires { All (FitsNode base) out.now.scopes }
-    ensures { IfOk result (λ scopes. scopes ≡ fill_scopes (rests_of rests.front rests.items.items) (moved_scopes_out base out.now)) }
-{
-    let mut scopes = tail_moved(alloc, rests, out.tail);
+    let mut scopes = tail_copy(alloc, met, out.tail)?;
     put_fixed(base, out.scopes.items(), &mut scopes)?;
     Ok(scopes)
 }
 
 /// A copy of what the variable stands for.
-fn tail_copy(alloc: Global, rests: &Rests, tail: Tail) -> Result<ScopeStack, AllocError>
-    ensures { IfOk result (λ scopes. scopes ≡ tail_scopes (rests_of rests.now.front rests.now.items.items) tail) }
+fn tail_copy(alloc: Global, met: &Met, tail: Tail) -> Result<ScopeStack, AllocError>
+    ensures { IfOk result (λ scopes. scopes ≡ tail_scopes (left_in met.now.pre.now met.now.stacks.now) tail) }
 {
     match tail {
         Tail::Nil => Ok(ScopeStack::new(alloc)),
-        Tail::Front => Ok(rests.front.copy(alloc)?),
-        Tail::Item(place) => match rests.items.get(place as usize) {
-            Some(scopes) => Ok(scopes.copy(alloc)?),
-            None => Ok(ScopeStack::new(alloc)),
-        },
+        Tail::Front => scopes_left(alloc, &met.pre.scopes, &met.stacks.scopes),
+        Tail::Item(place) => item_left(
+            alloc,
+            met.pre.symbols.items(),
+            &met.stacks.symbols,
+            place as usize,
+        ),
     }
 }
 
-/// What the variable stands for.
-fn tail_moved(alloc: Global, mut rests: Rests, tail: Tail) -> ScopeStack
-    ensures { result ≡ tail_scopes (rests_of rests.front rests.items.items) tail }
+/// A copy of the scopes behind as many as are asked for.
+fn scopes_left(alloc: Global, pat: &ScopePat, scopes: &ScopeStack) -> Result<ScopeStack, AllocError>
+    ensures { IfOk result (λ left. left ≡ left_scopes pat.now scopes.now) }
 {
-    match tail {
-        Tail::Nil => ScopeStack::new(alloc),
-        Tail::Front => rests.front,
-        Tail::Item(place) => {
-            if (place as usize) < rests.items.len() {
-                rests.items.swap_remove(place as usize)
-            } else {
-                ScopeStack::new(alloc)
-            }
-        }
+    let left = scopes.reversed().len().saturating_sub(pat.fixed.len());
+    let mut copy = scopes.copy(alloc)?;
+    copy.keep(left);
+    Ok(copy)
+}
+
+/// The same of the scopes that are attached to the symbol at that place; none where there are none.
+fn item_left(
+    alloc: Global,
+    asked: &[SymPat],
+    symbols: &SymbolStack,
+    place: usize,
+) -> Result<ScopeStack, AllocError>
+    ensures { IfOk result (λ left. left ≡ option_map_or (λ scopes. scopes) (slice_get (left_items asked.now symbols.now) place) []) }
+{
+    let stored = symbols.reversed();
+    if place >= asked.len() || place >= stored.len() {
+        return Ok(ScopeStack::new(alloc));
+    }
+    let item = &stored[stored.len() - 1 - place];
+    attached_left(alloc, &asked[place], item)
+}
+
+/// The same of the scopes that are attached to a symbol.
+fn attached_left(alloc: Global, pat: &SymPat, item: &SymbolItem) -> Result<ScopeStack, AllocError>
+    ensures { IfOk result (λ left. left ≡ left_attached pat.now.scopes item.now.scopes) }
+{
+    match (&pat.scopes, &item.scopes) {
+        (Some(scopes), Some(attached)) => scopes_left(alloc, scopes.get(), attached),
+        _ => Ok(ScopeStack::new(alloc)),
     }
 }
 

@@ -6,7 +6,6 @@ ghost use Rattle.partial_path.specs.Apply.{after_fixed, match_attached, match_it
 ghost use Rattle.partial_path.specs.Moved.{moved_node, moved_scopes, moved_symbol};
 
 use stacks_vars::{NodeAt, ScopePat, ScopeStack, SymPat, SymbolItem, SymbolStack};
-use std::alloc::{AllocError, Global};
 
 /// How many scopes follow the fixed ones, moved by `base`; None where the stack doesn't begin with them.
 /// The stack's front is the last of `scopes`.
@@ -31,55 +30,6 @@ pub fn is_moved(base: u32, node: NodeAt, at: NodeAt) -> bool
     ensures { result ≡ node_eq (moved_node base node) at }
 {
     at.file >= base && at.file - base == node.file && at.node == node.node
-}
-
-/// What follows the fixed scopes of a stack; None where it doesn't begin with them. It takes time that
-/// follows the pattern.
-pub fn rest_of(base: u32, pat: &ScopePat, mut scopes: ScopeStack) -> Option<ScopeStack>
-    ensures { result ≡ after_fixed (map (moved_node base) pat.now.fixed) scopes }
-{
-    let left = left_after(base, pat.fixed.items(), scopes.reversed())?;
-    scopes.keep(left);
-    Some(scopes)
-}
-
-/// What follows the fixed scopes of a symbol's attached ones, nothing for a plain symbol; None where the
-/// symbol isn't as it is asked for.
-pub fn rest_of_item(alloc: Global, base: u32, pat: &SymPat, item: SymbolItem) -> Option<ScopeStack>
-    ensures { result ≡ match_item (moved_symbol base pat.now) item }
-{
-    if !pat.symbol.same(&item.symbol) {
-        return None;
-    }
-    match (&pat.scopes, item.scopes) {
-        (None, None) => Some(ScopeStack::new(alloc)),
-        (Some(scopes), Some(attached)) => rest_of(base, scopes.get(), attached),
-        _ => None,
-    }
-}
-
-/// Takes the symbols that are asked for off the stack, and answers what follows the fixed scopes of each;
-/// None where one isn't as it is asked for, or there are too few. The one error is want of memory.
-pub fn rests_of_items(
-    alloc: Global,
-    base: u32,
-    asked: &[SymPat],
-    symbols: &mut SymbolStack,
-) -> Result<Option<Vec<ScopeStack>>, AllocError>
-    ensures rests { IfOk result (λ found. option_map (λ rests. rests.items) found ≡ match_items (map (moved_symbol base) asked.now) symbols.old) }
-    ensures left { IfOk result (λ found. IfSome found (λ _. symbols.new ≡ drop (length asked.now) symbols.old)) }
-{
-    let mut rests = Vec::with_capacity(alloc, asked.len())?;
-    for pat in asked {
-        let Some(item) = symbols.pop() else {
-            return Ok(None);
-        };
-        let Some(rest) = rest_of_item(alloc, base, pat, item) else {
-            return Ok(None);
-        };
-        rests.push(rest)?;
-    }
-    Ok(Some(rests))
 }
 
 /// Whether the symbol is as it is asked for. It takes no memory, and time that follows the pattern.

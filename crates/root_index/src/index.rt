@@ -158,7 +158,8 @@ impl RootIndex {
     /// The path that comes next in the look-up, with its file's number in the view, and where the look-up
     /// stands after it; None where no more is offered. It takes no memory. The index is halved for each of at
     /// most seven runs of equal keys; within a run a step takes constant time, and where the view doesn't have
-    /// the file at its row's number in the version that of halving over the view. A path whose file isn't seen is passed over.
+    /// the file at its row's number in the version that of halving over the view. A path whose file isn't seen
+    /// is passed over.
     pub fn next_offer(
         &self,
         view: &View,

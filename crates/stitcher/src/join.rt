@@ -1,10 +1,11 @@
 //! Whether a stored path is joined, and where it lands.
-ghost use Rattle.std.specs.Prelude.{◌≡◌, ◌↔◌, ◌⊎◌, [], ◌∷◌, map, All, IfOk, IfSome, OnOk, IsTrue, Some, ◌≤◌, ◌++◌, filter, length};
-ghost use Rattle.std.specs.Option.{option_map_or};
+ghost use Rattle.std.specs.Prelude.{◌≡◌, ◌&&◌, ◌↔◌, ◌⊎◌, [], ◌∷◌, map, All, IfOk, IfSome, OnOk, IsTrue, Some, ◌≤◌, ◌++◌, filter, length};
+ghost use Rattle.std.specs.Option.{option_map_or, is_some};
 ghost use Rattle.std.specs.List.{list_any};
-ghost use Rattle.partial_path.specs.Same.{config_eq};
-ghost use Rattle.partial_path.specs.Apply.{apply};
-ghost use Rattle.partial_path.specs.Moved.{moved, moved_end};
+ghost use Rattle.partial_path.specs.Same.{config_eq, spot_eq};
+ghost use Rattle.partial_path.specs.Apply.{apply, match_stacks};
+ghost use Rattle.partial_path.specs.Rules.{start_spot};
+ghost use Rattle.partial_path.specs.Moved.{moved, moved_start, moved_pre, moved_end};
 ghost use Rattle.partial_path.specs.Limits.{max_runs};
 ghost use Rattle.partial_path.specs.Cutting.{edge_count, heights};
 ghost use Rattle.partial_path.specs.Step.{start};
@@ -44,8 +45,9 @@ fn comes_back(node: NodeAt, trail: &[Level], cut: bool, next: &Config) -> bool
     cut && (is_back(node, next) || has_landed(trail, next))
 }
 
-/// Where the path lands that is joined to the trail, which landed at `at`; None where it doesn't apply, or the run
-/// wouldn't be straight. It is told whether the path ends at a cut, where the path tells that.
+/// Where the path lands that is joined to the trail, which landed at `at`, where the path is met; None where it ends by
+/// the stack and no scope is there, or the run wouldn't be straight. It is told whether the path ends at a cut, where
+/// the path tells that.
 pub fn landing_of<P: PathSource>(
     alloc: Global,
     source: &P,
@@ -60,6 +62,7 @@ pub fn landing_of<P: PathSource>(
     requires begins { start (graphs_of (P.files source.now)) query.node ≡ Some (asked (P.files source.now) query).start }
     requires here { IsHere (asked (P.files source.now) query) trail.now at.now }
     requires offered { IsOffered (asked (P.files source.now) query) trail.now at.now (file, path.now) }
+    requires met { IsTrue (spot_eq (start_spot (moved_start file path.now.start)) at.now.spot && is_some (match_stacks (moved_pre file path.now.pre) at.now.stacks)) }
     requires cut { cut ≡ end_cut (graphs_of (P.files source.now)) (moved_end file path.now.end) }
     ensures applies { IfOk result (λ o. IfSome o (λ landing. apply (moved file path.now) at.now ≡ Some landing.at)) }
     ensures spot { IfOk result (λ o. IfSome o (λ landing. IsSpotOf (graphs_of (P.files source.now)) landing.at.spot)) }
@@ -70,7 +73,7 @@ pub fn landing_of<P: PathSource>(
     joined_paths_are_runs();
     runs_end_in_files();
     returns_are_starts();
-    let Some(next) = path.apply_to(alloc, file, at.copy(alloc)?)? else {
+    let Some(next) = path.apply_met(alloc, file, at)? else {
         return Ok(None);
     };
     let is_cut = is_at_cut(source, cut, next.spot);

@@ -57,6 +57,9 @@ returns-then-not-may_land-clause-opens g c =
     (met_asks c.args.file c.args.path.now.pre c.args.at.now.stacks (spot_eq (start_spot (moved_start c.args.file c.args.path.now.start)) c.args.at.now.spot) (sym c.meets.ensures ∙ c.if-not-meets.false))
     (opens_of c.args.trail.now c.args.work.now.items)
 
+pub landing_of-requires-clause-met : goal.landing_of-requires-clause-met
+landing_of-requires-clause-met g c = sym c.meets.ensures ∙ c.if-not-meets.false
+
 pub note-requires-clause-bounded : goal.note-requires-clause-bounded
 note-requires-clause-bounded g c =
     within_is (asked (g.P.PathSource.files c.args.source.now) c.args.query) c.args.trail.now c.args.at.now c.in-Some.landing.at (c.args.file, c.args.path.now) c.args.edges c.is_within-bounded.result c.requires.here
