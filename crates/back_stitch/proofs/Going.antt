@@ -1,6 +1,6 @@
 -- The search goes on from one rule to the next, and what it has found when none is left.
-use Rattle.std.proofs.Common.{◌≡◌, ◌≤◌, ◌<◌, refl, sym, ap, ◌∙◌, subst, ℕ, suc, ◌+◌, ◌-◌, List, [], ◌∷◌, ◌++◌, map, length, Bool, true, false, Option, Some, arith, length-append, append_assoc, ◌⊎◌, inl, inr}
-use Rattle.std.specs.Prelude.{All, IsTrue, IsPermutation, Contains, ◌↔◌, ◌&&◌}
+use Rattle.std.proofs.Common.{◌≡◌, ◌≤◌, ◌<◌, refl, sym, ap, ◌∙◌, subst, ℕ, suc, ◌+◌, ◌-◌, List, [], ◌∷◌, ◌++◌, map, length, Bool, true, false, Some, arith, length-append, append_assoc, ◌⊎◌, inl, inr}
+use Rattle.std.specs.Prelude.{All, IsTrue, Contains, ◌↔◌, ◌&&◌}
 use Rattle.std.specs.Option.{option_map}
 use Rattle.std.proofs.lemmas.Bool.{and_parts, and_from}
 use Rattle.std.proofs.lemmas.Option.{none-some, option_and_then_some}
@@ -26,10 +26,10 @@ use Rattle.list_facts.specs.Apart.{IsApart}
 use Rattle.list_facts.proofs.Members.{IsIn-flat_map, IsIn-flat_map_from, IsIn-from_Contains, Contains-from_IsIn}
 use Rattle.list_facts.proofs.Apart.{IsApart-append_left}
 use Rattle.back_stitch.specs.Lists.{most_lists, at_start, LeadTo, IsBackList, HasMany, BeginsList}
-use Rattle.back_stitch.specs.Sources.{rules_to}
+use Rattle.back_stitch.specs.Sources.{AreEnds}
 use Rattle.back_stitch.specs.Joined.{is_none}
 use Rattle.back_stitch.specs.Paths.{IsBackPath}
-use Rattle.back_stitch.specs.Held.{IsBack, IsHeld, AreHeld, begun_at, begun, AreThose, in_front, HasExtended, IsOverfull, HasGone, IsPast, IsBehind, AreListed}
+use Rattle.back_stitch.specs.Held.{IsBack, IsHeld, AreHeld, begun_at, begun, AreThose, in_front, HasExtended, IsOverfull, HasGone, IsPast, AreListed}
 use Rattle.back_stitch.proofs.Matched.{least, least_item, met_many}
 use Rattle.back_stitch.proofs.Applied.{applied_by}
 use Rattle.back_stitch.proofs.Stood.{leads_chain, stands_least, leads_of, list_of, paths_of, rest_of, nil_is, fit, IsFit}
@@ -166,13 +166,13 @@ module _ (files : List FileRules) (d : NodeAt) (sources : All IsSourceFile files
     pub searched : IsSearched files d sources opens noted rules count rows
     pub held : AreHeld files d opens work
 
-  pub going_first : (listed : List P) (new : ℕ) (after : List NodeAt) (work : List Rule) → IsPermutation (rules_to files (At d)) listed
+  pub going_first : (listed : List P) (new : ℕ) (after : List NodeAt) (work : List Rule) → AreEnds files (At d) [] listed
       → HasExtended files d [] listed 0 new [] after [] work → IsGoing work new after
-  going_first listed new after work same (added, rules, e, w) = record {
+  going_first listed new after work ends (added, rules, e, w) = record {
     opens = made files d sources [] added;
     noted = made files d sources [] added;
     rules = rules;
-    searched = searched_first files d sources added listed rules new after (listed_apart files d sources (At d) listed same) (lists_first files d sources listed same) e;
+    searched = searched_first files d sources added listed rules new after (listed_apart files d sources (At d) [] listed ends) (lists_first files d sources listed ends) e;
     held = subst (AreHeld files d (made files d sources [] added)) (sym w) e.held;
   }
 
@@ -187,48 +187,36 @@ module _ (files : List FileRules) (d : NodeAt) (sources : All IsSourceFile files
   ends_past work count new rows after more g (a, b, c) =
       subst (λ (n : ℕ). IsGoing more n after) (sym a) (subst (λ (xs : List NodeAt). IsGoing more count xs) (sym b) (subst (λ (js : List Rule). IsGoing js count rows) (sym c) g))
 
-  pub going_on : (listed : Spot → List P) (rest more : List Rule) (j : Rule) (count new : ℕ) (rows after : List NodeAt)
-      → AreListed files listed j.start → IsGoing (rest ++ j ∷ []) count rows
+  pub going_on : (listed : List P) (rest more : List Rule) (j : Rule) (count new : ℕ) (rows after : List NodeAt)
+      → AreListed files j.pre.symbols listed j.start → IsGoing (rest ++ j ∷ []) count rows
       → ((paths : List P) → IsHeld files d paths j → HasGone files d paths listed j.start count new rows after rest more) → IsGoing more new after
-  going_on listed rest more j count new rows after same g gone =
+  going_on listed rest more j count new rows after ends g gone =
       let l = last_of files d g.opens rest j g.held in
       let s = subst (λ (os : List (List P)). IsSearched files d sources os g.noted g.rules count rows) l.is g.searched in
-      by l.before l.paths l.held l.last s j.start refl same (gone l.paths l.last)
+      by l.before l.paths l.held l.last s j.start refl ends (gone l.paths l.last)
     where
-      behind : (paths : List P) (s : Spot) → IsHeld files d paths j → j.start ≡ After s → (listed_at : List P) → IsPermutation (rules_to files s) listed_at
-          → (p : P) → IsBack files d (p ∷ paths) → IsIn p listed_at
-      behind [] s held start listed_at perm p back = absurd held.joined.begins
-      behind (q ∷ paths) s held start listed_at perm p back =
-          lists_behind files d sources s listed_at q paths perm (sym start ∙ held.joined.begins) p back
+      behind : (paths : List P) (s : Spot) → IsHeld files d paths j → j.start ≡ After s → AreEnds files s j.pre.symbols listed → (p : P) → IsBack files d (p ∷ paths) → IsIn p listed
+      behind [] s held start ends p back = absurd held.joined.begins
+      behind (q ∷ paths) s held start ends p back = lists_behind files d sources s listed j q paths ends (sym start ∙ held.joined.begins) held p back
 
       by : (before : List (List P)) (paths : List P) → AreHeld files d before rest → IsHeld files d paths j → IsSearched files d sources (before ++ paths ∷ []) g.noted g.rules count rows
-          → (start : Start) → j.start ≡ start → AreListed files listed start → HasGone files d paths listed start count new rows after rest more → IsGoing more new after
-      by before paths held last s (Before r) start same done =
+          → (start : Start) → j.start ≡ start → AreListed files j.pre.symbols listed start → HasGone files d paths listed start count new rows after rest more → IsGoing more new after
+      by before paths held last s (Before r) start ends done =
           ends_past rest count new rows after more
           record { opens = before; noted = g.noted; rules = g.rules; searched = searched_past files d sources before g.noted g.rules count rows paths s (none_before paths j r last start); held = held }
           done
-      by before paths held last s (After x) start same (added, rules, e, w) = record {
+      by before paths held last s (After x) start ends (added, rules, e, w) = record {
         opens = before ++ made files d sources paths added;
         noted = g.noted ++ made files d sources paths added;
         rules = g.rules ++ rules;
-        searched = searched_more files d sources before g.noted g.rules rules count new rows after paths added (listed x) s (listed_apart files d sources x (listed x) same)
-            (behind paths x last start (listed x) same) e;
+        searched = searched_more files d sources before g.noted g.rules rules count new rows after paths added listed s (listed_apart files d sources x j.pre.symbols listed ends)
+            (behind paths x last start ends) e;
         held = subst (AreHeld files d (before ++ made files d sources paths added)) (sym w) (held-append files d before (made files d sources paths added) rest rules held e.held);
       }
 
   -- the rule that is gone on from is within the bounds
   pub open_last : (rest : List Rule) (j : Rule) (count : ℕ) (rows : List NodeAt) → IsGoing (rest ++ j ∷ []) count rows → IsFit (graphs_of files) j
   open_last rest j count rows g = fit (graphs_of files) j (last_of files d g.opens rest j g.held).last.kept
-
-  -- in front of a rule that begins before a reference nothing comes
-  pub gone_before : (paths : List P) (listed : Spot → List P) (start : Start) (r : NodeAt) (count : ℕ) (rows : List NodeAt) (work : List Rule) → start ≡ Before r
-      → HasGone files d paths listed start count count rows rows work work
-  gone_before paths listed start r count rows work is =
-      subst (λ (s : Start). HasGone files d paths listed s count count rows rows work work) (sym is) (refl, refl, refl)
-
-  -- and behind a spot what is listed there
-  pub behind_spot : (paths : List P) (j : Rule) (x : Spot) (o : Option Rule) → o ≡ Some j → j.start ≡ After x → IsHeld files d paths j → IsBehind files d paths x o
-  behind_spot paths j x o is start held = subst (λ (y : Option Rule). IsBehind files d paths x y) (sym is) (held, start)
 
   -- what is left to do falls
   held_long : (all : List (List P)) (rules : List Rule) → AreHeld files d all rules → length rules ≡ length all
@@ -246,12 +234,12 @@ module _ (files : List FileRules) (d : NodeAt) (sources : All IsSourceFile files
       let i : length (made files d sources paths added) ≡ length added = length-map added (in_front paths) in
       omega (arith, n, m, k, i)
 
-  gone_long : (paths : List P) (listed : Spot → List P) (start : Start) (old new : ℕ) (before after : List NodeAt) (work more : List Rule)
+  gone_long : (paths listed : List P) (start : Start) (old new : ℕ) (before after : List NodeAt) (work more : List Rule)
       → HasGone files d paths listed start old new before after work more → new + length work ≡ old + length more
   gone_long paths listed (Before r) old new before after work more (n, rows, w) = let m : length more ≡ length work = ap length w in omega (arith, n, m)
-  gone_long paths listed (After at) old new before after work more h = extended_long paths (listed at) old new before after work more h
+  gone_long paths listed (After at) old new before after work more h = extended_long paths listed old new before after work more h
 
-  pub falls : (listed : Spot → List P) (rest more : List Rule) (j : Rule) (count new : ℕ) (rows after : List NodeAt) → IsGoing (rest ++ j ∷ []) count rows
+  pub falls : (listed : List P) (rest more : List Rule) (j : Rule) (count new : ℕ) (rows after : List NodeAt) → IsGoing (rest ++ j ∷ []) count rows
       → ((paths : List P) → IsHeld files d paths j → HasGone files d paths listed j.start count new rows after rest more) → new ≤ most_lists
       → (most_lists - new) + length more < (most_lists - count) + length (rest ++ j ∷ [])
   falls listed rest more j count new rows after g gone few =
@@ -281,31 +269,31 @@ module _ (files : List FileRules) (d : NodeAt) (sources : All IsSourceFile files
   part_apart part rest p listed is apart =
       IsApart-append_left (part ++ p ∷ []) rest (subst (λ (xs : List P). IsApart xs) (is ∙ sym (append_assoc part (p ∷ []) rest)) apart)
 
-  pub many_first : (listed : List P) → IsPermutation (rules_to files (At d)) listed → IsOverfull files d [] listed 0 → HasMany (graphs_of files) d
-  many_first listed same o =
+  pub many_first : (listed : List P) → AreEnds files (At d) [] listed → IsOverfull files d [] listed 0 → HasMany (graphs_of files) d
+  many_first listed ends o =
       let those = those_more files d [] o.part o.added (o.next ∷ []) (o.next ∷ []) o.those (one_those [] o.next o.back) in
       let added : List P = o.added ++ o.next ∷ [] in
-      let apart = those.apart (part_apart o.part o.rest o.next listed o.whole (listed_apart files d sources (At d) listed same)) in
+      let apart = those.apart (part_apart o.part o.rest o.next listed o.whole (listed_apart files d sources (At d) [] listed ends)) in
       let n : length added ≡ length o.added + 1 = length-append o.added (o.next ∷ []) in
       let m : length (made files d sources [] added) ≡ length added = made_long [] added in
       let full : 0 + length o.added ≡ most_lists = o.full in
       many files d sources (made files d sources [] added) (made_each files d sources [] added (o.part ++ o.next ∷ []) those) (made_apart files d sources [] added apart) (omega (arith, n, m, full))
 
-  pub many_on : (listed : Spot → List P) (rest : List Rule) (j : Rule) (count : ℕ) (rows : List NodeAt) → AreListed files listed j.start
+  pub many_on : (listed : List P) (rest : List Rule) (j : Rule) (count : ℕ) (rows : List NodeAt) → AreListed files j.pre.symbols listed j.start
       → IsGoing (rest ++ j ∷ []) count rows → ((paths : List P) → IsHeld files d paths j → IsPast files d paths listed j.start count) → HasMany (graphs_of files) d
-  many_on listed rest j count rows same g past =
+  many_on listed rest j count rows ends g past =
       let l = last_of files d g.opens rest j g.held in
       let s = subst (λ (os : List (List P)). IsSearched files d sources os g.noted g.rules count rows) l.is g.searched in
-      by l.before l.paths s j.start same (past l.paths l.last)
+      by l.before l.paths s j.start ends (past l.paths l.last)
     where
       by : (before : List (List P)) (paths : List P) → IsSearched files d sources (before ++ paths ∷ []) g.noted g.rules count rows
-          → (start : Start) → AreListed files listed start → IsPast files d paths listed start count → HasMany (graphs_of files) d
-      by before paths s (Before r) same past = absurd past
-      by before paths s (After x) same o =
+          → (start : Start) → AreListed files j.pre.symbols listed start → IsPast files d paths listed start count → HasMany (graphs_of files) d
+      by before paths s (Before r) ends past = absurd past
+      by before paths s (After x) ends o =
           let those = those_more files d paths o.part o.added (o.next ∷ []) (o.next ∷ []) o.those (one_those paths o.next o.back) in
           let added : List P = o.added ++ o.next ∷ [] in
           let both = known_more files d sources before g.noted g.rules count rows paths added (o.part ++ o.next ∷ []) s
-          (part_apart o.part o.rest o.next (listed x) o.whole (listed_apart files d sources x (listed x) same)) those in
+          (part_apart o.part o.rest o.next listed o.whole (listed_apart files d sources x j.pre.symbols listed ends)) those in
           let n : length added ≡ length o.added + 1 = length-append o.added (o.next ∷ []) in
           let m : length (made files d sources paths added) ≡ length added = made_long paths added in
           let k : length (g.noted ++ made files d sources paths added) ≡ length g.noted + length (made files d sources paths added) = length-append g.noted (made files d sources paths added) in

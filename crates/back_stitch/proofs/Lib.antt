@@ -12,6 +12,8 @@ mod Applied
 mod Stood
 mod Searched
 mod Longer
+mod Agreed
 mod Listed
 mod Going
 mod InOrder
+mod LookUps

@@ -1,12 +1,12 @@
 -- Which stored paths a look-up by a spot lists, and what comes of them one after the other.
-use Rattle.std.proofs.Common.{◌≡◌, ◌≢◌, refl, sym, ap, ◌∙◌, subst, ℕ, zero, suc, ◌+◌, List, [], ◌∷◌, ◌++◌, map, filter, take, length, true, Option, Some, None, arith, length-append, append_assoc, append-nil, ◌⊎◌, inl, inr}
-use Rattle.std.specs.Prelude.{All, slice_get, IsPermutation, Contains}
+use Rattle.std.proofs.Common.{◌≡◌, ◌≢◌, refl, sym, ap, ◌∙◌, subst, ℕ, zero, suc, ◌+◌, List, [], ◌∷◌, ◌++◌, map, filter, length, true, Option, Some, None, arith, length-append, append_assoc, append-nil, ◌⊎◌, inl, inr}
+use Rattle.std.specs.Prelude.{All, slice_get, Contains}
 use Rattle.std.specs.List.{AllByRecursion, flat_map}
 use Rattle.std.proofs.lemmas.Option.{none-some, same_Some}
-use Rattle.std.proofs.lemmas.List.Sorted.{Contains-permutation, IsPermutation-sym}
 use Rattle.std.proofs.lemmas.List.Elements.{All-tail}
 use Rattle.graph_nodes.specs.Graph.{Graph}
 use Rattle.stacks_vars.specs.declared.scopes.NodeAt.{NodeAt}
+use Rattle.stacks_vars.specs.declared.patterns.SymPat.{SymPat}
 use Rattle.partial_path.specs.declared.config.Spot.{Spot}
 use Rattle.partial_path.specs.declared.config.Spot.TheVariants.{At}
 use Rattle.partial_path.specs.declared.rule.Start.TheVariants.{After}
@@ -15,14 +15,14 @@ use Rattle.partial_path.specs.Moved.{moved, moved_start}
 use Rattle.partial_path.specs.PathSets.{FileRules, walk_of_rule}
 use Rattle.partial_path.specs.Sources.{IsSourceFile, graphs_of, numbered}
 use Rattle.partial_path.specs.Cutting.{IsStoredIn}
-use Rattle.partial_path.proofs.Reordered.{apart_reordered}
 use Rattle.list_facts.specs.Members.{IsIn}
 use Rattle.list_facts.specs.Apart.{IsApart}
 use Rattle.list_facts.proofs.Members.{IsIn-append_left, IsIn-append_right, IsIn-append_cases, IsIn-map, IsIn-map_from, IsIn-filter, IsIn-filter_from, IsIn-from_Contains, Contains-from_IsIn}
 use Rattle.list_facts.proofs.Apart.{absent, all_differ, IsApart-append, IsApart-map, IsApart-filter}
 use Rattle.back_stitch.specs.Lists.{most_lists}
-use Rattle.back_stitch.specs.Sources.{may_end_at, rules_to_in, rules_to_after, rules_to}
+use Rattle.back_stitch.specs.Sources.{may_end_at, rules_to_in, rules_to_after, agrees, AreEnds}
 use Rattle.back_stitch.specs.Held.{IsBack, IsHeld, AreHeld, IsOutcome, begun, AreThose, in_front, HasExtended, IsOverfull}
+use Rattle.back_stitch.proofs.Agreed.{front_agrees, alone_agrees}
 use Rattle.back_stitch.proofs.Stood.{stands, rest_of, first_may}
 use Rattle.back_stitch.proofs.Searched.{P, held-append, flat_map-append, ListsAll}
 
@@ -87,62 +87,46 @@ module _ (graphs : List Graph) (at : Spot) where
       let ((i, number, file, found, stored), ends) = out_of (k + 1) files p there in
       omega (arith, own, number))
 
--- the next listed path
-
-pub next_in : (listed : List P) (k : ℕ) (p : P) → slice_get listed k ≡ Some p → IsIn p listed
-next_in [] k p h = absurd (none-some p h)
-next_in (x ∷ listed) zero p h = inl (sym (same_Some x p h))
-next_in (x ∷ listed) (suc k) p h = inr (next_in listed k p h)
-
-pub parted : (listed : List P) (k : ℕ) (p : P) → slice_get listed k ≡ Some p → (rest : List P) × (listed ≡ take k listed ++ p ∷ rest) × (take (suc k) listed ≡ take k listed ++ p ∷ [])
-parted [] k p h = absurd (none-some p h)
-parted (x ∷ listed) zero p h = (listed, ap (λ (y : P). y ∷ listed) (same_Some x p h), ap (λ (y : P). y ∷ []) (same_Some x p h))
-parted (x ∷ listed) (suc k) p h =
-    let (rest, whole, more) = parted listed k p h in (rest, ap (λ (xs : List P). x ∷ xs) whole, ap (λ (xs : List P). x ∷ xs) more)
-
-pub taken_all : (listed : List P) (k : ℕ) → slice_get listed k ≡ None → take k listed ≡ listed
-taken_all [] zero h = refl
-taken_all [] (suc k) h = refl
-taken_all (x ∷ listed) zero h = absurd (none-some x (sym h))
-taken_all (x ∷ listed) (suc k) h = ap (λ (xs : List P). x ∷ xs) (taken_all listed k h)
-
 -- what a look-up lists
 
 module _ (files : List FileRules) (d : NodeAt) (sources : All IsSourceFile files) where
-  pub listed_apart : (at : Spot) (listed : List P) → IsPermutation (rules_to files at) listed → IsApart listed
-  listed_apart at listed same = apart_reordered (rules_to files at) listed same (apart_after (graphs_of files) at 0 files sources)
+  pub listed_apart : (at : Spot) (symbols : List SymPat) (listed : List P) → AreEnds files at symbols listed → IsApart listed
+  listed_apart at symbols listed ends = ends.apart (apart_after (graphs_of files) at 0 files sources)
 
-  pub listed_is : (at : Spot) (listed : List P) (p : P) → IsPermutation (rules_to files at) listed → IsIn p listed → IsStoredIn files p × (may_end_at (graphs_of files) at (moved p.0 p.1) ≡ true)
-  listed_is at listed p same here =
-      let there = IsIn-from_Contains (rules_to files at) p (Contains-permutation listed (rules_to files at) p (IsPermutation-sym (rules_to files at) listed same) (Contains-from_IsIn listed p here)) in
-      let ((i, number, file, found, stored), ends) = out_of (graphs_of files) at 0 files p there in
+  listed_is : (at : Spot) (symbols : List SymPat) (listed : List P) (p : P) → AreEnds files at symbols listed → IsIn p listed
+      → IsStoredIn files p × (may_end_at (graphs_of files) at (moved p.0 p.1) ≡ true)
+  listed_is at symbols listed p ends here =
+      let ((i, number, file, found, stored), may) = out_of (graphs_of files) at 0 files p (ends.sound p here) in
       let i_is : i ≡ p.0 = omega (arith, number) in
-      ((file, subst (λ (n : ℕ). slice_get files n ≡ Some file) i_is found, stored), ends)
+      ((file, subst (λ (n : ℕ). slice_get files n ≡ Some file) i_is found, stored), may)
 
-  listed_has : (at : Spot) (listed : List P) (p : P) → IsPermutation (rules_to files at) listed → IsStoredIn files p → may_end_at (graphs_of files) at (moved p.0 p.1) ≡ true → IsIn p listed
-  listed_has at listed p same (file, found, stored) ends =
-      IsIn-from_Contains listed p
-      (Contains-permutation (rules_to files at) listed p same (Contains-from_IsIn (rules_to files at) p (into (graphs_of files) at 0 files p (p.0, omega arith, file, found, stored) ends)))
+  listed_has : (at : Spot) (symbols : List SymPat) (listed : List P) (p : P) → AreEnds files at symbols listed → IsStoredIn files p → may_end_at (graphs_of files) at (moved p.0 p.1) ≡ true
+      → agrees symbols p.1.post.symbols ≡ true → IsIn p listed
+  listed_has at symbols listed p ends (file, found, stored) may agree =
+      ends.complete p (into (graphs_of files) at 0 files p (p.0, omega arith, file, found, stored) may) agree
 
   -- all that may be joined in front of a list which begins behind the spot
-  pub lists_behind : (at : Spot) (listed : List P) (q : P) (paths : List P) → IsPermutation (rules_to files at) listed → After at ≡ moved_start q.0 q.1.start
-      → ListsAll files d sources (q ∷ paths) listed
-  lists_behind at listed q paths same begins p (start, back) =
+  pub lists_behind : (at : Spot) (listed : List P) (j : Rule) (q : P) (paths : List P) → AreEnds files at j.pre.symbols listed → After at ≡ moved_start q.0 q.1.start
+      → IsHeld files d (q ∷ paths) j → ListsAll files d sources (q ∷ paths) listed
+  lists_behind at listed j q paths ends begins held p (start, back) =
       let rest = rest_of files d start p q paths sources back in
       let there : rest.at ≡ at = same_spot rest.at at (sym rest.begins ∙ sym begins) in
-      listed_has at listed p same rest.stored (subst (λ (s : Spot). may_end_at (graphs_of files) s (moved p.0 p.1) ≡ true) there rest.may)
+      listed_has at j.pre.symbols listed p ends rest.stored (subst (λ (s : Spot). may_end_at (graphs_of files) s (moved p.0 p.1) ≡ true) there rest.may)
+      (front_agrees files d start p (q ∷ paths) j held back)
     where
       same_spot : (a b : Spot) → After a ≡ After b → a ≡ b
       same_spot a b e = cc
 
   -- all that lead to the definition at once
-  pub lists_first : (listed : List P) → IsPermutation (rules_to files (At d)) listed → ListsAll files d sources [] listed
-  lists_first listed same p (start, back) =
-      listed_has (At d) listed p same back.leads.0 (first_may files d start p back)
+  pub lists_first : (listed : List P) → AreEnds files (At d) [] listed → ListsAll files d sources [] listed
+  lists_first listed ends p (start, back) =
+      listed_has (At d) [] listed p ends back.leads.0 (first_may files d start p back) (alone_agrees files d start p back)
 
-  pub listed_next : (at : Spot) (listed : List P) (k : ℕ) (p : P) → IsPermutation (rules_to files at) listed → slice_get listed k ≡ Some p
+  -- one of them
+  pub listed_next : (at : Spot) (symbols : List SymPat) (listed gone rest : List P) (p : P) → AreEnds files at symbols listed → gone ++ p ∷ rest ≡ listed
       → IsStoredIn files p × (may_end_at (graphs_of files) at (moved p.0 p.1) ≡ true)
-  listed_next at listed k p same found = listed_is at listed p same (next_in listed k p found)
+  listed_next at symbols listed gone rest p ends whole =
+      listed_is at symbols listed p ends (subst (IsIn p) whole (IsIn-append_right p gone (p ∷ rest) (inl refl)))
 
 -- one after the other
 
@@ -274,23 +258,8 @@ module _ (files : List FileRules) (d : NodeAt) (paths : List P) where
   pub tried_back : (p : P) (j : Rule) (found : Option Rule) → IsOutcome files d (p ∷ paths) found → found ≡ Some j → IsBack files d (p ∷ paths)
   tried_back p j found outcome is = back_of p j (subst (λ (o : Option Rule). IsOutcome files d (p ∷ paths) o) is outcome)
 
-  -- the listed paths one after the other
-  pub extended_next : (listed : List P) (k next : ℕ) (p : P) (old middle new : ℕ) (before between after : List NodeAt) (work some all : List Rule) → next ≡ k + 1 → slice_get listed k ≡ Some p
-      → HasExtended files d paths (take k listed) old middle before between work some → HasExtended files d paths (p ∷ []) middle new between after some all
-      → HasExtended files d paths (take next listed) old new before after work all
-  extended_next listed k next p old middle new before between after work some all one found so_far more =
-      let part = parted listed k p found in
-      let is : next ≡ suc k = omega (arith, one) in
-      subst (λ (xs : List P). HasExtended files d paths xs old new before after work all) (sym (ap (λ (n : ℕ). take n listed) is ∙ part.2))
-      (extended_more (take k listed) (p ∷ []) old middle new before between after work some all so_far more)
-
-  pub extended_all : (listed : List P) (k old new : ℕ) (before after : List NodeAt) (work all : List Rule) → slice_get listed k ≡ None
-      → HasExtended files d paths (take k listed) old new before after work all → HasExtended files d paths listed old new before after work all
-  extended_all listed k old new before after work all none so_far =
-      subst (λ (xs : List P). HasExtended files d paths xs old new before after work all) (taken_all listed k none) so_far
-
-  pub overfull_next : (listed : List P) (k : ℕ) (p : P) (old now : ℕ) (before after : List NodeAt) (work some : List Rule) → slice_get listed k ≡ Some p
-      → HasExtended files d paths (take k listed) old now before after work some → now ≡ most_lists → IsBack files d (p ∷ paths) → IsOverfull files d paths listed old
-  overfull_next listed k p old now before after work some found so_far full back =
-      let part = parted listed k p found in
-      overfull (take k listed) part.0 p old now before after work some listed so_far part.1 full back
+  -- all of them
+  pub extended_all : (gone listed : List P) (old new : ℕ) (before after : List NodeAt) (work all : List Rule) → gone ++ [] ≡ listed
+      → HasExtended files d paths gone old new before after work all → HasExtended files d paths listed old new before after work all
+  extended_all gone listed old new before after work all whole so_far =
+      subst (λ (xs : List P). HasExtended files d paths xs old new before after work all) (sym (append-nil gone) ∙ whole) so_far

@@ -1,10 +1,12 @@
 -- The rules that a backward search keeps, each for the stored paths of a back list, and what it finds of them. No public
 -- clause cites this.
-use Rattle.std.specs.Prelude.{◌≡◌, ◌≤◌, ◌+◌, ℕ, List, [], ◌∷◌, ◌++◌, map, length, Bool, true, ◌&&◌, Option, Some, MatchOption, if◌then◌else◌, IsPermutation, ⊤}
+use Rattle.std.specs.Prelude.{◌≡◌, ◌≤◌, ◌+◌, ℕ, List, [], ◌∷◌, ◌++◌, map, length, Bool, true, ◌&&◌, Option, Some, None, MatchOption, if◌then◌else◌, IsTrue, ⊤}
 use Rattle.std.specs.List.{flat_map}
 use Rattle.list_facts.specs.Members.{IsIn}
 use Rattle.list_facts.specs.Apart.{IsApart}
+use Rattle.graph_nodes.specs.Whole.{is_definition_of}
 use Rattle.stacks_vars.specs.declared.scopes.NodeAt.{NodeAt}
+use Rattle.stacks_vars.specs.declared.patterns.SymPat.{SymPat}
 use Rattle.partial_path.specs.declared.config.Config.{Config}
 use Rattle.partial_path.specs.declared.config.Spot.{Spot}
 use Rattle.partial_path.specs.declared.config.Spot.TheVariants.{At}
@@ -15,7 +17,7 @@ use Rattle.partial_path.specs.Apply.{apply}
 use Rattle.partial_path.specs.PathSets.{FileRules}
 use Rattle.partial_path.specs.Sources.{graphs_of}
 use Rattle.back_stitch.specs.Lists.{most_lists, most_edges, most_depth}
-use Rattle.back_stitch.specs.Sources.{rules_to}
+use Rattle.back_stitch.specs.Sources.{AreEnds}
 use Rattle.back_stitch.specs.Joined.{IsJoined, is_after, is_kept, is_none}
 use Rattle.back_stitch.specs.Paths.{IsBackPath}
 
@@ -85,20 +87,53 @@ pub record IsOverfull (files : List FileRules) (d : NodeAt) (paths listed : List
   pub full : old + length added ≡ most_lists
   pub back : IsBack files d (next ∷ paths)
 
--- what comes of all that is listed in front of a rule with this start: before a reference nothing is
-abbrev pub HasGone : List FileRules → NodeAt → List (ℕ × Rule) → (Spot → List (ℕ × Rule)) → Start → ℕ → ℕ → List NodeAt → List NodeAt → List Rule → List Rule → Type 0
-HasGone files d paths listed (Before r) old new before after work more = (new ≡ old) × (after ≡ before) × (more ≡ work)
-HasGone files d paths listed (After at) old new before after work more = HasExtended files d paths (listed at) old new before after work more
+-- the symbols that the rule behind which paths are joined asks for; none where there is none
+abbrev pub asked_behind : Option Rule → List SymPat
+asked_behind None = []
+asked_behind (Some j) = j.pre.symbols
 
--- all paths are listed that may end where this start begins behind a spot
-abbrev pub AreListed : List FileRules → (Spot → List (ℕ × Rule)) → Start → Type 0
-AreListed files listed (Before r) = ⊤
-AreListed files listed (After at) = IsPermutation (rules_to files at) (listed at)
+-- a look-up of the paths in front of what is known was gone through, and this came of it
+pub record HasTried (files : List FileRules) (at : Spot) (behind : Option Rule) (old new : ℕ) (before after : List NodeAt) (work more : List Rule) : Type 0 where
+  pub listed : List (ℕ × Rule)
+  pub ends : AreEnds files at (asked_behind behind) listed
+  pub extended : (d : NodeAt) (paths : List (ℕ × Rule)) → IsTrue (is_definition_of (graphs_of files) d.file d.node) → IsBehind files d paths at behind
+      → HasExtended files d paths listed old new before after work more
+
+-- one of the paths of such a look-up is one too many
+pub record IsTriedPast (files : List FileRules) (at : Spot) (behind : Option Rule) (old : ℕ) : Type 0 where
+  pub listed : List (ℕ × Rule)
+  pub ends : AreEnds files at (asked_behind behind) listed
+  pub past : (d : NodeAt) (paths : List (ℕ × Rule)) → IsTrue (is_definition_of (graphs_of files) d.file d.node) → IsBehind files d paths at behind
+      → IsOverfull files d paths listed old
+
+-- what comes of what is listed in front of a rule with this start: before a reference nothing is
+abbrev pub HasGone : List FileRules → NodeAt → List (ℕ × Rule) → List (ℕ × Rule) → Start → ℕ → ℕ → List NodeAt → List NodeAt → List Rule → List Rule → Type 0
+HasGone files d paths listed (Before r) old new before after work more = (new ≡ old) × (after ≡ before) × (more ≡ work)
+HasGone files d paths listed (After at) old new before after work more = HasExtended files d paths listed old new before after work more
+
+-- the paths are listed that may end where this start begins behind a spot, of those that agree with these symbols all
+abbrev pub AreListed : List FileRules → List SymPat → List (ℕ × Rule) → Start → Type 0
+AreListed files symbols listed (Before r) = ⊤
+AreListed files symbols listed (After at) = AreEnds files at symbols listed
 
 -- the next path is one too many
-abbrev pub IsPast : List FileRules → NodeAt → List (ℕ × Rule) → (Spot → List (ℕ × Rule)) → Start → ℕ → Type 0
+abbrev pub IsPast : List FileRules → NodeAt → List (ℕ × Rule) → List (ℕ × Rule) → Start → ℕ → Type 0
 IsPast files d paths listed (Before r) old = ⊥
-IsPast files d paths listed (After at) old = IsOverfull files d paths (listed at) old
+IsPast files d paths listed (After at) old = IsOverfull files d paths listed old
+
+-- the rule was gone on from, with what a look-up gave, and this came of it
+pub record HasGoneOn (files : List FileRules) (j : Rule) (old new : ℕ) (before after : List NodeAt) (work more : List Rule) : Type 0 where
+  pub listed : List (ℕ × Rule)
+  pub ends : AreListed files j.pre.symbols listed j.start
+  pub gone : (d : NodeAt) (paths : List (ℕ × Rule)) → IsTrue (is_definition_of (graphs_of files) d.file d.node) → IsHeld files d paths j
+      → HasGone files d paths listed j.start old new before after work more
+
+-- one of what a look-up in front of the rule gave is one too many
+pub record IsGonePast (files : List FileRules) (j : Rule) (old : ℕ) : Type 0 where
+  pub listed : List (ℕ × Rule)
+  pub ends : AreListed files j.pre.symbols listed j.start
+  pub past : (d : NodeAt) (paths : List (ℕ × Rule)) → IsTrue (is_definition_of (graphs_of files) d.file d.node) → IsHeld files d paths j
+      → IsPast files d paths listed j.start old
 
 -- a path behind which others are joined: it begins behind a spot and is within the bounds
 pub record IsOpen (j : Rule) : Type 0 where

@@ -1,8 +1,13 @@
 -- What a source for joining backward holds: the path sets of a list of files, from which rules are asked for by where
 -- they may end.
-use Rattle.std.specs.Prelude.{ℕ, ◌+◌, List, [], ◌∷◌, ◌++◌, map, filter, Bool, false}
+use Rattle.std.specs.Prelude.{ℕ, ◌+◌, List, [], ◌∷◌, ◌++◌, map, filter, Bool, true, false, ◌&&◌, IsTrue}
+use Rattle.std.specs.Str.{bytes_eq}
+use Rattle.list_facts.specs.Members.{IsIn}
+use Rattle.list_facts.specs.Apart.{IsApart}
 use Rattle.graph_nodes.specs.Graph.{Graph}
 use Rattle.stacks_vars.specs.declared.scopes.NodeAt.{NodeAt}
+use Rattle.stacks_vars.specs.declared.patterns.SymOut.{SymOut}
+use Rattle.stacks_vars.specs.declared.patterns.SymPat.{SymPat}
 use Rattle.partial_path.specs.declared.config.Spot.{Spot}
 use Rattle.partial_path.specs.declared.config.Spot.TheVariants as spot
 use Rattle.partial_path.specs.declared.rule.End.{End}
@@ -42,3 +47,17 @@ rules_to_after graphs file (f ∷ files) at = rules_to_in graphs file f at ++ ru
 -- the rules that may end there, by file and then by place
 abbrev pub rules_to : List FileRules → Spot → List (ℕ × Rule)
 rules_to files at = rules_to_after (graphs_of files) 0 files at
+
+-- whether the symbols that a path makes have the texts of the first of those that the next one asks for, one by one: where
+-- it makes more, the next one leaves some
+abbrev pub agrees : List SymPat → List SymOut → Bool
+agrees [] [] = true
+agrees [] (out ∷ made) = false
+agrees (pat ∷ pats) [] = true
+agrees (pat ∷ pats) (out ∷ made) = bytes_eq pat.symbol out.symbol && agrees pats made
+
+-- rules that may end there, of those whose symbols agree with the ones asked for none left out, and none twice
+pub record AreEnds (files : List FileRules) (at : Spot) (symbols : List SymPat) (given : List (ℕ × Rule)) : Type 0 where
+  pub sound : (p : ℕ × Rule) → IsIn p given → IsIn p (rules_to files at)
+  pub complete : (p : ℕ × Rule) → IsIn p (rules_to files at) → IsTrue (agrees symbols p.1.post.symbols) → IsIn p given
+  pub apart : IsApart (rules_to files at) → IsApart given

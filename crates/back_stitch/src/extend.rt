@@ -1,5 +1,5 @@
-//! All stored paths that may end at a spot, in front of what is known.
-ghost use Rattle.std.specs.Prelude.{◌≡◌, ◌≤◌, ◌∷◌, [], ℕ, List, All, Err, IfOk, IfSome, OnOk, IsTrue, IsPermutation, option_copied, true};
+//! The stored paths that may end at a spot, in front of what is known.
+ghost use Rattle.std.specs.Prelude.{◌≡◌, ◌≤◌, ◌∷◌, [], ℕ, List, All, Err, IfOk, IfSome, OnOk, IsTrue, option_copied, true};
 ghost use Rattle.graph_nodes.specs.Whole.{is_definition_of};
 ghost use Rattle.stacks_vars.specs.declared.scopes.NodeAt.{NodeAt};
 ghost use Rattle.partial_path.specs.declared.config.Spot.{Spot};
@@ -8,14 +8,15 @@ ghost use Rattle.partial_path.specs.Moved.{moved};
 ghost use Rattle.partial_path.specs.Cutting.{IsStoredIn};
 ghost use Rattle.partial_path.specs.Sources.{IsSourceFile, graphs_of};
 ghost use Rattle.back_stitch.specs.Lists.{most_lists};
-ghost use Rattle.back_stitch.specs.Sources.{may_end_at, rules_to};
-ghost use Rattle.back_stitch.specs.Held.{IsBack, IsBehind, IsOutcome, IsOpen, HasExtended, IsOverfull};
+ghost use Rattle.back_stitch.specs.Sources.{may_end_at};
+ghost use Rattle.back_stitch.specs.Held.{IsBack, IsBehind, IsOutcome, IsOpen, HasExtended, HasTried, IsTriedPast, asked_behind};
 
 use crate::fault::BackFault;
 use crate::join::{first_of, join_left};
 use crate::source::BackSource;
 use crate::tally::Tally;
 use partial_path::{PartialPath, Spot};
+use stacks_vars::SymPat;
 use std::alloc::{AllocError, Global};
 
 /// What comes of a stored path in front of what is known: of one that may end at the definition, where nothing is
@@ -65,7 +66,18 @@ fn try_path<P: BackSource>(
     Ok(())
 }
 
-/// Tries each path that may end at the spot in front of what is known, and notes and keeps what comes of them.
+/// The symbols that the known path asks for; none where nothing is known.
+fn asked<'a>(behind: Option<&'a PartialPath>) -> &'a [SymPat]
+    ensures { result.now ≡ asked_behind (option_copied behind.entry) }
+{
+    match behind {
+        Some(path) => path.pre().symbols.items(),
+        None => &[],
+    }
+}
+
+/// Tries each path in front of what is known that may end at the spot and make what is asked for, and notes and keeps
+/// what comes of them.
 pub fn extend<P: BackSource>(
     alloc: Global,
     source: &P,
@@ -77,19 +89,15 @@ pub fn extend<P: BackSource>(
     requires sources { All IsSourceFile (P.files source.now) }
     requires open { IfSome (option_copied behind) IsOpen }
     requires few { tally.old.count ≤ most_lists }
-    ensures extended { OnOk result ((d : NodeAt) (paths : List (ℕ × Rule)) → IsTrue (is_definition_of (graphs_of (P.files source.now)) d.file d.node) → IsBehind (P.files source.now) d paths spot (option_copied behind.entry) → HasExtended (P.files source.now) d paths (P.listed source.now spot) tally.old.count tally.new.count tally.old.rows.items tally.new.rows.items work.old.items work.new.items) }
+    ensures tried { OnOk result (HasTried (P.files source.now) spot (option_copied behind.entry) tally.old.count tally.new.count tally.old.rows.items tally.new.rows.items work.old.items work.new.items) }
     ensures few { OnOk result (tally.new.count ≤ most_lists) }
-    ensures many { result ≡ Err BackFault.Many → (d : NodeAt) (paths : List (ℕ × Rule)) → IsTrue (is_definition_of (graphs_of (P.files source.now)) d.file d.node) → IsBehind (P.files source.now) d paths spot (option_copied behind.entry) → IsOverfull (P.files source.now) d paths (P.listed source.now spot) tally.old.count }
-    ensures listed { IsPermutation (rules_to (P.files source.now) spot) (P.listed source.now spot) }
+    ensures many { result ≡ Err BackFault.Many → IsTriedPast (P.files source.now) spot (option_copied behind.entry) tally.old.count }
 {
-    let mut k = 0;
-    while let Some(found) = source.path_to(&spot, k) {
-        // No source has so many paths.
-        let Some(next) = k.checked_add(1) else {
-            return Err(BackFault::NoMemory);
-        };
+    let symbols = asked(behind);
+    let mut next = source.ends(&spot, symbols);
+    while let Some(found) = source.next_end(symbols, next) {
+        next = found.2;
         try_path(alloc, source, found.0, found.1, behind, work, tally)?;
-        k = next;
     }
     Ok(())
 }

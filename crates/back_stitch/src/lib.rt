@@ -1,11 +1,13 @@
 //! Joining backward: the references from which runs lead to a definition, found by joining stored paths on the left.
 #![tactic(auto)]
 
+mod ending;
 mod extend;
 mod fault;
 mod join;
 mod kept;
 mod laws;
+mod plain;
 mod searching;
 mod source;
 mod tally;
@@ -15,5 +17,6 @@ pub use laws::{
     cuts_from_are_unique, exported_scopes_stay, landing_runs_are_cut, leading_paths_are_runs,
     moved_by_nothing_stays, rounds_can_be_cut,
 };
+pub use plain::{PlainEnds, PlainSource};
 pub use searching::back;
 pub use source::BackSource;

@@ -4,10 +4,9 @@ ghost use Rattle.graph_nodes.specs.Whole.{is_definition_of};
 ghost use Rattle.stacks_vars.specs.declared.scopes.NodeAt.{NodeAt};
 ghost use Rattle.list_facts.specs.Apart.{Pairs};
 ghost use Rattle.partial_path.specs.Spots.{node_at};
-ghost use Rattle.partial_path.specs.Rules.{Rule};
 ghost use Rattle.partial_path.specs.Sources.{IsSourceFile, graphs_of};
 ghost use Rattle.back_stitch.specs.Lists.{most_lists, most_edges, most_depth, HasMany, BeginsList, ComesBefore, AreThoseThatReach};
-ghost use Rattle.back_stitch.specs.Held.{IsHeld, HasGone, IsPast, AreListed};
+ghost use Rattle.back_stitch.specs.Held.{HasGoneOn, IsGonePast};
 
 use crate::extend::extend;
 use crate::fault::BackFault;
@@ -77,15 +76,15 @@ fn search<P: BackSource>(alloc: Global, source: &P, definition: NodeAt) -> Resul
     Ok(tally)
 }
 
-/// Tells that the source has checked graphs with their path sets, and lists the paths by where they may end, which each
-/// look-up says.
+/// Tells that the source has checked graphs with their path sets, which each look-up says.
 fn are_sources<P: BackSource>(source: &P, at: Spot)
     ensures { All IsSourceFile (P.files source.now) }
 {
-    source.path_to(&at, 0);
+    source.ends(&at, &[]);
 }
 
-/// Joins each path that may end where this one begins in front of it; none where it begins before a reference.
+/// Joins each path in front of this one that may end where it begins and make what it asks for; none where it begins
+/// before a reference.
 fn go_on<P: BackSource>(
     alloc: Global,
     source: &P,
@@ -97,10 +96,9 @@ fn go_on<P: BackSource>(
     requires short { length path.now.edges ≤ most_edges }
     requires low { path.now.peak ≤ most_depth }
     requires few { tally.old.count ≤ most_lists }
-    ensures gone { OnOk result ((d : NodeAt) (paths : List (ℕ × Rule)) → IsTrue (is_definition_of (graphs_of (P.files source.now)) d.file d.node) → IsHeld (P.files source.now) d paths path.now → HasGone (P.files source.now) d paths (P.listed source.now) path.now.start tally.old.count tally.new.count tally.old.rows.items tally.new.rows.items work.old.items work.new.items) }
+    ensures gone { OnOk result (HasGoneOn (P.files source.now) path.now tally.old.count tally.new.count tally.old.rows.items tally.new.rows.items work.old.items work.new.items) }
     ensures few { OnOk result (tally.new.count ≤ most_lists) }
-    ensures many { result ≡ Err BackFault.Many → (d : NodeAt) (paths : List (ℕ × Rule)) → IsTrue (is_definition_of (graphs_of (P.files source.now)) d.file d.node) → IsHeld (P.files source.now) d paths path.now → IsPast (P.files source.now) d paths (P.listed source.now) path.now.start tally.old.count }
-    ensures listed { AreListed (P.files source.now) (P.listed source.now) path.now.start }
+    ensures many { result ≡ Err BackFault.Many → IsGonePast (P.files source.now) path.now tally.old.count }
 {
     match path.start() {
         Start::Before(_) => Ok(()),

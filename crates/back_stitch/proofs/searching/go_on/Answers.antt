@@ -1,5 +1,5 @@
--- In front of a rule that begins before a reference nothing comes, and behind a spot what is listed there.
-use Rattle.std.proofs.Common.{◌∙◌, refl, sym, ap, subst}
+-- In front of a rule that begins before a reference nothing comes, and behind a spot what a look-up gives.
+use Rattle.std.proofs.Common.{◌∙◌, refl, sym, ap, subst, []}
 use Rattle.std.proofs.lemmas.Result.{on_ok_weaker}
 use Rattle.partial_path.specs.declared.rule.Start.{Start}
 use Rattle.back_stitch.specs.Joined.{is_after}
@@ -14,32 +14,37 @@ extend-requires-clause-open g c = record {
 }
 
 pub returns-in-Before-clause-gone : goal.returns-in-Before-clause-gone
-returns-in-Before-clause-gone g c = λ d paths there held.
-    let start = sym c.start.ensures.value ∙ c.in-Before.is in
-    subst (λ (s : Start). HasGone (g.P.BackSource.files c.args.source.now) d paths (g.P.BackSource.listed c.args.source.now) s c.args.tally.now.count c.args.tally.now.count c.args.tally.now.rows.items c.args.tally.now.rows.items c.args.work.now.items c.args.work.now.items)
-    (sym start) (refl, refl, refl)
-
-pub returns-in-Before-clause-listed : goal.returns-in-Before-clause-listed
-returns-in-Before-clause-listed g c =
-    let start = sym c.start.ensures.value ∙ c.in-Before.is in
-    subst (λ (s : Start). AreListed (g.P.BackSource.files c.args.source.now) (g.P.BackSource.listed c.args.source.now) s) (sym start) tt
+returns-in-Before-clause-gone g c =
+    let files = g.P.BackSource.files c.args.source.now in
+    let start = sym c.start.ensures.value ∙ c.in-Before.is in record {
+      listed = [];
+      ends = subst (λ (s : Start). AreListed files c.args.path.now.pre.symbols [] s) (sym start) tt;
+      gone = λ d paths there held.
+          subst (λ (s : Start). HasGone files d paths [] s c.args.tally.now.count c.args.tally.now.count c.args.tally.now.rows.items c.args.tally.now.rows.items c.args.work.now.items c.args.work.now.items)
+          (sym start) (refl, refl, refl);
+    }
 
 pub returns-in-After-clause-gone : goal.returns-in-After-clause-gone
 returns-in-After-clause-gone g c =
+    let files = g.P.BackSource.files c.args.source.now in
     let start = sym c.start.ensures.value ∙ c.in-After.is in
     on_ok_weaker c.extend.result
-    (λ h d paths there held.
-    subst (λ (s : Start). HasGone (g.P.BackSource.files c.args.source.now) d paths (g.P.BackSource.listed c.args.source.now) s c.args.tally.now.count c.extend.new.tally.count c.args.tally.now.rows.items c.extend.new.tally.rows.items c.args.work.now.items c.extend.new.work.items)
-    (sym start) (h d paths there (held, start)))
-    c.extend.ensures.extended
+    (λ t. record {
+      listed = t.listed;
+      ends = subst (λ (s : Start). AreListed files c.args.path.now.pre.symbols t.listed s) (sym start) t.ends;
+      gone = λ d paths there held.
+          subst (λ (s : Start). HasGone files d paths t.listed s c.args.tally.now.count c.extend.new.tally.count c.args.tally.now.rows.items c.extend.new.tally.rows.items c.args.work.now.items c.extend.new.work.items)
+          (sym start) (t.extended d paths there (held, start));
+    })
+    c.extend.ensures.tried
 
 pub returns-in-After-clause-many : goal.returns-in-After-clause-many
-returns-in-After-clause-many g c h = λ d paths there held.
+returns-in-After-clause-many g c h =
+    let files = g.P.BackSource.files c.args.source.now in
     let start = sym c.start.ensures.value ∙ c.in-After.is in
-    subst (λ (s : Start). IsPast (g.P.BackSource.files c.args.source.now) d paths (g.P.BackSource.listed c.args.source.now) s c.args.tally.now.count) (sym start)
-    (c.extend.ensures.many h d paths there (held, start))
-
-pub returns-in-After-clause-listed : goal.returns-in-After-clause-listed
-returns-in-After-clause-listed g c =
-    let start = sym c.start.ensures.value ∙ c.in-After.is in
-    subst (λ (s : Start). AreListed (g.P.BackSource.files c.args.source.now) (g.P.BackSource.listed c.args.source.now) s) (sym start) c.extend.ensures.listed
+    let t = c.extend.ensures.many h in record {
+      listed = t.listed;
+      ends = subst (λ (s : Start). AreListed files c.args.path.now.pre.symbols t.listed s) (sym start) t.ends;
+      past = λ d paths there held.
+          subst (λ (s : Start). IsPast files d paths t.listed s c.args.tally.now.count) (sym start) (t.past d paths there (held, start));
+    }

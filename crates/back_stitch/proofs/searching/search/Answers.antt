@@ -2,7 +2,6 @@
 use Rattle.std.proofs.Common.{◌≡◌, ◌∙◌, ◌-◌, ◌<◌, ◌+◌, ℕ, Err, List, [], refl, take, length, append-nil, ap, sym, subst}
 use Rattle.std.proofs.lemmas.Result.{err_from_is_err_and}
 use Rattle.stacks_vars.specs.declared.scopes.NodeAt.{NodeAt}
-use Rattle.partial_path.specs.declared.config.Spot.TheVariants.{At}
 use Rattle.partial_path.specs.Rules.{Rule}
 use Rattle.back_stitch.specs.declared.fault.BackFault.TheVariants.{Many}
 use Rattle.back_stitch.specs.Held.{HasExtended, IsOverfull}
@@ -17,21 +16,22 @@ returns-in_err-extend-clause-many g c h =
     let d = c.args.definition in
     let fault = err_from_is_err_and c.from_residual.result c.from_residual.ensures.1 in
     let was : c.extend.result ≡ Err Many = cc (fault.1, fault.2, c.in_err-extend.was, h) in
-    many_first files d c.are_sources.ensures c.requires.definition (g.P.BackSource.listed c.args.source.now (At d)) c.extend.ensures.listed
-    (subst (λ (n : ℕ). IsOverfull files d [] (g.P.BackSource.listed c.args.source.now (At d)) n) c.new-tally.ensures.count (c.extend.ensures.many was d [] c.requires.definition (refl, refl)))
+    let t = c.extend.ensures.many was in
+    many_first files d c.are_sources.ensures c.requires.definition t.listed t.ends
+    (subst (λ (n : ℕ). IsOverfull files d [] t.listed n) c.new-tally.ensures.count (t.past d [] c.requires.definition (refl, refl)))
 
 pub loop-path-init : goal.loop-path-init
 loop-path-init g c =
     let files = g.P.BackSource.files c.args.source.now in
     let d = c.args.definition in
-    let listed = g.P.BackSource.listed c.args.source.now (At d) in record {
+    let t = c.in_ok-extend.ensures.tried in record {
       few = c.in_ok-extend.ensures.few;
       going = λ sources at.
-          going_first files d sources at listed c.extend.new.tally.count c.extend.new.tally.rows.items c.extend.new.work.items c.extend.ensures.listed
-          (subst (λ (w : List Rule). HasExtended files d [] listed 0 c.extend.new.tally.count [] c.extend.new.tally.rows.items w c.extend.new.work.items) c.new-work.ensures.items
-          (subst (λ (r : List NodeAt). HasExtended files d [] listed 0 c.extend.new.tally.count r c.extend.new.tally.rows.items c.new-work.result.items c.extend.new.work.items) c.new-tally.ensures.rows
-          (subst (λ (n : ℕ). HasExtended files d [] listed n c.extend.new.tally.count c.new-tally.result.rows.items c.extend.new.tally.rows.items c.new-work.result.items c.extend.new.work.items) c.new-tally.ensures.count
-          (c.in_ok-extend.ensures.extended d [] at (refl, refl)))));
+          going_first files d sources at t.listed c.extend.new.tally.count c.extend.new.tally.rows.items c.extend.new.work.items t.ends
+          (subst (λ (w : List Rule). HasExtended files d [] t.listed 0 c.extend.new.tally.count [] c.extend.new.tally.rows.items w c.extend.new.work.items) c.new-work.ensures.items
+          (subst (λ (r : List NodeAt). HasExtended files d [] t.listed 0 c.extend.new.tally.count r c.extend.new.tally.rows.items c.new-work.result.items c.extend.new.work.items) c.new-tally.ensures.rows
+          (subst (λ (n : ℕ). HasExtended files d [] t.listed n c.extend.new.tally.count c.new-tally.result.rows.items c.extend.new.tally.rows.items c.new-work.result.items c.extend.new.work.items) c.new-tally.ensures.count
+          (t.extended d [] at (refl, refl)))));
     }
 
 pub go_on-requires-clause-short : goal.go_on-requires-clause-short
@@ -56,9 +56,9 @@ loop-path-smaller g c =
     let d = c.args.definition in
     let going = c.loop-path.invariant.going c.are_sources.ensures c.requires.definition in
     subst (λ (w : List Rule). (most_lists - c.go_on.new.tally.count) + length c.go_on.new.work.items < (most_lists - c.loop-path.tally.count) + length w) (sym c.in-Some.ensures.items)
-    (falls files d c.are_sources.ensures c.requires.definition (g.P.BackSource.listed c.args.source.now) c.pop.new.self.items c.go_on.new.work.items c.in-Some.path c.loop-path.tally.count c.go_on.new.tally.count c.loop-path.tally.rows.items c.go_on.new.tally.rows.items
+    (falls files d c.are_sources.ensures c.requires.definition c.in_ok-go_on.ensures.gone.listed c.pop.new.self.items c.go_on.new.work.items c.in-Some.path c.loop-path.tally.count c.go_on.new.tally.count c.loop-path.tally.rows.items c.go_on.new.tally.rows.items
     (subst (λ (w : List Rule). IsGoing files d c.are_sources.ensures c.requires.definition w c.loop-path.tally.count c.loop-path.tally.rows.items) c.in-Some.ensures.items going)
-    (λ paths held. c.in_ok-go_on.ensures.gone d paths c.requires.definition held) c.in_ok-go_on.ensures.few)
+    (λ paths held. c.in_ok-go_on.ensures.gone.gone d paths c.requires.definition held) c.in_ok-go_on.ensures.few)
 
 pub loop-path-preserved : goal.loop-path-preserved
 loop-path-preserved g c =
@@ -66,10 +66,10 @@ loop-path-preserved g c =
     let d = c.args.definition in record {
       few = c.in_ok-go_on.ensures.few;
       going = λ sources at.
-          going_on files d sources at (g.P.BackSource.listed c.args.source.now) c.pop.new.self.items c.go_on.new.work.items c.in-Some.path c.loop-path.tally.count c.go_on.new.tally.count c.loop-path.tally.rows.items c.go_on.new.tally.rows.items
-          c.go_on.ensures.listed
+          going_on files d sources at c.in_ok-go_on.ensures.gone.listed c.pop.new.self.items c.go_on.new.work.items c.in-Some.path c.loop-path.tally.count c.go_on.new.tally.count c.loop-path.tally.rows.items c.go_on.new.tally.rows.items
+          c.in_ok-go_on.ensures.gone.ends
           (subst (λ (w : List Rule). IsGoing files d sources at w c.loop-path.tally.count c.loop-path.tally.rows.items) c.in-Some.ensures.items (c.loop-path.invariant.going sources at))
-          (λ paths held. c.in_ok-go_on.ensures.gone d paths at held);
+          (λ paths held. c.in_ok-go_on.ensures.gone.gone d paths at held);
     }
 
 pub returns-in_err-go_on-clause-many : goal.returns-in_err-go_on-clause-many
@@ -78,10 +78,11 @@ returns-in_err-go_on-clause-many g c h =
     let d = c.args.definition in
     let fault = err_from_is_err_and c.from_residual-in_err-go_on.result c.from_residual-in_err-go_on.ensures.1 in
     let was : c.go_on.result ≡ Err Many = cc (fault.1, fault.2, c.in_err-go_on.was, h) in
-    many_on files d c.are_sources.ensures c.requires.definition (g.P.BackSource.listed c.args.source.now) c.pop.new.self.items c.in-Some.path c.loop-path.tally.count c.loop-path.tally.rows.items
-    c.go_on.ensures.listed
+    let t = c.go_on.ensures.many was in
+    many_on files d c.are_sources.ensures c.requires.definition t.listed c.pop.new.self.items c.in-Some.path c.loop-path.tally.count c.loop-path.tally.rows.items
+    t.ends
     (subst (λ (w : List Rule). IsGoing files d c.are_sources.ensures c.requires.definition w c.loop-path.tally.count c.loop-path.tally.rows.items) c.in-Some.ensures.items (c.loop-path.invariant.going c.are_sources.ensures c.requires.definition))
-    (λ paths held. c.go_on.ensures.many was d paths c.requires.definition held)
+    (λ paths held. t.past d paths c.requires.definition held)
 
 pub returns-clause-begin : goal.returns-clause-begin
 returns-clause-begin g c =

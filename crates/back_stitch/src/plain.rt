@@ -1,0 +1,221 @@
+//! A source that goes over all paths at each look-up.
+ghost use Rattle.std.specs.Prelude.{◌≡◌, ◌≤◌, ◌^◌, [], ◌∷◌, List, length, slice_get, option_map, filter, drop, MatchOption};
+ghost use Rattle.partial_path.specs.PathSets.{FileRules};
+ghost use Rattle.back_stitch.specs.Sources.{agrees, rules_to};
+ghost use Rattle.back_stitch.specs.Plain.{ends_in, ends_left, agreed_left};
+
+use crate::ending::{is_definition_in, is_exported_in, may_end};
+use crate::source::BackSource;
+use partial_path::{FilePaths, PartialPath, Spot};
+use stacks_vars::{NodeAt, SymOut, SymPat};
+use std::alloc::{AllocError, Global};
+use std::marker::Model;
+
+/// Where a look-up that goes over all paths stands.
+#[derive(Clone, Copy, Debug)]
+pub struct PlainEnds {
+    /// Where the paths end.
+    pub spot: Spot,
+    /// The number of the file that is gone over.
+    pub file: usize,
+    /// The place in it of the path that is looked at next.
+    pub place: usize,
+}
+
+/// The path sets of a list of files. Each look-up goes over all paths of all files: it serves tests, and few files. A
+/// contract sees the list.
+#[derive(Debug, Drop)]
+pub struct PlainSource {
+    files: Vec<FilePaths>,
+}
+
+impl Model for PlainSource {
+    ghost use Rattle.std.specs.Prelude.{List};
+    ghost use Rattle.partial_path.specs.PathSets.{FileRules};
+    ghost use Rattle.back_stitch.specs.Plain.{AreFiles};
+
+    ghost Value = { List FileRules };
+
+    ghost view = { λ s. s.files.items };
+
+    ghost invariant = { λ s. AreFiles s.files.items };
+}
+
+impl PlainSource {
+    ghost use Rattle.std.specs.Prelude.{◌≡◌, ◌<◌, ◌^◌, [], ◌∷◌, ◌++◌, length, IfOk, OnErr};
+    ghost use Rattle.graph_nodes.specs.Whole.{is_definition_of};
+    ghost use Rattle.partial_path.specs.Sources.{graphs_of};
+
+    /// No files. It takes no memory.
+    pub fn new(alloc: Global) -> PlainSource
+        ensures { result ≡ [] }
+    {
+        PlainSource {
+            files: Vec::new(alloc),
+        }
+    }
+
+    /// How many files it has.
+    pub fn len(&self) -> usize
+        ensures { result ≡ length self.now }
+    {
+        self.files.len()
+    }
+
+    /// Whether the node is a definition of its file; false where there is no such file or node.
+    pub fn is_definition(&self, at: &NodeAt) -> bool
+        ensures { result ≡ is_definition_of (graphs_of self.now) at.now.file at.now.node }
+    {
+        is_definition_in(self.files.as_slice(), *at)
+    }
+
+    /// Puts the file last; the one error is want of memory, and leaves the list as it was.
+    pub fn push(&mut self, file: FilePaths) -> Result<(), AllocError>
+        requires { length self.old < 2 ^ 32 }
+        ensures ok { IfOk result (λ _. self.new ≡ self.old ++ file ∷ []) }
+        ensures err { OnErr result (self.new ≡ self.old) }
+    {
+        let _nodes = file.node_count();
+        self.files.push(file)?;
+        Ok(())
+    }
+}
+
+impl BackSource for PlainSource {
+    ghost use Rattle.back_stitch.specs.Sources.{rules_to};
+    ghost use Rattle.back_stitch.specs.Plain.{agreed_left};
+
+    ghost files = { λ l. l };
+
+    ghost listed = { λ l at. rules_to l at };
+
+    fn path_to(&self, spot: &Spot, k: usize) -> Option<(u32, &PartialPath)> {
+        path_of(self.files.as_slice(), *spot, k)
+    }
+
+    type Ends = PlainEnds;
+
+    ghost given = { λ l symbols at. agreed_left l symbols at };
+
+    fn ends(&self, spot: &Spot, _symbols: &[SymPat]) -> PlainEnds {
+        // The files' facts are known once they are looked at.
+        let _count = self.files.len();
+        first_end(*spot)
+    }
+
+    fn next_end(
+        &self,
+        symbols: &[SymPat],
+        at: PlainEnds,
+    ) -> Option<(u32, &PartialPath, PlainEnds)> {
+        next_agreed(self.files.as_slice(), symbols, at)
+    }
+
+    fn is_exported(&self, at: &NodeAt) -> bool {
+        is_exported_in(self.files.as_slice(), *at)
+    }
+}
+
+/// Before the first path that may end at the spot.
+fn first_end(spot: Spot) -> PlainEnds
+    ensures { (files : List FileRules) → ends_left files result ≡ rules_to files spot }
+{
+    PlainEnds {
+        spot,
+        file: 0,
+        place: 0,
+    }
+}
+
+/// The path at place `k` of those of the files that may end at the spot, with its file's number.
+fn path_of<'a>(files: &'a [FilePaths], spot: Spot, k: usize) -> Option<(u32, &'a PartialPath)>
+    requires { length files.now ≤ 2 ^ 32 }
+    ensures { option_map (λ found. (found.0, found.1.now)) result ≡ slice_get (rules_to files.now spot) k }
+{
+    let mut at = first_end(spot);
+    let mut left = k;
+    while left > 0 {
+        let Some(found) = next_of(files, at) else {
+            return None;
+        };
+        at = found.2;
+        left -= 1;
+    }
+    match next_of(files, at) {
+        Some(found) => Some((found.0, found.1)),
+        None => None,
+    }
+}
+
+/// The next of the paths that make what is asked for, with its file's number, and where the look-up stands after it.
+fn next_agreed<'a>(
+    files: &'a [FilePaths],
+    symbols: &[SymPat],
+    at: PlainEnds,
+) -> Option<(u32, &'a PartialPath, PlainEnds)>
+    requires { length files.now ≤ 2 ^ 32 }
+    ensures { MatchOption result (agreed_left files.now symbols.now at ≡ []) (λ found. agreed_left files.now symbols.now at ≡ (found.0, found.1.now) ∷ agreed_left files.now symbols.now found.2) }
+{
+    let mut next = at;
+    while let Some(found) = next_of(files, next) {
+        if agrees(symbols, found.1.post().symbols.items()) {
+            return Some(found);
+        }
+        next = found.2;
+    }
+    None
+}
+
+/// Whether the symbols that a path makes have the texts of the first of those that are asked for, one by one.
+fn agrees(asked: &[SymPat], made: &[SymOut]) -> bool
+    ensures { result ≡ agrees asked.now made.now }
+{
+    if made.len() > asked.len() {
+        return false;
+    }
+    for place in 0..made.len() {
+        if !asked[place].symbol.same(&made[place].symbol) {
+            return false;
+        }
+    }
+    true
+}
+
+/// The next of all paths that may end at the spot, with its file's number, and where the look-up stands after it.
+fn next_of<'a>(files: &'a [FilePaths], at: PlainEnds) -> Option<(u32, &'a PartialPath, PlainEnds)>
+    requires { length files.now ≤ 2 ^ 32 }
+    ensures { MatchOption result (ends_left files.now at ≡ []) (λ found. ends_left files.now at ≡ (found.0, found.1.now) ∷ ends_left files.now found.2) }
+{
+    let mut place = at.place;
+    for file in at.file..files.len() {
+        let paths = files[file].paths();
+        if let Some(found) = next_in(files, file as u32, paths, at.spot, place) {
+            let after = PlainEnds {
+                spot: at.spot,
+                file,
+                place: found.1,
+            };
+            return Some((file as u32, found.0, after));
+        }
+        place = 0;
+    }
+    None
+}
+
+/// The first path, from that place on, of the file with that number that may end at the spot, and the place behind it.
+fn next_in<'a>(
+    files: &[FilePaths],
+    number: u32,
+    paths: &'a [PartialPath],
+    spot: Spot,
+    place: usize,
+) -> Option<(&'a PartialPath, usize)>
+    ensures { MatchOption result (filter (ends_in files.now spot number) (drop place paths.now) ≡ []) (λ found. filter (ends_in files.now spot number) (drop place paths.now) ≡ found.0.now ∷ filter (ends_in files.now spot number) (drop found.1 paths.now)) }
+{
+    for next in place..paths.len() {
+        if may_end(files, number, &paths[next], spot) {
+            return Some((&paths[next], next + 1));
+        }
+    }
+    None
+}

@@ -1,0 +1,211 @@
+-- Which paths of files stand in an index: those that pass, each once.
+use Rattle.std.proofs.Common.{◌≡◌, ◌≢◌, refl, sym, ◌∙◌, ap, subst, ℕ, zero, suc, ◌+◌, ◌<◌, ◌≤◌, List, [], ◌∷◌, ◌++◌, Bool, true, false, cond, Some, arith, ◌⊎◌, inl, inr, slice_get, get_or, drop, length, append_assoc, append-nil}
+use Rattle.std.specs.List.{AllByRecursion}
+use Rattle.std.specs.List.Sorted.{IsPermutation}
+use Rattle.std.proofs.lemmas.List.{drop_more, drop_all}
+use Rattle.std.proofs.lemmas.List.Sorted.{Contains-permutation, IsPermutation-sym}
+use Rattle.std.proofs.lemmas.Option.{none-some, same_Some}
+use Rattle.list_facts.specs.Members.{IsIn}
+use Rattle.list_facts.specs.Apart.{IsApart}
+use Rattle.list_facts.proofs.Members.{IsIn-append_left, IsIn-append_right, IsIn-append_cases, IsIn-from_Contains, Contains-from_IsIn}
+use Rattle.list_facts.proofs.Apart.{IsApart-append}
+use Rattle.partial_path.specs.Rules.{Rule}
+use Rattle.partial_path.specs.PathSets.{FileRules}
+use Rattle.partial_path.proofs.Reordered.{apart_reordered}
+use Rattle.end_index.specs.declared.place.EndPlace.{EndPlace}
+use Rattle.end_index.specs.Ends.{end_place, ends_in, ends_after}
+
+-- an element of a list stands at some place, and what stands at a place is an element
+
+pub place_of : {X : Type 0} (x : X) (xs : List X) → IsIn x xs → (k : ℕ) × (slice_get xs k ≡ Some x)
+place_of x [] h = absurd h
+place_of x (y ∷ xs) (inl e) = (zero, ap Some (sym e))
+place_of x (y ∷ xs) (inr h) = let r = place_of x xs h in (suc r.0, r.1)
+
+pub at_place : {X : Type 0} (x : X) (xs : List X) (k : ℕ) → slice_get xs k ≡ Some x → IsIn x xs
+at_place x [] k e = absurd (none-some x e)
+at_place x (y ∷ xs) zero e = inl (sym (same_Some y x e))
+at_place x (y ∷ xs) (suc k) e = inr (at_place x xs k e)
+
+differs : {X : Type 0} (x y : X) (xs : List X) → AllByRecursion (λ (z : X). y ≢ z) xs → IsIn x xs → y ≡ x → ⊥
+differs x y [] all h e = h
+differs x y (z ∷ xs) all (inl h) e = all.0 (e ∙ h)
+differs x y (z ∷ xs) all (inr h) e = differs x y xs all.1 h e
+
+-- of a list whose elements differ, one element stands at one place
+pub one_place : {X : Type 0} (x : X) (xs : List X) (i j : ℕ) → IsApart xs → slice_get xs i ≡ Some x → slice_get xs j ≡ Some x → i ≡ j
+one_place x [] i j apart e f = absurd (none-some x e)
+one_place x (y ∷ xs) zero zero apart e f = refl
+one_place x (y ∷ xs) zero (suc j) apart e f = absurd (differs x y xs apart.0 (at_place x xs j f) (same_Some y x e))
+one_place x (y ∷ xs) (suc i) zero apart e f = absurd (differs x y xs apart.0 (at_place x xs i e) (same_Some y x f))
+one_place x (y ∷ xs) (suc i) (suc j) apart e f = ap suc (one_place x xs i j apart.1 e f)
+
+-- the files from one of them on
+pub file_first : (files : List FileRules) (i : ℕ) (f : FileRules) → slice_get files i ≡ Some f → drop i files ≡ f ∷ drop (i + 1) files
+file_first [] i f found = absurd (none-some f found)
+file_first (g ∷ files) zero f found = ap (λ h. h ∷ files) (same_Some g f found)
+file_first (g ∷ files) (suc i) f found =
+    let next : suc (i + 1) ≡ suc i + 1 = omega arith in file_first files i f found ∙ ap (λ n. f ∷ drop n (g ∷ files)) next
+
+module _ (passes : Rule → Bool) where
+  -- the path stands in a file of that number among the rules, of which the first has the place
+  pub record IsEndIn (file place : ℕ) (rules : List Rule) (e : EndPlace) : Type 0 where
+    pub k : ℕ
+    pub rule : Rule
+    pub there : slice_get rules k ≡ Some rule
+    pub passing : passes rule ≡ true
+    pub is : e ≡ end_place file (place + k) rule
+
+  one_of : (b : Bool) (x y : EndPlace) → IsIn x (cond b (y ∷ []) []) → (b ≡ true) × (x ≡ y)
+  one_of true x y (inl e) = (refl, e)
+  one_of true x y (inr h) = absurd h
+  one_of false x y h = absurd h
+
+  pub end_from : (file place : ℕ) (rules : List Rule) (e : EndPlace) → IsIn e (ends_in passes file place rules) → IsEndIn file place rules e
+  end_from file place [] e h = absurd h
+  end_from file place (rule ∷ rules) e h =
+      by (IsIn-append_cases e (cond (passes rule) (end_place file place rule ∷ []) []) (ends_in passes file (place + 1) rules) h) (λ g. end_from file (place + 1) rules e g)
+    where
+      by : IsIn e (cond (passes rule) (end_place file place rule ∷ []) []) ⊎ IsIn e (ends_in passes file (place + 1) rules)
+          → (IsIn e (ends_in passes file (place + 1) rules) → IsEndIn file (place + 1) rules e) → IsEndIn file place (rule ∷ rules) e
+      by (inl g) on =
+          let (passing, is) = one_of (passes rule) e (end_place file place rule) g in
+          let here : place ≡ place + zero = omega arith in
+          record { k = zero; rule = rule; there = refl; passing = passing; is = is ∙ ap (λ n. end_place file n rule) here }
+      by (inr g) on =
+          let r = on g in
+          let next : (place + 1) + r.k ≡ place + suc r.k = omega arith in
+          record { k = suc r.k; rule = r.rule; there = r.there; passing = r.passing; is = r.is ∙ ap (λ n. end_place file n r.rule) next }
+
+  pub end_into : (file place : ℕ) (rules : List Rule) (k : ℕ) (rule : Rule) → slice_get rules k ≡ Some rule → passes rule ≡ true
+      → IsIn (end_place file (place + k) rule) (ends_in passes file place rules)
+  end_into file place [] k rule there passing = absurd (none-some rule there)
+  end_into file place (first ∷ rules) zero rule there passing =
+      let same : first ≡ rule = same_Some first rule there in
+      let here : place + zero ≡ place = omega arith in
+      IsIn-append_left (end_place file (place + zero) rule) (cond (passes first) (end_place file place first ∷ []) []) (ends_in passes file (place + 1) rules)
+      (subst (λ (b : Bool). IsIn (end_place file (place + zero) rule) (cond b (end_place file place first ∷ []) [])) (sym (ap passes same ∙ passing))
+      (inl (λ i. end_place file (here i) (sym same i))))
+  end_into file place (first ∷ rules) (suc k) rule there passing =
+      let next : (place + 1) + k ≡ place + suc k = omega arith in
+      IsIn-append_right (end_place file (place + suc k) rule) (cond (passes first) (end_place file place first ∷ []) []) (ends_in passes file (place + 1) rules)
+      (subst (λ n. IsIn (end_place file n rule) (ends_in passes file (place + 1) rules)) next (end_into file (place + 1) rules k rule there passing))
+
+  apart_in : (file place : ℕ) (rules : List Rule) → IsApart (ends_in passes file place rules)
+  apart_in file place [] = tt
+  apart_in file place (rule ∷ rules) =
+      IsApart-append (cond (passes rule) (end_place file place rule ∷ []) []) (ends_in passes file (place + 1) rules) (short (passes rule)) (apart_in file (place + 1) rules)
+      (λ e here there.
+      let one = one_of (passes rule) e (end_place file place rule) here in
+      let r = end_from file (place + 1) rules e there in
+      let a : e.place ≡ place = ap (λ (p : EndPlace). p.place) one.1 in
+      let b : e.place ≡ (place + 1) + r.k = ap (λ (p : EndPlace). p.place) r.is in
+      omega (arith, a, b))
+    where
+      short : (b : Bool) → IsApart (cond b (end_place file place rule ∷ []) [])
+      short true = (tt, tt)
+      short false = tt
+
+  -- the same of files of which the first has the number
+  pub record IsEndOf (first : ℕ) (files : List FileRules) (e : EndPlace) : Type 0 where
+    pub i : ℕ
+    pub file : FileRules
+    pub found : slice_get files i ≡ Some file
+    pub here : IsEndIn (first + i) 0 file.rules e
+
+  pub end_of : (first : ℕ) (files : List FileRules) (e : EndPlace) → IsIn e (ends_after passes first files) → IsEndOf first files e
+  end_of first [] e h = absurd h
+  end_of first (f ∷ files) e h = by (IsIn-append_cases e (ends_in passes first 0 f.rules) (ends_after passes (first + 1) files) h) (λ g. end_of (first + 1) files e g)
+    where
+      by : IsIn e (ends_in passes first 0 f.rules) ⊎ IsIn e (ends_after passes (first + 1) files)
+          → (IsIn e (ends_after passes (first + 1) files) → IsEndOf (first + 1) files e) → IsEndOf first (f ∷ files) e
+      by (inl g) on =
+          let none : first ≡ first + zero = omega arith in
+          record { i = zero; file = f; found = refl; here = subst (λ n. IsEndIn n 0 f.rules e) none (end_from first 0 f.rules e g) }
+      by (inr g) on =
+          let r = on g in
+          let next : (first + 1) + r.i ≡ first + suc r.i = omega arith in
+          record { i = suc r.i; file = r.file; found = r.found; here = subst (λ n. IsEndIn n 0 r.file.rules e) next r.here }
+
+  pub of_end : (first : ℕ) (files : List FileRules) (i : ℕ) (file : FileRules) (k : ℕ) (rule : Rule) → slice_get files i ≡ Some file → slice_get file.rules k ≡ Some rule
+      → passes rule ≡ true → IsIn (end_place (first + i) k rule) (ends_after passes first files)
+  of_end first [] i file k rule found there passing = absurd (none-some file found)
+  of_end first (f ∷ files) zero file k rule found there passing =
+      let same : f ≡ file = same_Some f file found in
+      let none : first ≡ first + zero = omega arith in
+      let whole : 0 + k ≡ k = omega arith in
+      IsIn-append_left (end_place (first + zero) k rule) (ends_in passes first 0 f.rules) (ends_after passes (first + 1) files)
+      (subst (λ n. IsIn (end_place n k rule) (ends_in passes first 0 f.rules)) none
+      (subst (λ n. IsIn (end_place first n rule) (ends_in passes first 0 f.rules)) whole
+      (end_into first 0 f.rules k rule (ap (λ (g : FileRules). slice_get g.rules k) same ∙ there) passing)))
+  of_end first (f ∷ files) (suc i) file k rule found there passing =
+      let next : (first + 1) + i ≡ first + suc i = omega arith in
+      IsIn-append_right (end_place (first + suc i) k rule) (ends_in passes first 0 f.rules) (ends_after passes (first + 1) files)
+      (subst (λ n. IsIn (end_place n k rule) (ends_after passes (first + 1) files)) next (of_end (first + 1) files i file k rule found there passing))
+
+  apart_after : (first : ℕ) (files : List FileRules) → IsApart (ends_after passes first files)
+  apart_after first [] = tt
+  apart_after first (f ∷ files) =
+      IsApart-append (ends_in passes first 0 f.rules) (ends_after passes (first + 1) files) (apart_in first 0 f.rules) (apart_after (first + 1) files)
+      (λ e here there.
+      let r = end_from first 0 f.rules e here in
+      let o = end_of (first + 1) files e there in
+      let a : e.file ≡ first = ap (λ (p : EndPlace). p.file) r.is in
+      let b : e.file ≡ (first + 1) + o.i = ap (λ (p : EndPlace). p.file) o.here.is in
+      omega (arith, a, b))
+
+  -- and of a list of them in another order
+  module _ (files : List FileRules) (places : List EndPlace) (same : IsPermutation (ends_after passes 0 files) places) where
+    pub kept_from : (e : EndPlace) → IsIn e places → IsEndOf 0 files e
+    kept_from e h =
+        end_of 0 files e (IsIn-from_Contains (ends_after passes 0 files) e
+        (Contains-permutation places (ends_after passes 0 files) e (IsPermutation-sym (ends_after passes 0 files) places same) (Contains-from_IsIn places e h)))
+
+    pub kept_into : (i : ℕ) (file : FileRules) (k : ℕ) (rule : Rule) → slice_get files i ≡ Some file → slice_get file.rules k ≡ Some rule → passes rule ≡ true
+        → IsIn (end_place i k rule) places
+    kept_into i file k rule found there passing =
+        let whole : 0 + i ≡ i = omega arith in
+        IsIn-from_Contains places (end_place i k rule)
+        (Contains-permutation (ends_after passes 0 files) places (end_place i k rule) same
+        (Contains-from_IsIn (ends_after passes 0 files) (end_place i k rule)
+        (subst (λ n. IsIn (end_place n k rule) (ends_after passes 0 files)) whole (of_end 0 files i file k rule found there passing))))
+
+    pub kept_apart : IsApart places
+    kept_apart = apart_reordered (ends_after passes 0 files) places same (apart_after 0 files)
+
+  -- gathering them: what was gathered, then what is left, is the whole
+  one_alone : (file place : ℕ) (rule : Rule) (rest : List EndPlace) → ends_in passes file place (rule ∷ []) ++ rest ≡ cond (passes rule) (end_place file place rule ∷ []) [] ++ rest
+  one_alone file place rule rest = ap (λ (ps : List EndPlace). ps ++ rest) (append-nil (cond (passes rule) (end_place file place rule ∷ []) []))
+
+  -- one that passes is put behind those that were there
+  pub put_behind : (file place : ℕ) (rule : Rule) (old new : List EndPlace) (e : EndPlace) → new ≡ old ++ e ∷ [] → e ≡ end_place file place rule → passes rule ≡ true
+      → new ≡ old ++ ends_in passes file place (rule ∷ [])
+  put_behind file place rule old new e is same passing =
+      is ∙ ap (λ (p : EndPlace). old ++ p ∷ []) same
+      ∙ sym (ap (λ (b : Bool). old ++ (cond b (end_place file place rule ∷ []) [] ++ [])) passing)
+
+  pub one_added : (file place : ℕ) (rules : List Rule) (d : Rule) (done more whole : List EndPlace) → place < length rules → more ≡ done ++ ends_in passes file place (get_or rules place d ∷ [])
+      → done ++ ends_in passes file place (drop place rules) ≡ whole → more ++ ends_in passes file (place + 1) (drop (place + 1) rules) ≡ whole
+  one_added file place rules d done more whole h is e =
+      ap (λ (ps : List EndPlace). ps ++ ends_in passes file (place + 1) (drop (place + 1) rules)) is
+      ∙ append_assoc done (ends_in passes file place (get_or rules place d ∷ [])) (ends_in passes file (place + 1) (drop (place + 1) rules))
+      ∙ ap (λ (ps : List EndPlace). done ++ ps) (one_alone file place (get_or rules place d) (ends_in passes file (place + 1) (drop (place + 1) rules)))
+      ∙ sym (ap (λ (rs : List Rule). done ++ ends_in passes file place rs) (drop_more rules place d h))
+      ∙ e
+
+  pub file_added : (files : List FileRules) (i : ℕ) (f : FileRules) (rules : List Rule) (done more whole : List EndPlace) → slice_get files i ≡ Some f → rules ≡ f.rules
+      → more ≡ done ++ ends_in passes i 0 rules → done ++ ends_after passes i (drop i files) ≡ whole → more ++ ends_after passes (i + 1) (drop (i + 1) files) ≡ whole
+  file_added files i f rules done more whole found same is e =
+      ap (λ (ps : List EndPlace). ps ++ ends_after passes (i + 1) (drop (i + 1) files)) (is ∙ ap (λ (rs : List Rule). done ++ ends_in passes i 0 rs) same)
+      ∙ append_assoc done (ends_in passes i 0 f.rules) (ends_after passes (i + 1) (drop (i + 1) files))
+      ∙ sym (ap (λ (fs : List FileRules). done ++ ends_after passes i fs) (file_first files i f found))
+      ∙ e
+
+  -- at the end all were gathered
+  pub ends_over : (file place : ℕ) (rules : List Rule) (done whole : List EndPlace) → length rules ≤ place → done ++ ends_in passes file place (drop place rules) ≡ whole → done ≡ whole
+  ends_over file place rules done whole h e =
+      sym (append-nil done) ∙ sym (ap (λ (rs : List Rule). done ++ ends_in passes file place rs) (drop_all place rules h)) ∙ e
+
+  pub files_over : (first : ℕ) (files : List FileRules) (done whole : List EndPlace) → length files ≤ first → done ++ ends_after passes first (drop first files) ≡ whole → done ≡ whole
+  files_over first files done whole h e =
+      sym (append-nil done) ∙ sym (ap (λ (fs : List FileRules). done ++ ends_after passes first fs) (drop_all first files h)) ∙ e

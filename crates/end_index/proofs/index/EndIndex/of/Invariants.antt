@@ -1,0 +1,11 @@
+use Rattle.std.proofs.Common.{◌≡◌, ◌++◌, drop}
+use Rattle.root_index.specs.Offers.{files_of}
+use Rattle.end_index.specs.Ends.{ends_at_root, ends_by_stack, ends_after}
+use Rattle.end_index.proofs.index.EndIndex.of.Given as goal
+
+-- what was gathered, then what is left, is the whole
+abbrev pub invariant-loop-file : goal.invariant-loop-file
+invariant-loop-file l = record {
+  root : l.ends.root ++ ends_after ends_at_root l.file (drop l.file (files_of l.view)) ≡ ends_after ends_at_root 0 (files_of l.view);
+  stack : l.ends.stack ++ ends_after ends_by_stack l.file (drop l.file (files_of l.view)) ≡ ends_after ends_by_stack 0 (files_of l.view);
+}

@@ -1,0 +1,34 @@
+-- A path that may not end at the spot is passed over, and each other counts.
+use Rattle.std.proofs.Common.{refl, sym, ◌∙◌, ap, Some, arith}
+use Rattle.partial_path.specs.Sources.{graphs_of}
+use Rattle.partial_path.proofs.Asking.{left_skipped, left_counted, left_found, left_none}
+use Rattle.root_index.specs.Offers.{files_of}
+use Rattle.end_index.proofs.Listed.{may_in}
+use Rattle.end_index.proofs.listing.ending.Goals as goal
+
+pub loop-path-init : goal.loop-path-init
+loop-path-init c = record { same = refl; passed = refl }
+
+pub loop-path-preserved-then-not-may_end : goal.loop-path-preserved-then-not-may_end
+loop-path-preserved-then-not-may_end c =
+    left_skipped (may_in (graphs_of (files_of c.args.view.now)) c.args.spot c.args.file) c.args.paths.now c.args.paths.now c.loop-path.path-index c.args.left.now c.loop-path.left c.path-item.result c.loop-path-test.true
+    (ap (may_in (graphs_of (files_of c.args.view.now)) c.args.spot c.args.file) (sym c.path-item.is) ∙ sym c.may_end.ensures ∙ c.if-not-may_end.true) c.loop-path.invariant
+
+pub returns-then-left-eq0-clause-found : goal.returns-then-left-eq0-clause-found
+returns-then-left-eq0-clause-found c =
+    ap Some c.path-item.is
+    ∙ left_found (may_in (graphs_of (files_of c.args.view.now)) c.args.spot c.args.file) c.args.paths.now c.args.paths.now c.loop-path.path-index c.args.left.now c.loop-path.left c.path-item.result c.loop-path-test.true
+    (ap (may_in (graphs_of (files_of c.args.view.now)) c.args.spot c.args.file) (sym c.path-item.is) ∙ sym c.may_end.ensures ∙ c.if-not-may_end.false) c.if-left-eq0.true c.loop-path.invariant
+
+pub loop-path-preserved : goal.loop-path-preserved
+loop-path-preserved c =
+    left_counted (may_in (graphs_of (files_of c.args.view.now)) c.args.spot c.args.file) c.args.paths.now c.args.paths.now c.loop-path.path-index c.args.left.now c.loop-path.left c.path-item.result c.loop-path-test.true
+    (ap (may_in (graphs_of (files_of c.args.view.now)) c.args.spot c.args.file) (sym c.path-item.is) ∙ sym c.may_end.ensures ∙ c.if-not-may_end.false) (omega arith) c.loop-path.invariant
+
+pub returns-clause-found : goal.returns-clause-found
+returns-clause-found c =
+    (left_none (may_in (graphs_of (files_of c.args.view.now)) c.args.spot c.args.file) c.args.paths.now c.args.paths.now c.loop-path.path-index c.args.left.now c.loop-path.left (omega arith) c.loop-path.invariant).0
+
+pub returns-clause-rest : goal.returns-clause-rest
+returns-clause-rest c =
+    (left_none (may_in (graphs_of (files_of c.args.view.now)) c.args.spot c.args.file) c.args.paths.now c.args.paths.now c.loop-path.path-index c.args.left.now c.loop-path.left (omega arith) c.loop-path.invariant).1

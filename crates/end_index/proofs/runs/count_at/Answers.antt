@@ -1,0 +1,10 @@
+use Rattle.std.proofs.Common.{rules}
+use Rattle.std.proofs.lemmas.List.Sorted.{IsPartitionPoint-from_clause}
+use Rattle.partial_path.proofs.Halved.{prefix_from_point}
+use Rattle.end_index.specs.Runs.{is_in_run}
+use Rattle.end_index.proofs.runs.count_at.Goals as goal
+
+pub returns-clause-value : goal.returns-clause-value
+returns-clause-value c =
+    prefix_from_point (is_in_run c.args.wanted.now c.args.asked) _ _ c.partition_point.ensures.bound
+    (IsPartitionPoint-from_clause (is_in_run c.args.wanted.now c.args.asked) _ _ c.partition_point.ensures.partitioned c.requires (λ a r q k. search rules))

@@ -1,0 +1,4 @@
+pub mod Marks
+pub mod Runs
+pub mod Ends
+pub mod Looks

@@ -1,0 +1,109 @@
+use crate::marks::marks_made;
+use crate::place::{EndPlace, order};
+use partial_path::{End, PartialPath, Spot};
+use std::alloc::{AllocError, Global};
+use std::marker::Model;
+use version_tree::View;
+
+/// Of all paths of the files that a user sees those that end at the root, and those that end by the stack and make no
+/// scope, each in the order of the marks of the symbols that they make. A contract sees it as these two lists.
+#[derive(Drop)]
+pub struct EndIndex {
+    root: Vec<EndPlace>,
+    stack: Vec<EndPlace>,
+}
+
+impl Model for EndIndex {
+    ghost use Rattle.end_index.specs.Ends.{Ends, ends_of};
+
+    ghost Value = { Ends };
+
+    ghost view = { λ x. ends_of x.root.items x.stack.items };
+}
+
+impl EndIndex {
+    ghost use Rattle.std.specs.Prelude.{◌≡◌, ◌++◌, [], ◌∷◌, IfOk, OnOk};
+    ghost use Rattle.end_index.specs.Ends.{IsEndIndexOf, ends_at_root, ends_by_stack, ends_in};
+
+    /// The index of what the user sees. The one error is want of memory. It goes over all paths once, and sorts those
+    /// that end so.
+    pub fn of(alloc: Global, view: &View) -> Result<EndIndex, AllocError>
+        ensures { IfOk result (IsEndIndexOf view.now) }
+    {
+        let mut ends = EndIndex {
+            root: Vec::new(alloc),
+            stack: Vec::new(alloc),
+        };
+        for file in 0..view.row_count() {
+            ends.add_file(view.paths(file).get().paths(), file)?;
+        }
+        sort(&mut ends.root);
+        sort(&mut ends.stack);
+        Ok(ends)
+    }
+
+    /// The paths that end at the root.
+    pub(crate) fn root(&self) -> &[EndPlace]
+        ensures { result.now ≡ self.now.root }
+    {
+        self.root.as_slice()
+    }
+
+    /// The paths that end by the stack and make no scope.
+    pub(crate) fn stack(&self) -> &[EndPlace]
+        ensures { result.now ≡ self.now.stack }
+    {
+        self.stack.as_slice()
+    }
+
+    /// Adds those of these paths of the file with that number that end so. The one error is want of memory.
+    fn add_file(&mut self, paths: &[PartialPath], file: u32) -> Result<(), AllocError>
+        ensures root { OnOk result (self.new.root ≡ self.old.root ++ ends_in ends_at_root file 0 paths.now) }
+        ensures stack { OnOk result (self.new.stack ≡ self.old.stack ++ ends_in ends_by_stack file 0 paths.now) }
+    {
+        for place in 0..paths.len() {
+            self.add(&paths[place], file, place)?;
+        }
+        Ok(())
+    }
+
+    /// Adds the path at that place of the file where it ends so. The one error is want of memory.
+    fn add(&mut self, path: &PartialPath, file: u32, place: usize) -> Result<(), AllocError>
+        ensures root { OnOk result (self.new.root ≡ self.old.root ++ ends_in ends_at_root file place (path.now ∷ [])) }
+        ensures stack { OnOk result (self.new.stack ≡ self.old.stack ++ ends_in ends_by_stack file place (path.now ∷ [])) }
+    {
+        match path.end() {
+            End::At(Spot::Root) => self.root.push(end_place(path, file, place))?,
+            End::At(Spot::At(_)) => {}
+            End::ByStack => {
+                if path.post().scopes.scopes.items().is_empty() {
+                    self.stack.push(end_place(path, file, place))?;
+                }
+            }
+        }
+        Ok(())
+    }
+}
+
+ghost use Rattle.std.specs.Prelude.{◌≡◌, IsPermutation};
+ghost use Rattle.end_index.specs.Runs.{AreByRank};
+ghost use Rattle.end_index.specs.Ends.{end_place};
+
+/// Puts the paths in order. It takes no memory.
+fn sort(places: &mut Vec<EndPlace>)
+    ensures all { IsPermutation places.old.items places.new.items }
+    ensures order { AreByRank places.new.items }
+{
+    places.sort_unstable_by(|a, b| order(a, b));
+}
+
+/// The path at that place of the file with that number.
+fn end_place(path: &PartialPath, file: u32, place: usize) -> EndPlace
+    ensures { result ≡ end_place file place path.now }
+{
+    EndPlace {
+        marks: marks_made(path.post().symbols.items()),
+        file,
+        place,
+    }
+}

@@ -1,0 +1,17 @@
+//! The stored paths of what a user sees, found by where they end: a source for joining backward.
+#![tactic(auto)]
+
+mod index;
+mod inside;
+mod listing;
+mod marks;
+mod nodes;
+mod outside;
+mod place;
+mod runs;
+mod source;
+
+pub use index::EndIndex;
+pub use place::EndPlace;
+pub use runs::EndRuns;
+pub use source::{EndLook, EndSource};
