@@ -9,7 +9,10 @@ The `.py` and `.sg.json` files below FOLDER are committed to a `navd run` that i
 `navd serve` that listens there, where they stay and others see them by its grants. PATH is relative to FOLDER. LINE and
 COLUMN count from 1, as editors show them; a column is one in bytes. `uses` lists, for each name that the file uses,
 where it is defined. A file that navd doesn't take is left out and listed with the reason, and with its line where there
-is one. The program is found by --navd, else at crates/navd/out/navd beside this script's folder, else on the PATH.
+is one. `references` asks navd for `callers`, which is refused where what leads to the definition is crowded, or where so
+much leads there that every name is asked and one is; where it is refused, or navd doesn't know that request, nothing
+else is asked. The program is found by --navd, else at
+crates/navd/out/navd beside this script's folder, else on the PATH.
 
 The status is 0 where the question was answered, also by `none`, and 2 where the words are wrong, else 1, with a line on
 standard error that says why.
@@ -59,11 +62,16 @@ MEANINGS = {
 }
 # Why a question has no answer, as a user reads it.
 REFUSALS = {
-    "crowded": "crowded: a reference that has to be looked at has more than 8,192 paths within the bounds",
+    "crowded": "crowded: more than 8,192 paths lead from the name that is used there",
     "no_reference": "no name is used there; of one that is defined there, ask for `references`",
     "no_definition": "no name is defined there; of one that is used there, ask for `define`",
     "no_file": "navd has no such file",
 }
+# The same where it was asked who refers to a definition.
+CROWDED_CALLERS = (
+    "crowded: a name that is used for this definition has more than 8,192 paths, or so many ways lead to it that all"
+    " names were looked at, and one of them has"
+)
 
 
 class Failed(Exception):
@@ -307,21 +315,23 @@ def shown(row: Dict) -> str:
     return f"{visible(row['path'])}:{line + 1}:{column + 1}"
 
 
-def refusal_of(reply: Dict) -> str:
+def refusal_of(reply: Dict, question: str) -> str:
     """Why a question has no answer, as a user reads it."""
+    if question == "callers" and reply["error"] == "crowded":
+        return CROWDED_CALLERS
     field = f" (field {reply['field']})" if "field" in reply else ""
     return REFUSALS.get(reply["error"], f"navd refuses the question: {reply['error']}{field}")
 
 
-def tell(place: str, reply: Dict) -> None:
-    """Prints the rows of a reply, a line each. It fails where the reply is an error."""
+def tell(place: str, question: str, reply: Dict) -> None:
+    """Prints the rows of the reply to a question, a line each. It fails where the reply is an error."""
     if "error" in reply:
-        raise Failed(f"{place}: {refusal_of(reply)}")
+        raise Failed(f"{place}: {refusal_of(reply, question)}")
     for row in reply["rows"]:
         print(shown(row))
     if not reply["rows"]:
         print("none")
-    if reply["limit"]:
+    if reply.get("limit"):
         print("there may be more: paths beyond the bounds of the question were left out", file=sys.stderr)
 
 
@@ -359,7 +369,7 @@ def uses(navd: Navd, path: str, text: str) -> None:
         name = visible(name)
         if "error" in reply:
             print(f"{here} {name}: {reply['error']}")
-            unanswered[reply["error"]] = refusal_of(reply)
+            unanswered[reply["error"]] = refusal_of(reply, "define")
             continue
         rows = ", ".join(shown(row) for row in reply["rows"]) or "none"
         print(f"{here} {name}: {rows}{', and there may be more' if reply['limit'] else ''}")
@@ -398,7 +408,8 @@ def answer(given: argparse.Namespace) -> None:
     if given.question == "uses":
         uses(navd, path, texts[path])
     else:
-        tell(given.place, navd.ask(do=given.question, path=path, line=line, column=column))
+        question = "callers" if given.question == "references" else given.question
+        tell(given.place, question, navd.ask(do=question, path=path, line=line, column=column))
     navd.end()
 
 

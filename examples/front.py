@@ -36,7 +36,7 @@ import time
 from typing import Callable, List, NamedTuple, Optional, Tuple
 
 # The requests that are passed on. `hello` isn't one, nor is any request that navd may know one day and this doesn't.
-PASSED_ON = {"pin", "commit", "grant", "revoke", "deny", "undeny", "define", "references", "quit"}
+PASSED_ON = {"pin", "commit", "grant", "revoke", "deny", "undeny", "define", "references", "callers", "quit"}
 # How many seconds a client has for its token, and how many clients may be about to tell one.
 TOKEN_SECONDS = 10
 NEWCOMERS = 64

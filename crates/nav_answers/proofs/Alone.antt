@@ -1,6 +1,6 @@
 -- A single run is shadowed by none.
-use Rattle.std.proofs.Common.{◌≡◌, refl, sym, ◌∙◌, ap, subst, List, [], ◌∷◌, map, length, ◌<◌, Bool, true, false, cond, eq-eqb, ◌⊎◌, inl, inr, arith}
-use Rattle.std.specs.Prelude.{filter, not, ◌&&◌, nat_lt}
+use Rattle.std.proofs.Common.{◌≡◌, refl, sym, ◌∙◌, ap, List, [], ◌∷◌, map, length, ◌<◌, Bool, true, false, cond, eq-eqb, ◌⊎◌, inl, inr, arith}
+use Rattle.std.specs.Prelude.{not, ◌&&◌, nat_lt}
 use Rattle.std.proofs.lemmas.Bool.{false≢true}
 use Rattle.graph_nodes.specs.Graph.{Graph}
 use Rattle.shadowing.specs.declared.paths.EdgeStep.{EdgeStep}
@@ -8,9 +8,8 @@ use Rattle.shadowing.specs.Shadow.{same_step, shadows, is_shadowed}
 use Rattle.stitcher.specs.declared.found.EdgePath.{EdgePath}
 use Rattle.whole_search.specs.declared.found.Hit.{Hit}
 use Rattle.whole_search.specs.Answers.{IsRising}
-use Rattle.list_facts.specs.Members.{IsIn}
 use Rattle.list_facts.proofs.Members.{passing_member}
-use Rattle.nav_answers.specs.Kept.{run_path, run_paths, stays, end_of, ends_of}
+use Rattle.nav_answers.specs.Kept.{run_path, stays, end_of, ends_of}
 
 -- no path shadows itself
 same_itself : (step : EdgeStep) → same_step step step ≡ true

@@ -2,8 +2,9 @@
 -- Exact and Kept, which have its definitions and where their runs end. `references`: on Referred, which puts the
 -- reply together, on Asked, which has all references in order, and Shared, what several threads tell of them.
 -- `references_of_any`: on United too, which Referred serves.
+-- `callers`: on Called, which has what leads to a definition and what was found of that.
 -- All of these: on Own, what the files of a view offer to a search, on Numbers, which number a file has, and on
--- Pointed, which node is meant; `definition_at` on the last two. `queries_have_one_reply` on OneReply. Numbers is
+-- Pointed, which node is meant; `definition_at` on the last two. The laws on OneReply. Numbers is
 -- also for `lsp_answers`.
 pub mod Numbers
 pub mod Pointed
@@ -16,5 +17,6 @@ pub mod Told
 pub mod Asked
 pub mod Linked
 pub mod Referred
+pub mod Called
 pub mod United
 pub mod Shared

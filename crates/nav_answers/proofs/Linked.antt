@@ -1,5 +1,5 @@
 -- Links in their order: how they come into it, and that those to one definition stand together.
-use Rattle.std.proofs.Common.{◌≡◌, refl, sym, ◌∙◌, ap, subst, ℕ, ◌+◌, ◌<◌, List, [], ◌∷◌, ◌++◌, map, take, drop, length, get_or, Bool, true, eqb, eqb-true, ◌&&◌, Contains, ◌↔◌, arith}
+use Rattle.std.proofs.Common.{◌≡◌, refl, sym, ◌∙◌, ap, subst, ℕ, ◌+◌, ◌<◌, List, [], ◌∷◌, ◌++◌, take, drop, length, get_or, Bool, true, eqb, eqb-true, ◌&&◌, Contains, ◌↔◌, arith}
 use Rattle.std.specs.Prelude.{filter, false}
 use Rattle.std.specs.List.{AllByRecursion, dedup, prefix_len}
 use Rattle.std.specs.List.Sorted.{IsStrictlySortedBy, IsSorted, IsPermutation, IsNonDecreasingBy, IsPartitionedBy}

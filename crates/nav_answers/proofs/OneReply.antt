@@ -7,15 +7,18 @@ use Rattle.partial_path.specs.declared.config.Config.{Config}
 use Rattle.partial_path.specs.Step.{start}
 use Rattle.partial_path.specs.Counted.{IsCrowded, HasLimit}
 use Rattle.version_tree.specs.declared.row.Answer.{Answer}
+use Rattle.version_tree.specs.declared.row.Row.{Row}
 use Rattle.version_tree.specs.Graphs.{GraphRow}
 use Rattle.whole_search.specs.declared.found.Hit.{Hit}
 use Rattle.whole_search.specs.Answers.{ComesBefore, IsRising, AreRows, IsDefinitionFrom, IsReferenceOf, IsAnyCrowded, HasAnyLimit}
+use Rattle.back_stitch.specs.Lists.{usual}
 use Rattle.list_facts.specs.Members.{IsIn}
 use Rattle.list_facts.proofs.Members.{IsIn-from_Contains, Contains-from_IsIn, at_member}
 use Rattle.nav_answers.specs.declared.found.AskFault.{AskFault}
 use Rattle.nav_answers.specs.declared.found.AskFault.TheVariants.{NoReference, NoDefinition}
 use Rattle.nav_answers.specs.Replies.{graphs_in, meant, row_of, hit_of, IsAnswer, IsReplyAbout, IsDefinitionReply, IsReferenceReply, IsDefineReply, IsReferencesReply}
-use Rattle.nav_answers.specs.Laws.{OneReply, QueriesHaveOneReply}
+use Rattle.nav_answers.specs.Callers.{IsCallerReply, IsCallersReply, IsOverrun, TellsUnless}
+use Rattle.nav_answers.specs.Laws.{CallersHaveOneReply, OneReply, QueriesHaveOneReply}
 
 not_both : (a b : Hit) → ComesBefore a b → ComesBefore b a → ⊥
 not_both a b (inl x) (inl y) = omega arith
@@ -76,7 +79,7 @@ one_where : {X : Type 0} (o : Option X) (R : X → Result Answer AskFault → Ty
 one_where None R a b one h k = absurd h
 one_where (Some x) R a b one h k = one x h k
 
-one_of : (r : Result NodeAt AskFault) (R : NodeAt → Result Answer AskFault → Type 0) (a b : Result Answer AskFault)
+one_of : {X : Type 0} (r : Result NodeAt AskFault) (R : NodeAt → Result X AskFault → Type 0) (a b : Result X AskFault)
     → ((node : NodeAt) → R node a → R node b → a ≡ b)
     → MatchResult r (λ node. R node a) (λ fault. a ≡ Err fault) → MatchResult r (λ node. R node b) (λ fault. b ≡ Err fault) → a ≡ b
 one_of (Ok node) R a b one h k = one node h k
@@ -100,3 +103,18 @@ one_references bounds rows others path at a b same h k =
 
 pub one_reply : QueriesHaveOneReply
 one_reply = record { define = one_define; references = one_references }
+
+module _ (is_crowded : Type 0) (rows : List GraphRow) (d : NodeAt) where
+  one_told : (a b : Result (List Row) AskFault) → TellsUnless is_crowded rows d a → TellsUnless is_crowded rows d b → a ≡ b
+  one_told (Ok a) (Ok b) h k =
+      ap (λ x. Ok x) (h.1.2 ∙ ap (map (row_of rows)) (same_rows (IsReferenceOf usual (graphs_in rows) (hit_of d)) h.1.0 k.1.0 h.1.1 k.1.1) ∙ sym k.1.2)
+  one_told (Ok a) (Err f) h k = absurd (h.0 k.0)
+  one_told (Err e) (Ok b) h k = absurd (k.0 h.0)
+  one_told (Err e) (Err f) h k = ap (λ x. Err x) (h.1 ∙ sym k.1)
+
+pub one_callers : CallersHaveOneReply
+one_callers rows others path at a b same h k =
+    let k2 = subst (λ rs. IsCallersReply rs path at b) (sym same) k in
+    one_of (meant is_definition_kind NoDefinition rows path at) (IsCallerReply rows) a b
+    (λ node x y. one_told (IsOverrun (graphs_in rows) node) rows node a b x y)
+    h k2

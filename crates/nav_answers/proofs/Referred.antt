@@ -1,5 +1,5 @@
 -- What was found of all references of files tells the references of definitions.
-use Rattle.std.proofs.Common.{◌≡◌, refl, sym, ◌∙◌, ap, subst, List, [], ◌∷◌, ◌++◌, map, Bool, true, false, ◌||◌, Option, Some, None, IsSomeAnd, IsTrue, Contains, ◌↔◌, Result, Ok, Err, ◌⊎◌, inl, inr}
+use Rattle.std.proofs.Common.{◌≡◌, refl, sym, ◌∙◌, subst, List, [], ◌∷◌, ◌++◌, map, Bool, true, false, ◌||◌, Option, Some, None, IsSomeAnd, IsTrue, Contains, ◌↔◌, Result, Ok, Err, ◌⊎◌, inl, inr}
 use Rattle.std.specs.Prelude.{IfOk, OnOk}
 use Rattle.std.specs.List.Sorted.{IsStrictlySortedBy}
 use Rattle.std.proofs.lemmas.Bool.{false≢true, or_cases, or_left, or_right}
@@ -25,7 +25,7 @@ use Rattle.nav_answers.specs.declared.found.AskFault.{AskFault}
 use Rattle.nav_answers.specs.declared.found.AskFault.TheVariants.{Crowded}
 use Rattle.nav_answers.specs.Replies.{graphs_in, hit_of, row_of, IsReplyAbout, IsReferenceReply}
 use Rattle.nav_answers.specs.Links.{link_of, links_of, by_link, rows_of_one, rows_of_any}
-use Rattle.nav_answers.specs.Asking.{references_from, IsOneFrom, IsFoundFrom, IsFound, place_of, AreLinks, AreFound, IsHeld, LetsGo, IsTable, IsTold, IsKnownOf, IsKnown, is_whole, IsReferenceOfAny, IsReplyToAny, HasReferences}
+use Rattle.nav_answers.specs.Asking.{references_from, IsOneFrom, IsFoundFrom, IsFound, place_of, AreLinks, AreFound, IsHeld, LetsGo, IsTable, IsTold, IsKnownOf, IsKnown, is_each, is_whole, IsReferenceOfAny, IsReplyToAny, HasReferences}
 use Rattle.nav_answers.specs.Sources.{graphs_seen}
 use Rattle.nav_answers.proofs.Numbers.{same_graphs}
 use Rattle.nav_answers.proofs.Asked.{starts_listed}
@@ -239,6 +239,19 @@ whole_told bounds files definitions others said.Crowded t h = h
 
 pub whole_known : (files : List Graph) (definitions : List Hit) (known : Known) → is_whole known.told ≡ true → IsKnownOf files definitions known → IsKnown files known
 whole_known files definitions known t h = λ others. whole_told known.bounds files definitions others known.told t h
+
+-- where all are kept, none of them is crowded
+each_told : (bounds : Bounds) (files : List Graph) (told : Told) → is_each told ≡ true → IsTold bounds files [] told → IsAnyCrowded bounds files → ⊥
+each_told bounds files (said.Each links) t h = h.few
+each_told bounds files said.Crowded t h = absurd (false≢true t)
+
+each_known : (files : List Graph) (known : Known) (bounds : Bounds) → known.bounds ≡ bounds → is_each known.told ≡ true → IsKnown files known → IsAnyCrowded bounds files → ⊥
+each_known files known bounds same t h = subst (λ (b : Bounds). IsAnyCrowded b files → ⊥) same (each_told known.bounds files known.told t (h []))
+
+pub each_seen : (view seen : List FileRow) (known : Known) (bounds : Bounds) → view ≡ seen → known.bounds ≡ bounds → is_each known.told ≡ true → IsKnown (graphs_seen view) known
+    → IsAnyCrowded bounds (graphs_seen seen) → ⊥
+each_seen view seen known bounds alike same t h =
+    subst (λ (v : List FileRow). IsAnyCrowded bounds (graphs_seen v) → ⊥) alike (each_known (graphs_seen view) known bounds same t h)
 
 -- the references that were found are the reply
 pub references_told : (bounds : Bounds) (view : List FileRow) (definitions hits : List Hit) (limit : Bool) (answer : Answer)

@@ -21,6 +21,10 @@ there_in [] k at e = absurd (none-some at e)
 there_in (a ∷ all) zero at e = inl (sym (same_Some a at e))
 there_in (a ∷ all) (suc k) at e = inr (there_in all k at e)
 
+-- the reference at a place of the list is one of them
+pub job_among : (all : List NodeAt) (job : ℕ) (d : NodeAt) → job < length all → IsIn (get_or all job d) all
+job_among all job d inside = there_in all job (get_or all job d) (slice_get-get_or all job d inside)
+
 in_there : (all : List NodeAt) (at : NodeAt) → IsIn at all → (k : ℕ) × (k < length all) × (slice_get all k ≡ Some at)
 in_there [] at m = absurd m
 in_there (a ∷ all) at (inl same) = (0, omega arith, ap Some (sym same))

@@ -1,10 +1,10 @@
 -- The references of any of several definitions are those of each of them, put together.
-use Rattle.std.proofs.Common.{Contains, ◌≡◌, refl, sym, ◌∙◌, ap, subst, ℕ, List, [], ◌∷◌, ◌++◌, length, map, Option, Some, None, IsSomeAnd, Result, Ok, Err, ◌⊎◌, inl, inr}
+use Rattle.std.proofs.Common.{Contains, ◌≡◌, refl, sym, ◌∙◌, ap, subst, ℕ, List, [], ◌∷◌, ◌++◌, length, map, Option, Some, None, Result, Ok, Err, ◌⊎◌, inl, inr}
 use Rattle.std.specs.Prelude.{MatchResult, ok_or}
 use Rattle.std.specs.List.{cons_option}
 use Rattle.std.specs.Option.{option_map, option_map_or}
 use Rattle.std.proofs.lemmas.List.{nil_from_length}
-use Rattle.graph_nodes.specs.Graph.{Graph, is_definition_kind}
+use Rattle.graph_nodes.specs.Graph.{is_definition_kind}
 use Rattle.stacks_vars.specs.declared.scopes.NodeAt.{NodeAt}
 use Rattle.partial_path.specs.declared.bounds.Bounds.{Bounds}
 use Rattle.partial_path.specs.Spots.{node_at}

@@ -55,6 +55,10 @@ pub record IsFoundFrom (bounds : Bounds) (files : List Graph) (rows : List Hit) 
   pub limit_is : IsTrue limit ↔ HasLimit bounds files c
   pub few : IsCrowded bounds files c → ⊥
 
+-- one of the references is crowded
+abbrev pub IsCrowdedAmong : Bounds → List Graph → List NodeAt → Type 0
+IsCrowdedAmong bounds files all = (at : NodeAt) × IsIn at all × IsSomeAnd (start files at) (IsCrowded bounds files)
+
 -- the paths of the reference have a start, and from there what was found of it is so
 abbrev pub IsFound : Bounds → List Graph → NodeAt → List Hit → Bool → Type 0
 IsFound bounds files reference rows limit = IsSomeAnd (start files reference) (IsFoundFrom bounds files rows limit)
@@ -122,6 +126,11 @@ abbrev pub is_whole : Told → Bool
 is_whole (Each links) = links.whole
 is_whole Crowded = true
 
+-- whether it tells that none of them is crowded
+abbrev pub is_each : Told → Bool
+is_each (Each links) = true
+is_each Crowded = false
+
 abbrev pub IsKnownOf : List Graph → List Hit → Known → Type 0
 IsKnownOf files definitions known = IsTold known.bounds files definitions known.told
 
@@ -166,4 +175,4 @@ IsInShares all step count at = (k : ℕ) × (k < length all) × (k % step < coun
 -- what one thread tells in the end: what was found of its references, or its fault
 abbrev pub IsDone : Bounds → List Graph → List Hit → List NodeAt → ℕ → ℕ → Result Links StitchFault → Type 0
 IsDone bounds files definitions all step first share =
-    MatchResult share (AreFound bounds files definitions (IsShareOf all step first (length all))) (λ fault. fault ≡ stitch.Crowded → IsAnyCrowded bounds files)
+    MatchResult share (AreFound bounds files definitions (IsShareOf all step first (length all))) (λ fault. fault ≡ stitch.Crowded → IsCrowdedAmong bounds files all)

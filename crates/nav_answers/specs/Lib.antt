@@ -6,3 +6,4 @@ pub mod Sources
 pub mod Kept
 pub mod Links
 pub mod Asking
+pub mod Callers

@@ -1,9 +1,16 @@
-ghost use Rattle.std.specs.Prelude.{◌≡◌, IfSome};
+ghost use Rattle.std.specs.Prelude.{◌≡◌, true, Err, IfOk, IfSome, IsTrue, OnOk};
+ghost use Rattle.graph_nodes.specs.Whole.{is_definition_of};
+ghost use Rattle.back_stitch.specs.Lists.{AreThoseThatReach, HasMany};
+ghost use Rattle.end_index.specs.Ends.{IsEndIndexOf};
 ghost use Rattle.nav_answers.specs.Sources.{graphs_seen};
-ghost use Rattle.nav_answers.specs.Asking.{IsKnown, IsKnownOf, is_whole};
+ghost use Rattle.nav_answers.specs.Asking.{IsKnown, IsKnownOf, is_each, is_whole};
 
 use crate::links::Links;
+use back_stitch::{BackFault, back};
+use end_index::{EndIndex, EndSource};
 use partial_path::Bounds;
+use stacks_vars::NodeAt;
+use std::alloc::Global;
 use std::marker::Model;
 use version_tree::View;
 use whole_search::Hit;
@@ -26,6 +33,14 @@ pub struct Known {
 }
 
 impl Known {
+    /// Whether it tells that none of them is crowded within these bounds.
+    fn is_each(&self, bounds: Bounds) -> bool
+        ensures within { IsTrue result → self.now.bounds ≡ bounds }
+        ensures each { IsTrue result → is_each self.now.told ≡ true }
+    {
+        self.bounds == bounds && matches!(&self.told, Told::Each(_))
+    }
+
     /// Whether it tells of all definitions.
     fn is_whole(&self) -> bool
         ensures { result ≡ is_whole self.now.told }
@@ -43,23 +58,29 @@ impl Known {
 pub struct AskedView {
     view: View,
     known: Option<Known>,
+    /// Its paths by where they end, once they were asked for.
+    ends: Option<EndIndex>,
 }
 
 impl Model for AskedView {
     ghost use Rattle.std.specs.Prelude.{List, IfSome};
     ghost use Rattle.version_tree.specs.Contents.{FileRow};
     ghost use Rattle.nav_answers.specs.Sources.{graphs_seen};
+    ghost use Rattle.end_index.specs.Ends.{IsEndIndexOf};
     ghost use Rattle.nav_answers.specs.Asking.{IsKnown};
 
     ghost Value = { List FileRow };
 
     ghost view = { λ v. v.view };
 
-    ghost invariant = { λ v. IfSome v.known (IsKnown (graphs_seen v.view)) };
+    ghost invariant = { λ v. IfSome v.known (IsKnown (graphs_seen v.view)) × IfSome v.ends (IsEndIndexOf v.view) };
 }
 
 impl AskedView {
-    ghost use Rattle.std.specs.Prelude.{◌≡◌, IfSome};
+    ghost use Rattle.std.specs.Prelude.{◌≡◌, Err, IfOk, IfSome, IsTrue, OnOk};
+    ghost use Rattle.graph_nodes.specs.Whole.{is_definition_of};
+    ghost use Rattle.whole_search.specs.Answers.{IsAnyCrowded};
+    ghost use Rattle.back_stitch.specs.Lists.{AreThoseThatReach, HasMany};
     ghost use Rattle.nav_answers.specs.declared.asked_view.Known.{Known};
     ghost use Rattle.nav_answers.specs.Sources.{graphs_seen};
     ghost use Rattle.nav_answers.specs.Asking.{IsKnown, IsKnownOf};
@@ -68,7 +89,11 @@ impl AskedView {
     pub fn of(view: View) -> AskedView
         ensures { result ≡ view }
     {
-        AskedView { view, known: None }
+        AskedView {
+            view,
+            known: None,
+            ends: None,
+        }
     }
 
     /// The view.
@@ -98,6 +123,52 @@ impl AskedView {
     {
         self.known = if_whole(&self.view, known, definitions);
     }
+
+    /// Whether all its references are kept within these bounds; then none of them is crowded.
+    pub(crate) fn has_each(&self, bounds: Bounds) -> bool
+        ensures { IsTrue result → ¬ IsAnyCrowded bounds (graphs_seen self.now) }
+    {
+        match &self.known {
+            Some(known) => known.is_each(bounds),
+            None => false,
+        }
+    }
+
+    /// The references from which a bounded complete run leads to the definition, in file order; `Many` where too many
+    /// back lists lead to it, and else `NoMemory` where memory is refused. What is asked for by where it ends is listed
+    /// the first time, in time that follows the files, and kept.
+    pub(crate) fn leading(&mut self, alloc: Global, node: NodeAt) -> Result<Vec<NodeAt>, BackFault>
+        requires definition { IsTrue (is_definition_of (graphs_seen self.old) node.file node.node) }
+        ensures leading { IfOk result (λ rows. AreThoseThatReach (graphs_seen self.old) node rows.items) }
+        ensures many { result ≡ Err BackFault.Many → HasMany (graphs_seen self.old) node }
+        ensures few { OnOk result (¬ HasMany (graphs_seen self.old) node) }
+        ensures same { self.new ≡ self.old }
+    {
+        let ends = match self.ends.take() {
+            Some(ends) => ends,
+            None => EndIndex::of(alloc, &self.view)?,
+        };
+        let found = leading_by(alloc, &self.view, &ends, node);
+        self.ends = Some(ends);
+        found
+    }
+}
+
+/// The same, by the paths that end outside their files.
+fn leading_by(
+    alloc: Global,
+    view: &View,
+    ends: &EndIndex,
+    node: NodeAt,
+) -> Result<Vec<NodeAt>, BackFault>
+    requires ends { IsEndIndexOf view.now ends.now }
+    requires definition { IsTrue (is_definition_of (graphs_seen view.now) node.file node.node) }
+    ensures leading { IfOk result (λ rows. AreThoseThatReach (graphs_seen view.now) node rows.items) }
+    ensures many { result ≡ Err BackFault.Many → HasMany (graphs_seen view.now) node }
+    ensures few { OnOk result (¬ HasMany (graphs_seen view.now) node) }
+{
+    let source = EndSource::of(view, ends);
+    back(alloc, &source, node.file, node.node)
 }
 
 /// What was found for these definitions, where it tells of all definitions.

@@ -1,7 +1,8 @@
-ghost use Rattle.std.specs.Prelude.{◌≡◌, Err, IfOk, IsTrue};
+ghost use Rattle.std.specs.Prelude.{◌≡◌, Err, IfOk, IsSomeAnd, IsTrue};
 ghost use Rattle.graph_nodes.specs.Whole.{is_reference_of};
+ghost use Rattle.partial_path.specs.Step.{start};
+ghost use Rattle.partial_path.specs.Counted.{IsCrowded};
 ghost use Rattle.root_index.specs.Roots.{IsIndexOfView};
-ghost use Rattle.whole_search.specs.Answers.{IsAnyCrowded};
 ghost use Rattle.nav_answers.specs.Asking.{IsFound};
 ghost use Rattle.nav_answers.specs.Sources.{graphs_seen};
 
@@ -37,7 +38,7 @@ pub fn ask<G: Gate>(
     requires index { IsIndexOfView query.now.index.now query.now.view.now }
     requires reference { IsTrue (is_reference_of (graphs_seen query.now.view.now) reference.file reference.node) }
     ensures found { IfOk result (λ found. IsFound query.now.bounds (graphs_seen query.now.view.now) reference found.rows found.limit) }
-    ensures crowded { result ≡ Err StitchFault.Crowded → IsAnyCrowded query.now.bounds (graphs_seen query.now.view.now) }
+    ensures crowded { result ≡ Err StitchFault.Crowded → IsSomeAnd (start (graphs_seen query.now.view.now) reference) (IsCrowded query.now.bounds (graphs_seen query.now.view.now)) }
 {
     gate.enter(job);
     let found = definitions_of(alloc, query.view, query.index, reference, query.bounds);

@@ -95,15 +95,21 @@ pub fn answer_of(alloc: Global, view: &View, found: &Found) -> Result<Answer, Al
     ensures rows { IfOk result (λ answer. answer.rows ≡ map (row_of (graph_rows view.now)) found.now.rows) }
     ensures limit { IfOk result (λ answer. answer.limit ≡ found.now.limit) }
 {
-    let hits = found.rows.items();
+    Ok(Answer {
+        limit: found.limit,
+        rows: rows_told(alloc, view, found.rows.items())?,
+    })
+}
+
+/// The rows that tell of these nodes; the one error is want of memory.
+pub fn rows_told(alloc: Global, view: &View, hits: &[Hit]) -> Result<Rows, AllocError>
+    ensures { IfOk result (λ rows. rows ≡ map (row_of (graph_rows view.now)) hits.now) }
+{
     let mut rows = Vec::with_capacity(alloc, hits.len())?;
     for hit in hits {
         rows.push(row_of(alloc, view, *hit)?)?;
     }
-    Ok(Answer {
-        limit: found.limit,
-        rows: Rows::of(rows),
-    })
+    Ok(Rows::of(rows))
 }
 
 /// The row that tells of the node.

@@ -4,6 +4,7 @@
 
 mod asked_view;
 mod asking;
+mod calling;
 mod defining;
 mod found;
 mod laws;
@@ -17,9 +18,10 @@ mod source;
 mod uniting;
 
 pub use asked_view::AskedView;
+pub use calling::callers;
 pub use defining::define;
 pub use found::{AskFault, At};
-pub use laws::queries_have_one_reply;
+pub use laws::{callers_have_one_reply, queries_have_one_reply};
 pub use meaning::definition_at;
 pub use referring::references;
 pub use uniting::references_of_any;

@@ -27,7 +27,7 @@ use version_tree::{Answer, View};
 use whole_search::{Found, Hit, Hits};
 
 /// How many links there may be to definitions that aren't meant. A link has 16 bytes, so these have 32 MB.
-const MOST_LINKS: usize = 2_097_152;
+pub const MOST_LINKS: usize = 2_097_152;
 
 /// Who refers to the definition that is meant in the file with the path: a row for each reference of the files that
 /// are seen that has it among its definitions, in file order, and whether a run of any reference of the files was
@@ -66,7 +66,7 @@ pub fn references<R: Threads + Sync, G: Gate + Sync>(
 }
 
 /// The same of the definition at a node.
-fn references_to<R: Threads + Sync, G: Gate + Sync>(
+pub fn references_to<R: Threads + Sync, G: Gate + Sync>(
     rt: &R,
     alloc: Global,
     seen: &mut AskedView,

@@ -1,8 +1,8 @@
 ghost use Rattle.std.specs.Prelude.{◌≡◌, ℕ, ◌+◌, ◌%◌, ◌<◌, ◌≤◌, length, nat_eq, All, Err, IfOk, OnOk, slice_index_or, vec_len, IsTrue};
 ghost use Rattle.graph_nodes.specs.Whole.{is_reference_of};
+ghost use Rattle.list_facts.specs.Members.{IsIn};
 ghost use Rattle.root_index.specs.Roots.{IsIndexOfView};
-ghost use Rattle.whole_search.specs.Answers.{IsAnyCrowded};
-ghost use Rattle.nav_answers.specs.Asking.{AddsLinks, AreFound, AreLinksOf, IsDone, IsInShares, IsReferenceIn};
+ghost use Rattle.nav_answers.specs.Asking.{AddsLinks, AreFound, AreLinksOf, IsCrowdedAmong, IsDone, IsInShares, IsReferenceIn};
 ghost use Rattle.nav_answers.specs.Sources.{graphs_seen};
 
 use crate::asking::{Query, ask};
@@ -35,7 +35,7 @@ pub fn ask_all<R: Threads + Sync, G: Gate + Sync>(
     requires index { IsIndexOfView query.now.index.now query.now.view.now }
     requires references { All (IsReferenceIn (graphs_seen query.now.view.now)) all.now }
     ensures found { IfOk result (λ links. AreLinksOf query.now.bounds (graphs_seen query.now.view.now) query.now.definitions.now all.now links) }
-    ensures crowded { result ≡ Err StitchFault.Crowded → IsAnyCrowded query.now.bounds (graphs_seen query.now.view.now) }
+    ensures crowded { result ≡ Err StitchFault.Crowded → IsCrowdedAmong query.now.bounds (graphs_seen query.now.view.now) all.now }
 {
     let mut shares = empty_shares(alloc, thread_count(rt, all.len()))?;
     ask_shares(rt, alloc, query, gate, all, &mut shares);
@@ -107,7 +107,7 @@ fn ask_share<G: Gate>(
         if !is_in_share(job, first, step) {
             continue;
         }
-        ask_into(alloc, query, gate, job, all[job], &mut links)?;
+        ask_into(alloc, query, gate, all, job, all[job], &mut links)?;
         links.hold(alloc, query.definitions)?;
     }
     Ok(links)
@@ -121,19 +121,21 @@ fn is_in_share(place: usize, first: usize, step: usize) -> bool
     place % step == first
 }
 
-/// Asks the reference, as the job of that number, and adds what is found of it.
+/// Asks the reference, one of all these, as the job of that number, and adds what is found of it.
 fn ask_into<G: Gate>(
     alloc: Global,
     query: &Query,
     gate: &G,
+    _all: &[NodeAt],
     job: usize,
     reference: NodeAt,
     links: &mut Links,
 ) -> Result<(), StitchFault>
     requires index { IsIndexOfView query.now.index.now query.now.view.now }
     requires reference { IsTrue (is_reference_of (graphs_seen query.now.view.now) reference.file reference.node) }
+    requires among { IsIn reference _all.now }
     ensures found { OnOk result (AddsLinks query.now.bounds (graphs_seen query.now.view.now) reference links.old links.new) }
-    ensures crowded { result ≡ Err StitchFault.Crowded → IsAnyCrowded query.now.bounds (graphs_seen query.now.view.now) }
+    ensures crowded { result ≡ Err StitchFault.Crowded → IsCrowdedAmong query.now.bounds (graphs_seen query.now.view.now) _all.now }
 {
     let found = ask(alloc, query, gate, job, reference)?;
     links.add(hit_of(reference), &found)?;
@@ -150,7 +152,7 @@ fn together(
     requires some { 0 < length shares.now }
     requires done { (i : ℕ) (d : _) → i < length shares.now → IsDone query.now.bounds (graphs_seen query.now.view.now) query.now.definitions.now all.now (length shares.now) i (slice_index_or shares.now i d) }
     ensures found { IfOk result (λ links. AreLinksOf query.now.bounds (graphs_seen query.now.view.now) query.now.definitions.now all.now links) }
-    ensures crowded { result ≡ Err StitchFault.Crowded → IsAnyCrowded query.now.bounds (graphs_seen query.now.view.now) }
+    ensures crowded { result ≡ Err StitchFault.Crowded → IsCrowdedAmong query.now.bounds (graphs_seen query.now.view.now) all.now }
 {
     let count = shares.len();
     let mut links = Links::new(alloc, query.room);
@@ -173,7 +175,7 @@ fn add_share(
     requires done { IsDone _query.now.bounds (graphs_seen _query.now.view.now) _query.now.definitions.now _all.now _count _place share.now }
     requires before { AreFound _query.now.bounds (graphs_seen _query.now.view.now) _query.now.definitions.now (IsInShares _all.now _count _place) links.old }
     ensures added { OnOk result (AreFound _query.now.bounds (graphs_seen _query.now.view.now) _query.now.definitions.now (IsInShares _all.now _count (_place + 1)) links.new) }
-    ensures crowded { result ≡ Err StitchFault.Crowded → IsAnyCrowded _query.now.bounds (graphs_seen _query.now.view.now) }
+    ensures crowded { result ≡ Err StitchFault.Crowded → IsCrowdedAmong _query.now.bounds (graphs_seen _query.now.view.now) _all.now }
 {
     match share {
         Ok(found) => Ok(links.append(found)?),

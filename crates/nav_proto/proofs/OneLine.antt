@@ -11,9 +11,9 @@ use Rattle.nav_proto.specs.declared.reply.ShapePart.TheVariants.{Top, Node, Edge
 use Rattle.nav_proto.specs.declared.reply.PlainError.{PlainError}
 use Rattle.nav_proto.specs.declared.reply.PlainError.TheVariants.{BadJson, NoUser, Forbidden, Spent, NoFile, NoReference, NoDefinition, Crowded}
 use Rattle.nav_proto.specs.declared.reply.Reply.{Reply}
-use Rattle.nav_proto.specs.declared.reply.Reply.TheVariants.{Version, Done, Rows, Plain, BadRequest, Stale, Twice, AbsentFile, AbsentGrant, TooManyFiles, TooHeavy, BadFile}
+use Rattle.nav_proto.specs.declared.reply.Reply.TheVariants.{Version, Done, Rows, Callers, Plain, BadRequest, Stale, Twice, AbsentFile, AbsentGrant, TooManyFiles, TooHeavy, BadFile}
 use Rattle.nav_proto.specs.Faults.{fault_alone, number_first, number_inside, number_last, part_text, bad_file_text}
-use Rattle.nav_proto.specs.Rows.{span_text, row_text, next_text, rows_text, flag_text, answer_text}
+use Rattle.nav_proto.specs.Rows.{span_text, row_text, next_text, rows_text, flag_text, answer_text, callers_text}
 use Rattle.nav_proto.specs.Replies.{plain_word, reply_text, IsOneLine}
 use Rattle.nav_proto.proofs.Clean.{Clean, clean-append, clean-flat_map, clean-decimal, clean-quoted, position-clean}
 
@@ -80,6 +80,9 @@ flag false = refl
 answer : (a : Answer) → Clean (answer_text a)
 answer a = clean-append (flag_text a.limit) _ (flag a.limit) (clean-append (rows_text a.rows) _ (rows a.rows) refl)
 
+callers : (rs : List Row) → Clean (callers_text rs)
+callers rs = clean-append (rows_text rs) _ (rows rs) refl
+
 word : (e : PlainError) → Clean (plain_word e)
 word BadJson = refl
 word NoUser = refl
@@ -94,6 +97,7 @@ reply : (r : Reply) → Clean (reply_text r)
 reply (Version n) = number n _ refl
 reply Done = refl
 reply (Rows a) = answer a
+reply (Callers rs) = callers rs
 reply (Plain e) = clean-append (plain_word e) _ (word e) refl
 reply (BadRequest f) = text f _ refl
 reply (Stale n) = number n _ refl

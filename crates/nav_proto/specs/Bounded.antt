@@ -1,7 +1,7 @@
 -- Which bounds the queries among the requests state.
 use Rattle.partial_path.specs.Limits.{IsInRange}
 use Rattle.nav_proto.specs.declared.request.Request.{Request}
-use Rattle.nav_proto.specs.declared.request.Request.TheVariants.{Hello, Pin, Commit, Grant, Revoke, Deny, Undeny, Define, References, Quit}
+use Rattle.nav_proto.specs.declared.request.Request.TheVariants.{Hello, Pin, Commit, Grant, Revoke, Deny, Undeny, Define, References, Callers, Quit}
 
 -- a query's bounds are in range
 abbrev pub IsBounded : Request → Type 0
@@ -14,4 +14,5 @@ IsBounded (Deny user prefix) = Unit {0}
 IsBounded (Undeny user prefix) = Unit {0}
 IsBounded (Define path at bounds) = IsInRange bounds
 IsBounded (References path at bounds) = IsInRange bounds
+IsBounded (Callers path at) = Unit {0}
 IsBounded Quit = Unit {0}

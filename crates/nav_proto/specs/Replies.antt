@@ -4,11 +4,11 @@ use Rattle.std.specs.Char.{is_newline}
 use Rattle.std.specs.List.{concat, position_or_len}
 use Rattle.json.specs.Print.{quoted}
 use Rattle.nav_proto.specs.Faults.{bad_file_text}
-use Rattle.nav_proto.specs.Rows.{answer_text}
+use Rattle.nav_proto.specs.Rows.{answer_text, callers_text}
 use Rattle.nav_proto.specs.declared.reply.PlainError.{PlainError}
 use Rattle.nav_proto.specs.declared.reply.PlainError.TheVariants.{BadJson, NoUser, Forbidden, Spent, NoFile, NoReference, NoDefinition, Crowded}
 use Rattle.nav_proto.specs.declared.reply.Reply.{Reply}
-use Rattle.nav_proto.specs.declared.reply.Reply.TheVariants.{Version, Done, Rows, Plain, BadRequest, Stale, Twice, AbsentFile, AbsentGrant, TooManyFiles, TooHeavy, BadFile}
+use Rattle.nav_proto.specs.declared.reply.Reply.TheVariants.{Version, Done, Rows, Callers, Plain, BadRequest, Stale, Twice, AbsentFile, AbsentGrant, TooManyFiles, TooHeavy, BadFile}
 
 -- the word of an error that carries nothing
 abbrev pub plain_word : PlainError → List ℕ
@@ -26,6 +26,7 @@ abbrev pub reply_text : Reply → List ℕ
 reply_text (Version n) = concat (codes "{\"version\":" ∷ decimal n ∷ codes "}" ∷ [])
 reply_text Done = codes "{\"ok\":true}"
 reply_text (Rows a) = answer_text a
+reply_text (Callers rows) = callers_text rows
 reply_text (Plain e) = concat (codes "{\"error\":\"" ∷ plain_word e ∷ codes "\"}" ∷ [])
 reply_text (BadRequest f) = concat (codes "{\"error\":\"bad_request\",\"field\":" ∷ quoted f ∷ codes "}" ∷ [])
 reply_text (Stale n) = concat (codes "{\"error\":\"stale\",\"head\":" ∷ decimal n ∷ codes "}" ∷ [])

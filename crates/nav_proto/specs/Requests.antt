@@ -8,7 +8,7 @@ use Rattle.json_values.specs.Numbers.{number_between, u32_of}
 use Rattle.partial_path.specs.declared.bounds.Bounds.{Bounds}
 use Rattle.partial_path.specs.Limits.{max_edges, max_depth}
 use Rattle.nav_proto.specs.declared.request.Request.{Request}
-use Rattle.nav_proto.specs.declared.request.Request.TheVariants.{Hello, Pin, Commit, Grant, Revoke, Deny, Undeny, Define, References, Quit}
+use Rattle.nav_proto.specs.declared.request.Request.TheVariants.{Hello, Pin, Commit, Grant, Revoke, Deny, Undeny, Define, References, Callers, Quit}
 use Rattle.nav_proto.specs.declared.request.Point.{Point}
 use Rattle.nav_proto.specs.declared.request.Point.TheVariants.{Node, LineColumn}
 use Rattle.nav_proto.specs.declared.proto_fault.ProtoFault.{ProtoFault}
@@ -84,6 +84,20 @@ query_in d = do
   bounds ← bounds_of d
   with_only (query_names d) d (path, (point, bounds))
 
+-- the members that `callers` may have: those of a query but the bounds
+abbrev pub callers_names : Data → List (List ℕ)
+callers_names d =
+    if is_some (get (codes "node") d)
+    then codes "do" ∷ codes "path" ∷ codes "node" ∷ []
+    else codes "do" ∷ codes "path" ∷ codes "line" ∷ codes "column" ∷ []
+
+-- `callers`: a path and where in it
+unfoldable pub callers_of : Data → Result Request ProtoFault
+callers_of d = do
+  path ← field (codes "path") (text_of is_path) d
+  point ← point_of d
+  with_only (callers_names d) d (Callers path point)
+
 -- the request that is made of such a path, place and bounds
 abbrev pub query_of : (List ℕ → Point → Bounds → Request) → Data → Result Request ProtoFault
 query_of make d = query_in d >>= (λ q. Ok (make q.0 q.1.0 q.1.1))
@@ -100,8 +114,9 @@ form_of word d =
     (if bytes_eq word (codes "undeny") then rule_of Undeny d else
     (if bytes_eq word (codes "define") then query_of Define d else
     (if bytes_eq word (codes "references") then query_of References d else
+    (if bytes_eq word (codes "callers") then callers_of d else
     (if bytes_eq word (codes "quit") then bare_of Quit d else
-    Err (BadRequest (codes "do")))))))))))
+    Err (BadRequest (codes "do"))))))))))))
 
 -- the request of a value
 unfoldable pub request_of : Data → Result Request ProtoFault

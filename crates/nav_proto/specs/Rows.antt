@@ -32,3 +32,7 @@ flag_text false = codes "false"
 -- the answer
 abbrev pub answer_text : Answer → List ℕ
 answer_text a = concat (codes "{\"limit\":" ∷ flag_text a.limit ∷ codes ",\"rows\":[" ∷ rows_text a.rows ∷ codes "]}" ∷ [])
+
+-- the rows of `callers`, which have no flag
+abbrev pub callers_text : List Row → List ℕ
+callers_text rows = concat (codes "{\"rows\":[" ∷ rows_text rows ∷ codes "]}" ∷ [])

@@ -5,7 +5,7 @@ ghost use Rattle.nav_proto.specs.Edits.{edits_of};
 ghost use Rattle.nav_proto.specs.Forms.{names_of};
 ghost use Rattle.nav_proto.specs.Answers.{LineGives};
 ghost use Rattle.nav_proto.specs.Members.{field};
-ghost use Rattle.nav_proto.specs.Requests.{rule_in, node_point, place_point, point_of, bounds_of, query_names, query_in};
+ghost use Rattle.nav_proto.specs.Requests.{rule_in, node_point, place_point, point_of, bounds_of, query_names, query_in, callers_names};
 
 use crate::edits::edits_in;
 use crate::fields::{bound_field, number_field, path_field, prefix_field, user_field};
@@ -59,7 +59,7 @@ fn place(alloc: Global, v: &Value) -> Result<Point, ProtoFault>
 }
 
 /// Where a query stands.
-fn point(alloc: Global, v: &Value) -> Result<Point, ProtoFault>
+pub(crate) fn point(alloc: Global, v: &Value) -> Result<Point, ProtoFault>
     ensures { LineGives result (point_of (view v.now)) }
 {
     match v.get("node") {
@@ -74,6 +74,16 @@ fn query_form(v: &Value) -> Form
     match v.get("node") {
         Some(_) => Form::NodeQuery,
         None => Form::PlaceQuery,
+    }
+}
+
+/// Which members `callers` may have: those of a query but its bounds.
+pub(crate) fn callers_form(v: &Value) -> Form
+    ensures { names_of result ≡ callers_names (view v.now) }
+{
+    match v.get("node") {
+        Some(_) => Form::NodeCallers,
+        None => Form::PlaceCallers,
     }
 }
 

@@ -20,6 +20,8 @@ pub(crate) enum Form {
     Rule,
     NodeQuery,
     PlaceQuery,
+    NodeCallers,
+    PlaceCallers,
     Put,
     Remove,
     NodeLine,
@@ -51,6 +53,10 @@ impl json_values::Form for Form {
                     || name == "column"
                     || name == "edges"
                     || name == "depth"
+            }
+            Form::NodeCallers => name == "do" || name == "path" || name == "node",
+            Form::PlaceCallers => {
+                name == "do" || name == "path" || name == "line" || name == "column"
             }
             Form::Put => name == "put" || name == "text",
             Form::Remove => name == "remove",

@@ -3,7 +3,7 @@ ghost use Rattle.json.specs.Print.{quoted};
 ghost use Rattle.nav_proto.specs.Replies.{plain_word, reply_text, IsOneLine};
 
 use crate::faults::bad_file_text;
-use crate::rows::answer_text;
+use crate::rows::{answer_text, callers_text};
 use crate::{PlainError, Reply, ReplyText};
 use serde_json::Value;
 use std::alloc::{AllocError, Global};
@@ -25,6 +25,7 @@ fn text_of(alloc: Global, reply: &Reply) -> Result<String, AllocError>
         Reply::Version(n) => format!(in alloc; "{{\"version\":{n}}}"),
         Reply::Done => String::from_str(alloc, "{\"ok\":true}"),
         Reply::Rows(answer) => answer_text(alloc, answer),
+        Reply::Callers(rows) => callers_text(alloc, rows),
         Reply::Plain(error) => {
             let word = plain_word(*error);
             format!(in alloc; "{{\"error\":\"{word}\"}}")

@@ -1,5 +1,5 @@
 use crate::ReplyText;
-use version_tree::{Answer, PathText, UserText};
+use version_tree::{Answer, PathText, Rows, UserText};
 
 /// What a request is answered with.
 #[derive(Debug, Drop)]
@@ -10,6 +10,8 @@ pub enum Reply {
     Done,
     /// The answer to a query.
     Rows(Answer),
+    /// The references of the definition that `callers` asks about.
+    Callers(Rows),
     /// An error that carries nothing.
     Plain(PlainError),
     /// The line is no request; this field is the first wrong one.

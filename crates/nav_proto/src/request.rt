@@ -50,6 +50,11 @@ pub enum Request {
         at: Point,
         bounds: Bounds,
     },
+    /// Ask for the references of the definition there, found from it backward, within the usual bounds.
+    Callers {
+        path: PathText,
+        at: Point,
+    },
     /// End the session.
     Quit,
 }

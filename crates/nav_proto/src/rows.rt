@@ -1,10 +1,10 @@
 ghost use Rattle.std.specs.Prelude.{◌≡◌, string_bytes, IfOk};
-ghost use Rattle.nav_proto.specs.Rows.{answer_text, rows_text, row_text, span_text};
+ghost use Rattle.nav_proto.specs.Rows.{answer_text, callers_text, rows_text, row_text, span_text};
 
 use crate::print::quoted_text;
 use graph_nodes::Span;
 use std::alloc::{AllocError, Global};
-use version_tree::{Answer, Row};
+use version_tree::{Answer, Row, Rows};
 
 /// The answer to a query.
 pub fn answer_text(alloc: Global, answer: &Answer) -> Result<String, AllocError>
@@ -13,6 +13,14 @@ pub fn answer_text(alloc: Global, answer: &Answer) -> Result<String, AllocError>
     let limit = answer.limit;
     let rows = rows_text(alloc, answer.rows.items())?;
     format!(in alloc; "{{\"limit\":{limit},\"rows\":[{rows}]}}")
+}
+
+/// The rows that `callers` finds.
+pub fn callers_text(alloc: Global, rows: &Rows) -> Result<String, AllocError>
+    ensures { IfOk result (λ s. string_bytes s ≡ callers_text rows.now) }
+{
+    let rows = rows_text(alloc, rows.items())?;
+    format!(in alloc; "{{\"rows\":[{rows}]}}")
 }
 
 /// The rows with a comma between each and the next.

@@ -2,10 +2,10 @@ ghost use Rattle.std.specs.Prelude.{◌≡◌, IfOk};
 ghost use Rattle.serde_json.specs.View.{view};
 ghost use Rattle.nav_proto.specs.Bounded.{IsBounded};
 ghost use Rattle.nav_proto.specs.Answers.{LineGives};
-ghost use Rattle.nav_proto.specs.Requests.{hello_of, bare_of, commit_of, rule_of, query_of, request_of};
+ghost use Rattle.nav_proto.specs.Requests.{hello_of, bare_of, commit_of, rule_of, query_of, callers_of, request_of};
 
-use crate::fields::{base_field, user_field};
-use crate::forms::{edits_field, query, rule};
+use crate::fields::{base_field, path_field, user_field};
+use crate::forms::{callers_form, edits_field, point, query, rule};
 use crate::members::{Form, only};
 use crate::pieces::wrong;
 use crate::{ProtoFault, Request};
@@ -39,6 +39,8 @@ pub(crate) fn request(alloc: Global, v: Value) -> Result<Request, ProtoFault>
         define(alloc, &v)
     } else if word == "references" {
         references(alloc, &v)
+    } else if word == "callers" {
+        callers(alloc, &v)
     } else if word == "quit" {
         quit(alloc, &v)
     } else {
@@ -133,4 +135,16 @@ fn references(alloc: Global, v: &Value) -> Result<Request, ProtoFault>
 {
     let (path, (at, bounds)) = query(alloc, v)?;
     Ok(Request::References { path, at, bounds })
+}
+
+/// The request `callers`, which has no bounds.
+#[tactic(auto, unfolding(crate::specs::Requests::callers_of))]
+fn callers(alloc: Global, v: &Value) -> Result<Request, ProtoFault>
+    ensures gives { LineGives result (callers_of (view v.now)) }
+    ensures bounded { IfOk result IsBounded }
+{
+    let path = path_field(alloc, v)?;
+    let at = point(alloc, v)?;
+    only(alloc, v, callers_form(v))?;
+    Ok(Request::Callers { path, at })
 }

@@ -2,7 +2,8 @@
 -- `pin`), Judged (changes) and Committed (commits). That a swept desk still has its documents in order, on Kept.
 -- `serve_session`: served and seat on UnderWay, with Turned where no line was answered; Seen, Longer, Passed and
 -- Reached serve UnderWay. The laws on OneScript, which Plain and Alike serve.
--- CallerLemmas is for `nav_demo`, `nav_lsp` and `nav_serve`, and OneScript and Plain are for their laws too.
+-- CallerLemmas is for `nav_demo`, `nav_lsp` and `nav_serve`, and OneScript and Plain are for their laws too. UnderWay,
+-- Reached and Turned are also for `nav_poll`, whose session has the same lines over a link.
 mod Kept
 mod Seen
 mod Judged
@@ -13,7 +14,7 @@ mod Alike
 pub mod OneScript
 mod Longer
 mod Passed
-mod Reached
-mod Turned
-mod UnderWay
+pub mod Reached
+pub mod Turned
+pub mod UnderWay
 pub mod CallerLemmas

@@ -11,17 +11,18 @@ use Rattle.version_tree.specs.Graphs.{graph_rows}
 use Rattle.version_board.specs.Logs.{Begins, own, entry}
 use Rattle.nav_answers.specs.declared.found.At.{At}
 use Rattle.nav_answers.specs.Replies.{IsDefineReply, IsReferencesReply}
+use Rattle.nav_answers.specs.Callers.{IsCallersReply}
 use Rattle.nav_proto.specs.declared.proto_fault.ProtoFault.{ProtoFault}
 use Rattle.nav_proto.specs.declared.request.FileEdit.{FileEdit}
 use Rattle.nav_proto.specs.declared.request.Request.{Request}
-use Rattle.nav_proto.specs.declared.request.Request.TheVariants.{Hello, Pin, Commit, Grant, Revoke, Deny, Undeny, Define, References, Quit}
+use Rattle.nav_proto.specs.declared.request.Request.TheVariants.{Hello, Pin, Commit, Grant, Revoke, Deny, Undeny, Define, References, Callers, Quit}
 use Rattle.nav_proto.specs.declared.reply.Reply.{Reply}
 use Rattle.nav_proto.specs.declared.reply.Reply.TheVariants.{Plain}
 use Rattle.nav_proto.specs.declared.reply.PlainError.TheVariants.{NoUser, Forbidden}
 use Rattle.nav_proto.specs.Requests.{request_from}
 use Rattle.nav_session.specs.Requests.{is_operator, at_of}
 use Rattle.nav_session.specs.Refusals.{fault_reply, verdict}
-use Rattle.nav_session.specs.Sessions.{Session, Asker, Sees, Stays, Refuses, Accepts, IsJudged, HasFiles, IsCommitted, QueryReply, Finds, IfNamed, IfOperator, IsAnswered, IsReplyTo}
+use Rattle.nav_session.specs.Sessions.{Session, Asker, Sees, Stays, Refuses, Accepts, IsJudged, HasFiles, IsCommitted, QueryReply, Finds, FindsCallers, IfNamed, IfOperator, IsAnswered, IsReplyTo}
 use Rattle.nav_session.specs.Sessions as sessions
 use Rattle.nav_session.specs.Transcripts.{AreReplies}
 
@@ -101,6 +102,16 @@ finds_longer IsReply log more before asker path at' bounds reply after f = recor
   stays = f.stays;
 }
 
+callers_longer : (log more : List Entry) (before : Session) (asker : Asker) (path : List ℕ) (at' : At) (reply : Reply) (after : Session)
+    → FindsCallers log before asker path at' reply after → FindsCallers (log ++ more) before asker path at' reply after
+callers_longer log more before asker path at' reply after f = record {
+  pinned = there_stay asker.pin log more f.pinned;
+  found = f.found;
+  exact = subst (λ (l : List Entry). IsCallersReply (graph_rows (granted_rows asker.user (replay l))) path at' f.found)
+      (sym (first_stay asker.pin log more f.pinned)) f.exact;
+  stays = f.stays;
+}
+
 -- what needs a user or the operator, where more is known of what is replied then
 named_map : (o : Option Asker) (A : Type 0) (P Q : Asker → Type 0) → ((a : Asker) → P a → Q a) → MatchOption o A P → MatchOption o A Q
 named_map None A P Q f h = h
@@ -157,6 +168,11 @@ answered_longer seat log more before (References path point bounds) reply after 
     (λ asker. Finds IsReferencesReply log before asker path (at_of point) bounds reply after)
     (λ asker. Finds IsReferencesReply (log ++ more) before asker path (at_of point) bounds reply after)
     (λ asker f. finds_longer IsReferencesReply log more before asker path (at_of point) bounds reply after f) h
+answered_longer seat log more before (Callers path point) reply after h =
+    if_named before reply after
+    (λ asker. FindsCallers log before asker path (at_of point) reply after)
+    (λ asker. FindsCallers (log ++ more) before asker path (at_of point) reply after)
+    (λ asker f. callers_longer log more before asker path (at_of point) reply after f) h
 
 read_longer : (r : Result Request ProtoFault) (seat : ℕ) (log more : List Entry) (before : Session) (reply : Reply) (after : Session)
     → MatchResult r (λ request. IsAnswered seat log before request reply after) (λ fault. Stays (fault_reply fault) before reply after)

@@ -21,21 +21,21 @@ use Rattle.version_board.specs.Logs.{own, entry}
 use Rattle.partial_path.specs.declared.bounds.Bounds.{Bounds}
 use Rattle.nav_answers.specs.declared.found.At.{At}
 use Rattle.nav_answers.specs.declared.found.AskFault.{AskFault}
-use Rattle.nav_answers.specs.Laws.{OneReply, QueriesHaveOneReply}
+use Rattle.nav_answers.specs.Laws.{OneReply, QueriesHaveOneReply, CallersHaveOneReply}
 use Rattle.nav_answers.specs.Replies.{IsDefineReply, IsReferencesReply}
-use Rattle.nav_answers.proofs.OneReply.{one_reply}
+use Rattle.nav_answers.proofs.OneReply.{one_callers, one_reply}
 use Rattle.nav_proto.specs.declared.proto_fault.ProtoFault.{ProtoFault}
 use Rattle.nav_proto.specs.declared.request.FileEdit.{FileEdit}
 use Rattle.nav_proto.specs.declared.request.Request.{Request}
-use Rattle.nav_proto.specs.declared.request.Request.TheVariants.{Hello, Pin, Commit, Grant, Revoke, Deny, Undeny, Define, References, Quit}
+use Rattle.nav_proto.specs.declared.request.Request.TheVariants.{Hello, Pin, Commit, Grant, Revoke, Deny, Undeny, Define, References, Callers, Quit}
 use Rattle.nav_proto.specs.declared.reply.Reply.{Reply}
 use Rattle.nav_proto.specs.declared.reply.Reply.TheVariants.{Version, Stale, Plain, BadFile, Done}
 use Rattle.nav_proto.specs.declared.reply.PlainError.TheVariants.{NoUser, Forbidden}
 use Rattle.nav_proto.specs.Requests.{request_from}
 use Rattle.nav_session.specs.BadFiles.{file_error}
-use Rattle.nav_session.specs.Refusals.{edit_reply, fault_reply, is_stale, query_reply, verdict}
+use Rattle.nav_session.specs.Refusals.{callers_reply, edit_reply, fault_reply, is_stale, query_reply, verdict}
 use Rattle.nav_session.specs.Requests.{at_of, docs_in, edits_with, is_operator}
-use Rattle.nav_session.specs.Sessions.{Asker, Session, Sees, Stays, Pins, Refuses, Accepts, IsJudged, IsRuled, IsCommitted, Finds, QueryReply, IsAnswered, asked_by, opened}
+use Rattle.nav_session.specs.Sessions.{Asker, Session, Sees, Stays, Pins, Refuses, Accepts, IsJudged, IsRuled, IsCommitted, Finds, FindsCallers, QueryReply, IsAnswered, asked_by, opened}
 use Rattle.nav_session.specs.Transcripts.{AreReplies, IsTranscript}
 use Rattle.nav_session.specs.Laws.{FirstLinesHaveOneScript, LinesHaveOneScript}
 use Rattle.nav_session.proofs.Alike.{alike_edits, fault_or_files, one_first_fault}
@@ -232,6 +232,20 @@ finds_same IsReply a b s asker path at bounds r q t u law same low h k =
     (graph_rows (granted_rows asker.user (replay (take asker.pin b)))) path at h.found k.found rows h.exact k.exact in
     stays_same a b s (query_reply k.found) r q t u same (record { told = h.stays.told ∙ ap query_reply one; same = h.stays.same }) k.stays
 
+callers_same : (a b : List Entry) (s : Session) (asker : Asker) (path : List ℕ) (at : At) (r q : Reply) (t u : Session)
+    → CallersHaveOneReply → IsSame a b s → asker.pin ≤ s.seen
+    → FindsCallers a s asker path at r t → FindsCallers b s asker path at q u → StaySame a b r q t u
+callers_same a b s asker path at r q t u law same low h k =
+    let rows = alike_views (take asker.pin a) (take asker.pin b) asker.user (same.alike asker.pin low) in
+    let one : h.found ≡ k.found = law (graph_rows (granted_rows asker.user (replay (take asker.pin a))))
+    (graph_rows (granted_rows asker.user (replay (take asker.pin b)))) path at h.found k.found rows h.exact k.exact in
+    stays_same a b s (callers_reply k.found) r q t u same (record { told = h.stays.told ∙ ap callers_reply one; same = h.stays.same }) k.stays
+
+-- that a query has one reply, and `callers` too
+record Laws : Type 0 where
+  queries : QueriesHaveOneReply
+  callers : CallersHaveOneReply
+
 -- what needs a user, and what needs the operator
 named_same : (a b : List Entry) (s : Session) (o : Option Asker) (r q : Reply) (t u : Session) (P Q : Asker → Type 0)
     → IsSame a b s → IfSome o (λ asker. asker.pin ≤ s.seen)
@@ -260,7 +274,7 @@ ruled_same seat a b s change r q t u oa ob same h k =
     h k
 
 -- one request
-request_same : QueriesHaveOneReply → (seat : ℕ) (a b : List Entry) (s : Session) (request : Request) (r q : Reply) (t u : Session)
+request_same : Laws → (seat : ℕ) (a b : List Entry) (s : Session) (request : Request) (r q : Reply) (t u : Session)
     → own seat a ≡ a → own seat b ≡ b → IsSame a b s → IsAnswered seat a s request r t → IsAnswered seat b s request q u → StaySame a b r q t u
 request_same laws seat a b s Quit r q t u oa ob same h k = stays_same a b s Done r q t u same h k
 request_same laws seat a b s (Hello user) r q t u oa ob same h k = pins_same seat a b s user r q t u oa ob same h k
@@ -283,26 +297,30 @@ request_same laws seat a b s (Undeny user prefix) r q t u oa ob same h k = ruled
 request_same laws seat a b s (Define path point bounds) r q t u oa ob same h k =
     named_same a b s s.asker r q t u
     (λ asker. Finds IsDefineReply a s asker path (at_of point) bounds r t) (λ asker. Finds IsDefineReply b s asker path (at_of point) bounds q u) same same.pin
-    (λ asker low x y. finds_same IsDefineReply a b s asker path (at_of point) bounds r q t u laws.define same low x y) h k
+    (λ asker low x y. finds_same IsDefineReply a b s asker path (at_of point) bounds r q t u laws.queries.define same low x y) h k
 request_same laws seat a b s (References path point bounds) r q t u oa ob same h k =
     named_same a b s s.asker r q t u
     (λ asker. Finds IsReferencesReply a s asker path (at_of point) bounds r t) (λ asker. Finds IsReferencesReply b s asker path (at_of point) bounds q u) same same.pin
-    (λ asker low x y. finds_same IsReferencesReply a b s asker path (at_of point) bounds r q t u laws.references same low x y) h k
+    (λ asker low x y. finds_same IsReferencesReply a b s asker path (at_of point) bounds r q t u laws.queries.references same low x y) h k
+request_same laws seat a b s (Callers path point) r q t u oa ob same h k =
+    named_same a b s s.asker r q t u
+    (λ asker. FindsCallers a s asker path (at_of point) r t) (λ asker. FindsCallers b s asker path (at_of point) q u) same same.pin
+    (λ asker low x y. callers_same a b s asker path (at_of point) r q t u laws.callers same low x y) h k
 
 -- the same for callers
 pub answered_same : (seat : ℕ) (a b : List Entry) (s : Session) (request : Request) (r q : Reply) (t u : Session)
     → own seat a ≡ a → own seat b ≡ b → IsSame a b s → IsAnswered seat a s request r t → IsAnswered seat b s request q u → StaySame a b r q t u
-answered_same = request_same one_reply
+answered_same = request_same (record { queries = one_reply; callers = one_callers })
 
 -- one line
-line_same : QueriesHaveOneReply → (seat : ℕ) (a b : List Entry) (s : Session) (read : Result Request ProtoFault) (r q : Reply) (t u : Session)
+line_same : Laws → (seat : ℕ) (a b : List Entry) (s : Session) (read : Result Request ProtoFault) (r q : Reply) (t u : Session)
     → own seat a ≡ a → own seat b ≡ b → IsSame a b s
     → MatchResult read (λ request. IsAnswered seat a s request r t) (λ fault. Stays (fault_reply fault) s r t)
     → MatchResult read (λ request. IsAnswered seat b s request q u) (λ fault. Stays (fault_reply fault) s q u) → StaySame a b r q t u
 line_same laws seat a b s (Ok request) r q t u oa ob same h k = request_same laws seat a b s request r q t u oa ob same h k
 line_same laws seat a b s (Err fault) r q t u oa ob same h k = stays_same a b s (fault_reply fault) r q t u same h k
 
-all_same : QueriesHaveOneReply → (seat : ℕ) (a b : List Entry) (s : Session) (lines : List (List ℕ)) (rs qs : List Reply) (t u : Session)
+all_same : Laws → (seat : ℕ) (a b : List Entry) (s : Session) (lines : List (List ℕ)) (rs qs : List Reply) (t u : Session)
     → own seat a ≡ a → own seat b ≡ b → IsSame a b s → AreReplies seat a s lines rs t → AreReplies seat b s lines qs u → rs ≡ qs
 all_same laws seat a b s [] [] [] t u oa ob same h k = refl
 all_same laws seat a b s [] [] (q ∷ qs) t u oa ob same h k = absurd k
@@ -315,7 +333,7 @@ all_same laws seat a b s (line ∷ lines) (r ∷ rs) (q ∷ qs) t u oa ob same (
     ap (λ (x : Reply). x ∷ rs) one.replies ∙ ap (λ (xs : List Reply). q ∷ xs) rest
 
 -- the lines that both have, where the one has more
-firsts_same : QueriesHaveOneReply → (seat : ℕ) (a b : List Entry) (s : Session) (lines more : List (List ℕ)) (rs qs : List Reply) (t u : Session)
+firsts_same : Laws → (seat : ℕ) (a b : List Entry) (s : Session) (lines more : List (List ℕ)) (rs qs : List Reply) (t u : Session)
     → own seat a ≡ a → own seat b ≡ b → IsSame a b s → AreReplies seat a s lines rs t → AreReplies seat b s (lines ++ more) qs u
     → (rest : List Reply) × (rs ++ rest ≡ qs)
 firsts_same laws seat a b s [] more [] qs t u oa ob same h k = (qs, refl)
@@ -335,10 +353,10 @@ none_taken k a b e = subst (λ (n : ℕ). plain_log (take n a) ≡ plain_log (ta
 pub same_opened : (a b : List Entry) → IsSame a b (opened 0)
 same_opened a b = record { alike = (λ n low. none_taken n a b (omega (arith, low))); pin = tt }
 
-pub one_script : QueriesHaveOneReply → LinesHaveOneScript
-one_script laws seat log other lines replies others oa ob h k =
-    all_same laws seat log other (opened 0) lines replies others h.last k.last oa ob (same_opened log other) h.replied k.replied
+pub one_script : QueriesHaveOneReply → CallersHaveOneReply → LinesHaveOneScript
+one_script queries callers seat log other lines replies others oa ob h k =
+    all_same (record { queries = queries; callers = callers }) seat log other (opened 0) lines replies others h.last k.last oa ob (same_opened log other) h.replied k.replied
 
-pub one_beginning : QueriesHaveOneReply → FirstLinesHaveOneScript
-one_beginning laws seat log other lines more replies others oa ob h k =
-    firsts_same laws seat log other (opened 0) lines more replies others h.last k.last oa ob (same_opened log other) h.replied k.replied
+pub one_beginning : QueriesHaveOneReply → CallersHaveOneReply → FirstLinesHaveOneScript
+one_beginning queries callers seat log other lines more replies others oa ob h k =
+    firsts_same (record { queries = queries; callers = callers }) seat log other (opened 0) lines more replies others h.last k.last oa ob (same_opened log other) h.replied k.replied

@@ -6,18 +6,7 @@ use Rattle.nav_io.specs.Lines.{line_max}
 use Rattle.nav_session.specs.Requests.{is_quit}
 use Rattle.nav_session.specs.Transcripts.{max_lines, to_answer, Ending, AtEnd, AtQuit, AtLongLine, AtMost, ending}
 use Rattle.nav_session.specs.Serving.{AreFirst}
-
--- a line that isn't too long, and one that doesn't end the session
-abbrev pub IsShort : List ℕ → Type 0
-IsShort line = length line ≤ line_max
-
-abbrev pub IsNoQuit : List ℕ → Type 0
-IsNoQuit line = is_quit line ≡ false
-
--- lines behind which more may be answered
-pub record ArePassed (lines : List (List ℕ)) : Type 0 where
-  pub short : AllByRecursion IsShort lines
-  pub no_quit : AllByRecursion IsNoQuit lines
+use Rattle.nav_session.specs.UnderWay.{IsShort, IsNoQuit, ArePassed}
 
 not_long : (n m : ℕ) → m ≤ n → nat_lt n m ≡ false
 not_long n m h = grind (arith, nat_tests, h)

@@ -13,22 +13,7 @@ use Rattle.nav_io.proofs.CallerLemmas.{whole_lines-line, whole_lines-ended_lines
 use Rattle.nav_session.specs.Requests.{is_quit}
 use Rattle.nav_session.specs.Serving.{AreFirst, AreTaken, AreAllTaken}
 use Rattle.nav_session.specs.Turns.{ReadsLine}
-use Rattle.nav_session.proofs.Passed.{IsShort, IsNoQuit}
-
--- behind these lines of the input this text is in front of the reader and in the source
-pub record IsReached (input : List ℕ) (done : List (List ℕ)) (reader : Reading) (left : Option (List ℕ)) : Type 0 where
-  pub text : List ℕ
-  pub there : prepend_known reader.front left ≡ Some text
-  pub others : lines input ≡ done ++ lines text
-  -- each line had its newline, or the last one had none and ended the input
-  pub bytes : (input ≡ ended_lines done ++ text) ⊎ ((text ≡ []) × IsTrue reader.ended)
-
--- of a source with this input the lines were read, where it tells its bytes
-pub record HasRead (done : List (List ℕ)) (input : Option (List ℕ)) (reader : Reading) (left : Option (List ℕ)) : Type 0 where
-  pub no_newline : AllByRecursion HasNoNewline done
-  pub untold : input ≡ None → left ≡ None
-  pub told : IfSome input (λ bytes. IsReached bytes done reader left)
-  pub at_end : IsTrue reader.ended → IsAtEnd left
+use Rattle.nav_session.specs.UnderWay.{IsNoQuit, IsReached, HasRead}
 
 -- what is ahead of a reader is what is in front of it and in the source
 ahead-there_by : (front : List ℕ) (ended : Bool) (left : Option (List ℕ)) → (IsTrue ended → IsAtEnd left)

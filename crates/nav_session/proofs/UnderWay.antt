@@ -26,26 +26,14 @@ use Rattle.nav_session.specs.Requests.{is_quit}
 use Rattle.nav_session.specs.Sessions.{Session, opened, IsReplyTo}
 use Rattle.nav_session.specs.Transcripts.{AreReplies, IsTranscript, with_newline, replies_text, max_lines, to_answer, Ending, AtEnd, AtQuit, AtLongLine, AtMost, ending, status_at}
 use Rattle.nav_session.specs.Desks.{OnDesk, Moment, moment, session_at, session_of, HasItsView, GoesOn}
-use Rattle.nav_session.specs.Serving.{AreFirst, AreTaken, AreAllTaken, writes_all, answers_all, Serves}
+use Rattle.nav_session.specs.Serving.{AreFirst, AreTaken, AreAllTaken, OnlyLastQuits, writes_all, answers_all, Serves}
 use Rattle.nav_session.specs.Turns.{Spot, spot, ReadsLine, AnswersNext, HasNoEntry, FindsEnd, HasStopReason, StopsNext, FindsByte, LooksOn, end_before, status_of_end, status_at_end}
+use Rattle.nav_session.specs.UnderWay.{IsShort, IsNoQuit, ArePassed, HasRead, IsUnderWay}
 use Rattle.nav_session.proofs.Seen.{taken_first, begins_after}
 use Rattle.nav_session.proofs.Longer.{replies_longer, replies_more}
-use Rattle.nav_session.proofs.Passed.{IsShort, IsNoQuit, ArePassed, AreAll, passed_first, answered_first, all_at_end, all_at_quit, all_at_long_line, all_at_most, one_line_more}
+use Rattle.nav_session.proofs.Passed.{AreAll, passed_first, answered_first, all_at_end, all_at_quit, all_at_long_line, all_at_most, one_line_more}
 use Rattle.nav_session.proofs.Turned.{no_entry}
-use Rattle.nav_session.proofs.Reached.{HasRead, IsReached, ahead-there, of_ahead, read_on, read_nothing, taken_of, taken_less, all_taken_of, all_more}
-
--- So many lines were answered of what the source had, and their replies are written.
-pub record IsUnderWay (count seat : ℕ) (log : List Entry) (left held : Option (List ℕ)) (now : Spot) (held' : Option (List ℕ)) : Type 0 where
-  pub done : List (List ℕ)
-  pub replies : List Reply
-  pub so_many : length done ≡ count
-  pub same_seat : now.session.seat ≡ seat
-  pub begins : Begins log now.session.log
-  pub view : HasItsView now.session.desk now.session.log now.session.pin
-  pub passed : ArePassed done
-  pub read : HasRead done left now.reader now.left
-  pub replied : AreReplies seat now.session.log (opened (length log)) done replies (session_of now.session)
-  pub holds : held' ≡ append_known held (replies_text replies)
+use Rattle.nav_session.proofs.Reached.{ahead-there, of_ahead, read_on, read_nothing, taken_of, taken_less, all_taken_of, all_more}
 
 no_view : (desk : OnDesk) (log : List Entry) (pin : ℕ) → desk.view ≡ None → HasItsView desk log pin
 no_view desk log pin e = rw e tt
@@ -73,6 +61,7 @@ under_way m reader left held fresh nobody none = record {
 pub record HasAnswered (seat : ℕ) (log log' : List Entry) (left left' : Option (List ℕ)) (done : List (List ℕ)) (replies : List Reply) : Type 0 where
   pub begins : Begins log log'
   pub transcript : IsTranscript seat (length log) log' done replies
+  pub last : OnlyLastQuits done
   pub first : IfSome left (λ input. AreFirst done (to_answer max_lines (lines input)))
   pub taken : AreTaken done left left'
 
@@ -91,6 +80,7 @@ served_all reason seat log log' left left' held held' done replies h holds all =
   answered = done;
   replies = replies;
   transcript = h.transcript;
+  last = h.last;
   first = h.first;
   taken = h.taken;
   written = replies_text replies;
@@ -104,7 +94,7 @@ served_all reason seat log log' left left' held held' done replies h holds all =
 }
 
 -- It stopped before a line that it didn't answer.
-served_short : (status seat : ℕ) (log log' : List Entry) (left left' held held' : Option (List ℕ)) (done : List (List ℕ)) (replies : List Reply)
+pub served_short : (status seat : ℕ) (log log' : List Entry) (left left' held held' : Option (List ℕ)) (done : List (List ℕ)) (replies : List Reply)
     → HasAnswered seat log log' left left' done replies → held' ≡ append_known held (replies_text replies)
     → answers_all status ≡ false → (status ≡ 3 → AreAllTaken done left left') → Serves seat log log' left left' held held' status
 served_short status seat log log' left left' held held' done replies h holds not_all short = record {
@@ -112,6 +102,7 @@ served_short status seat log log' left left' held held' done replies h holds not
   answered = done;
   replies = replies;
   transcript = h.transcript;
+  last = h.last;
   first = h.first;
   taken = h.taken;
   written = replies_text replies;
@@ -125,7 +116,7 @@ served_short status seat log log' left left' held held' done replies h holds not
 }
 
 -- It stopped in the reply to its last line.
-served_part : (status seat : ℕ) (log log' : List Entry) (left left' held held' : Option (List ℕ)) (done : List (List ℕ)) (replies : List Reply) (written unwritten : List ℕ)
+pub served_part : (status seat : ℕ) (log log' : List Entry) (left left' held held' : Option (List ℕ)) (done : List (List ℕ)) (replies : List Reply) (written unwritten : List ℕ)
     → HasAnswered seat log log' left left' done replies → written ++ unwritten ≡ replies_text replies → held' ≡ append_known held written
     → answers_all status ≡ false → writes_all status ≡ false → (status ≡ 3 → ⊥) → Serves seat log log' left left' held held' status
 served_part status seat log log' left left' held held' done replies written unwritten h text holds not_all not_whole no_three = record {
@@ -133,6 +124,7 @@ served_part status seat log log' left left' held held' done replies written unwr
   answered = done;
   replies = replies;
   transcript = h.transcript;
+  last = h.last;
   first = h.first;
   taken = h.taken;
   written = written;
@@ -181,8 +173,22 @@ more_first_of done line left reader left' h p short within =
     IfSome_then left (others_of (done ++ line ∷ []) left reader left' h)
     (λ input o. answered_first (lines input) done o.0 line (o.1 ∙ one_line_more done o.0 line) p within short)
 
+-- where none of the lines is a `quit`, one more may be
+last_with : (done : List (List ℕ)) (line : List ℕ) → AllByRecursion IsNoQuit done → OnlyLastQuits (done ++ line ∷ [])
+last_with [] line none = tt
+last_with (a ∷ []) line none = (none.0, tt)
+last_with (a ∷ b ∷ done) line none = (none.0, last_with (b ∷ done) line none.1)
+
+last_of : (done : List (List ℕ)) → ArePassed done → OnlyLastQuits done
+last_of done p = by done p.no_quit
+  where
+    by : (xs : List (List ℕ)) → AllByRecursion IsNoQuit xs → OnlyLastQuits xs
+    by [] none = tt
+    by (a ∷ []) none = tt
+    by (a ∷ b ∷ more) none = (none.0, by (b ∷ more) none.1)
+
 -- The session stopped or ended before a line more.
-has_answered : (count seat : ℕ) (log : List Entry) (left held held' : Option (List ℕ)) (old new : Spot) → (u : IsUnderWay count seat log left held old held')
+pub has_answered : (count seat : ℕ) (log : List Entry) (left held held' : Option (List ℕ)) (old new : Spot) → (u : IsUnderWay count seat log left held old held')
     → count ≤ max_lines → HasNoEntry old new → AreTaken u.done left new.left
     → HasAnswered seat log new.session.log left new.left u.done u.replies
 has_answered count seat log left held held' old new u within s taken =
@@ -191,6 +197,7 @@ has_answered count seat log left held held' old new u within s taken =
     record {
       begins = begins_after log old.session.log new.session.log u.begins s.goes_on.begins;
       transcript = transcript_later seat (length log) old.session new.session.log u.done u.replies s.goes_on.begins own_stays u.replied;
+      last = last_of u.done u.passed;
       first = first_of u.done left old.reader old.left u.read u.passed (omega (arith, within, u.so_many));
       taken = taken;
     }
@@ -358,6 +365,7 @@ has_answered_more : (count seat : ℕ) (log : List Entry) (left held held' : Opt
 has_answered_more count seat log left held held' now step h within = record {
   begins = h.begins;
   transcript = transcript_now seat (length log) now.session (h.done ++ h.line ∷ []) (h.replies ++ h.reply ∷ []) h.replied;
+  last = last_with h.done h.line h.passed.no_quit;
   first = more_first_of h.done h.line left now.reader now.left h.read h.passed h.short (omega (arith, within, h.so_many));
   taken = taken_of (h.done ++ h.line ∷ []) left now.reader now.reader.front now.left now.left refl h.read;
 }

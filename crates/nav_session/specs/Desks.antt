@@ -9,7 +9,7 @@ use Rattle.version_board.specs.Logs.{Begins, own}
 use Rattle.index_gate.specs.Indexed.{AddsMissing}
 use Rattle.nav_proto.specs.declared.proto_fault.ProtoFault.{ProtoFault}
 use Rattle.nav_proto.specs.declared.reply.Reply.{Reply}
-use Rattle.nav_proto.specs.declared.reply.Reply.TheVariants.{Version, Done, Rows, Plain, BadRequest, Stale, Twice, AbsentFile, AbsentGrant, TooManyFiles, TooHeavy, BadFile}
+use Rattle.nav_proto.specs.declared.reply.Reply.TheVariants.{Version, Done, Rows, Callers, Plain, BadRequest, Stale, Twice, AbsentFile, AbsentGrant, TooManyFiles, TooHeavy, BadFile}
 use Rattle.nav_proto.specs.declared.reply.PlainError.{PlainError}
 use Rattle.nav_proto.specs.declared.reply.PlainError.TheVariants.{BadJson, NoUser, Forbidden, Spent, NoFile, NoReference, NoDefinition, Crowded}
 use Rattle.nav_proto.specs.declared.request.Request.{Request}
@@ -44,6 +44,7 @@ abbrev pub is_accepted : Reply → Bool
 is_accepted (Version n) = true
 is_accepted Done = false
 is_accepted (Rows answer) = false
+is_accepted (Callers rows) = false
 is_accepted (Plain error) = false
 is_accepted (BadRequest field) = false
 is_accepted (Stale head) = false
@@ -70,6 +71,7 @@ abbrev pub is_indexed : Reply → Bool
 is_indexed (Version n) = true
 is_indexed Done = false
 is_indexed (Rows answer) = false
+is_indexed (Callers rows) = false
 is_indexed (Plain error) = is_spent error
 is_indexed (BadRequest field) = false
 is_indexed (Stale head) = true
@@ -98,6 +100,7 @@ KeepsDocs (request.Deny user prefix) reply old new = new ≡ old
 KeepsDocs (request.Undeny user prefix) reply old new = new ≡ old
 KeepsDocs (request.Define path point bounds) reply old new = new ≡ old
 KeepsDocs (request.References path point bounds) reply old new = new ≡ old
+KeepsDocs (request.Callers path point) reply old new = new ≡ old
 KeepsDocs request.Quit reply old new = new ≡ old
 
 -- the same of a line that was read: one that is no request makes nothing of the store

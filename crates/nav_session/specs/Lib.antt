@@ -9,3 +9,4 @@ pub mod Halts
 pub mod Laws
 pub mod Inside
 pub mod Turns
+pub mod UnderWay

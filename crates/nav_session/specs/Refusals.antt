@@ -6,13 +6,14 @@ use Rattle.version_tree.specs.declared.edit.EditFault.{EditFault}
 use Rattle.version_tree.specs.declared.edit.EditFault.TheVariants as edit
 use Rattle.version_tree.specs.declared.entry.Entry.{Entry}
 use Rattle.version_tree.specs.declared.row.Answer.{Answer}
+use Rattle.version_tree.specs.declared.row.Row.{Row}
 use Rattle.version_board.specs.Logs.{refusal}
 use Rattle.nav_answers.specs.declared.found.AskFault.{AskFault}
 use Rattle.nav_answers.specs.declared.found.AskFault.TheVariants as ask
 use Rattle.nav_proto.specs.declared.proto_fault.ProtoFault.{ProtoFault}
 use Rattle.nav_proto.specs.declared.proto_fault.ProtoFault.TheVariants as proto
 use Rattle.nav_proto.specs.declared.reply.Reply.{Reply}
-use Rattle.nav_proto.specs.declared.reply.Reply.TheVariants.{Rows, Plain, BadRequest, Stale, Twice, AbsentFile, AbsentGrant, TooManyFiles, TooHeavy}
+use Rattle.nav_proto.specs.declared.reply.Reply.TheVariants.{Rows, Callers, Plain, BadRequest, Stale, Twice, AbsentFile, AbsentGrant, TooManyFiles, TooHeavy}
 use Rattle.nav_proto.specs.declared.reply.PlainError.TheVariants.{BadJson, Spent, NoFile, NoReference, NoDefinition, Crowded}
 
 -- to a line that is no request
@@ -40,6 +41,11 @@ query_reply (Err ask.NoReference) = Plain NoReference
 query_reply (Err ask.NoDefinition) = Plain NoDefinition
 query_reply (Err ask.Crowded) = Plain Crowded
 query_reply (Err ask.NoMemory) = Plain Crowded
+
+-- to `callers`, which is refused in the same words
+abbrev pub callers_reply : Result (List Row) AskFault → Reply
+callers_reply (Ok rows) = Callers rows
+callers_reply (Err fault) = query_reply (Err fault)
 
 -- whether a base was given that isn't the head
 abbrev pub is_stale : Option ℕ → ℕ → Bool

@@ -44,6 +44,7 @@ docs_of_request (request.Deny user prefix) = []
 docs_of_request (request.Undeny user prefix) = []
 docs_of_request (request.Define path point bounds) = []
 docs_of_request (request.References path point bounds) = []
+docs_of_request (request.Callers path point) = []
 docs_of_request request.Quit = []
 
 -- those that a line puts, which are none where it is no commit
@@ -66,6 +67,7 @@ quits (request.Deny user prefix) = false
 quits (request.Undeny user prefix) = false
 quits (request.Define path point bounds) = false
 quits (request.References path point bounds) = false
+quits (request.Callers path point) = false
 quits request.Quit = true
 
 -- whether the line is an accepted `quit`

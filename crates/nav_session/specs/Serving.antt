@@ -1,5 +1,5 @@
 -- What serving a session does, from what was there before to what is there after, and its status.
-use Rattle.std.specs.Prelude.{◌≡◌, ◌⊎◌, ℕ, Bool, ◌||◌, ◌==◌, true, false, List, ◌++◌, length, Option, IfSome}
+use Rattle.std.specs.Prelude.{◌≡◌, ◌⊎◌, ℕ, Bool, ◌||◌, ◌==◌, true, false, List, [], ◌∷◌, ◌++◌, length, Option, IfSome, ⊤}
 use Rattle.std.specs.List.{list_any}
 use Rattle.std.specs.Io.KnownBytes.{prepend_known, append_known, IsAtEnd}
 use Rattle.version_tree.specs.declared.entry.Entry.{Entry}
@@ -27,6 +27,12 @@ pub record AreAllTaken (answered : List (List ℕ)) (left left' : Option (List �
   pub whole : answered ≡ whole_lines taken
   pub no_quit : list_any is_quit answered ≡ false
 
+-- none of the lines but the last one is an accepted `quit`: no line follows one
+abbrev pub OnlyLastQuits : List (List ℕ) → Type 0
+OnlyLastQuits [] = ⊤
+OnlyLastQuits (line ∷ []) = ⊤
+OnlyLastQuits (line ∷ next ∷ more) = (is_quit line ≡ false) × OnlyLastQuits (next ∷ more)
+
 -- whether all replies to the lines that were answered are written with the status
 abbrev pub writes_all : ℕ → Bool
 writes_all status = status == 0 || status == 3 || status == 6 || status == 7
@@ -49,6 +55,7 @@ pub record Serves (seat : ℕ) (log log' : List Entry) (left left' held held' : 
   pub answered : List (List ℕ)
   pub replies : List Reply
   pub transcript : IsTranscript seat (length log) log' answered replies
+  pub last : OnlyLastQuits answered
   -- they are the first of those that are to be answered, and whole
   pub first : IfSome left (λ input. AreFirst answered (to_answer max_lines (lines input)))
   pub taken : AreTaken answered left left'

@@ -7,6 +7,7 @@ use Rattle.version_tree.specs.declared.edit.Edit.{Edit}
 use Rattle.version_tree.specs.declared.edit.Edit.TheVariants as edit
 use Rattle.version_tree.specs.declared.entry.Entry.{Entry}
 use Rattle.version_tree.specs.declared.row.Answer.{Answer}
+use Rattle.version_tree.specs.declared.row.Row.{Row}
 use Rattle.version_tree.specs.Contents.{replay, granted_rows}
 use Rattle.version_tree.specs.Graphs.{GraphRow, graph_rows}
 use Rattle.version_board.specs.Logs.{own, entry}
@@ -15,16 +16,17 @@ use Rattle.index_gate.specs.Indexed.{AreFilesOf, IsFirstFault}
 use Rattle.nav_answers.specs.declared.found.At.{At}
 use Rattle.nav_answers.specs.declared.found.AskFault.{AskFault}
 use Rattle.nav_answers.specs.Replies.{IsDefineReply, IsReferencesReply}
+use Rattle.nav_answers.specs.Callers.{IsCallersReply}
 use Rattle.nav_proto.specs.declared.request.FileEdit.{FileEdit}
 use Rattle.nav_proto.specs.declared.request.Request.{Request}
-use Rattle.nav_proto.specs.declared.request.Request.TheVariants.{Hello, Pin, Commit, Grant, Revoke, Deny, Undeny, Define, References, Quit}
+use Rattle.nav_proto.specs.declared.request.Request.TheVariants.{Hello, Pin, Commit, Grant, Revoke, Deny, Undeny, Define, References, Callers, Quit}
 use Rattle.nav_proto.specs.declared.reply.Reply.{Reply}
 use Rattle.nav_proto.specs.declared.reply.Reply.TheVariants.{Version, Done, Plain, BadFile}
 use Rattle.nav_proto.specs.declared.reply.PlainError.TheVariants.{NoUser, Forbidden}
 use Rattle.nav_proto.specs.Requests.{request_from}
 use Rattle.nav_session.specs.BadFiles.{file_error}
 use Rattle.nav_session.specs.Requests.{is_operator, docs_in, edits_with, at_of}
-use Rattle.nav_session.specs.Refusals.{fault_reply, query_reply, verdict}
+use Rattle.nav_session.specs.Refusals.{callers_reply, fault_reply, query_reply, verdict}
 
 -- who asks, once it is named: the user, and how many entries of the log make the version that is pinned
 pub record Asker : Type 0 where
@@ -120,6 +122,14 @@ pub record Finds (IsReply : QueryReply) (log : List Entry) (before : Session) (a
   pub exact : IsReply bounds (graph_rows (granted_rows asker.user (replay (take asker.pin log)))) path at found
   pub stays : Stays (query_reply found) before reply after
 
+-- `callers` of a user: its reply is due over the files that the user may see of the pinned version, and nothing changes
+pub record FindsCallers (log : List Entry) (before : Session) (asker : Asker) (path : List ℕ) (at : At) (reply : Reply)
+    (after : Session) : Type 0 where
+  pub pinned : asker.pin ≤ length log
+  pub found : Result (List Row) AskFault
+  pub exact : IsCallersReply (graph_rows (granted_rows asker.user (replay (take asker.pin log)))) path at found
+  pub stays : Stays (callers_reply found) before reply after
+
 -- what needs a user, and what needs the operator
 abbrev pub IfNamed : Session → Reply → Session → (Asker → Type 0) → Type 0
 IfNamed before reply after replied = MatchOption before.asker (Stays (Plain NoUser) before reply after) replied
@@ -150,6 +160,8 @@ IsAnswered seat log before (Define path point bounds) reply after =
     IfNamed before reply after (λ asker. Finds IsDefineReply log before asker path (at_of point) bounds reply after)
 IsAnswered seat log before (References path point bounds) reply after =
     IfNamed before reply after (λ asker. Finds IsReferencesReply log before asker path (at_of point) bounds reply after)
+IsAnswered seat log before (Callers path point) reply after =
+    IfNamed before reply after (λ asker. FindsCallers log before asker path (at_of point) reply after)
 
 -- the reply to a line: to what is no request, why, and else that of the request
 abbrev pub IsReplyTo : ℕ → List Entry → Session → List ℕ → Reply → Session → Type 0

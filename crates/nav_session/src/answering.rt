@@ -7,7 +7,7 @@ ghost use Rattle.nav_session.specs.Sessions.{IsAnswered};
 ghost use Rattle.nav_session.specs.Desks.{HasItsView, KeepsDocs, Answers, Replies, GoesOn, IsLeftOff, moment};
 ghost use Rattle.nav_session.specs.Inside.{AnswersWith};
 
-use crate::asking::{at_of, define, references};
+use crate::asking::{at_of, callers, define, references};
 use crate::committing::commit;
 use crate::desk::Desk;
 use crate::judging::rule;
@@ -173,5 +173,8 @@ pub fn reply_to<R: Threads + Sync, B: Commits<R>, G: Gate + Sync, L: Ledger>(
             at_of(at),
             bounds,
         ),
+        Request::Callers { path, at } => {
+            callers(rt, alloc, desk, board, gate, path.as_str(), at_of(at))
+        }
     }
 }

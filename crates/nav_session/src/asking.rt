@@ -2,11 +2,11 @@ ghost use Rattle.std.specs.Prelude.{◌≡◌, IfOk};
 ghost use Rattle.nav_answers.specs.Replies.{IsDefineReply, IsReferencesReply};
 ghost use Rattle.partial_path.specs.Limits.{IsInRange};
 ghost use Rattle.nav_session.specs.Requests.{at_of};
-ghost use Rattle.nav_session.specs.Sessions.{IfNamed, Finds};
+ghost use Rattle.nav_session.specs.Sessions.{IfNamed, Finds, FindsCallers};
 ghost use Rattle.nav_session.specs.Desks.{Replies, HasItsView, moment};
 
 use crate::desk::Desk;
-use crate::refusals::query_reply;
+use crate::refusals::{callers_reply, query_reply};
 use nav_answers::At;
 use nav_io::Gate;
 use nav_proto::{Bounds, PlainError, Point, Reply};
@@ -87,4 +87,33 @@ pub fn references<R: Threads + Sync, B: Pins, G: Gate + Sync>(
     );
     desk.keep_view(view);
     query_reply(found)
+}
+
+/// The reply to `callers`, where a user is named: who refers to the definition there, among the files that the user may
+/// see of the pinned version, where only what leads to it decides whether it is refused as crowded. The one error is want
+/// of memory.
+pub fn callers<R: Threads + Sync, B: Pins, G: Gate + Sync>(
+    rt: &R,
+    alloc: Global,
+    desk: &mut Desk,
+    board: &B,
+    gate: &G,
+    path: &str,
+    at: At,
+) -> Result<Reply, AllocError>
+    requires view { HasItsView desk.old (B.log board.now) (B.pin_at board.now) }
+    ensures reply { IfOk result (Replies (λ log before reply after. IfNamed before reply after
+        (λ asker. FindsCallers log before asker path.now at reply after))
+        (moment (B.seat board.now) (B.log board.now) (B.pin_at board.now) desk.old)
+        (moment (B.seat board.now) (B.log board.now) (B.pin_at board.now) desk.new)) }
+    ensures store { desk.new.store ≡ desk.old.store }
+{
+    if !desk.has_user() {
+        return Ok(Reply::Plain(PlainError::NoUser));
+    }
+    let pinned = board.pinned();
+    let mut view = desk.take_view(alloc, &pinned.version)?;
+    let found = nav_answers::callers(rt, alloc, &mut view, &pinned.index, gate, path, at);
+    desk.keep_view(view);
+    callers_reply(found)
 }

@@ -1,6 +1,6 @@
 ghost use Rattle.nav_session.specs.Laws.{FirstLinesHaveOneScript, LinesHaveOneScript};
 
-use nav_answers::queries_have_one_reply;
+use nav_answers::{callers_have_one_reply, queries_have_one_reply};
 
 /// A law of transcripts: where a log has only the entries of the session, as on a board of one seat, the lines have one
 /// text of replies. So what is written to an input is a function of the input.
@@ -8,6 +8,7 @@ pub fn lines_have_one_script()
     ensures { LinesHaveOneScript }
 {
     queries_have_one_reply();
+    callers_have_one_reply();
 }
 
 /// A law of transcripts: of two sessions as above the one whose lines begin those of the other has the first replies of
@@ -16,4 +17,5 @@ pub fn first_lines_have_one_script()
     ensures { FirstLinesHaveOneScript }
 {
     queries_have_one_reply();
+    callers_have_one_reply();
 }

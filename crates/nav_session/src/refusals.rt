@@ -1,11 +1,11 @@
 ghost use Rattle.std.specs.Prelude.{◌≡◌, ◌≢◌, Err, IfOk};
 ghost use Rattle.nav_answers.specs.declared.found.AskFault.TheVariants as ask;
-ghost use Rattle.nav_session.specs.Refusals.{edit_reply, fault_reply, query_reply};
+ghost use Rattle.nav_session.specs.Refusals.{callers_reply, edit_reply, fault_reply, query_reply};
 
 use nav_answers::{Answer, AskFault};
 use nav_proto::{PlainError, ProtoFault, Reply};
 use std::alloc::AllocError;
-use version_tree::EditFault;
+use version_tree::{EditFault, Rows};
 
 /// The reply to a line that is no request. Want of memory is no fault of a line.
 pub fn fault_reply(fault: ProtoFault) -> Reply
@@ -39,10 +39,31 @@ pub fn query_reply(found: Result<Answer, AskFault>) -> Result<Reply, AllocError>
 {
     match found {
         Ok(answer) => Ok(Reply::Rows(answer)),
-        Err(AskFault::NoFile) => Ok(Reply::Plain(PlainError::NoFile)),
-        Err(AskFault::NoReference) => Ok(Reply::Plain(PlainError::NoReference)),
-        Err(AskFault::NoDefinition) => Ok(Reply::Plain(PlainError::NoDefinition)),
-        Err(AskFault::Crowded) => Ok(Reply::Plain(PlainError::Crowded)),
-        Err(AskFault::NoMemory) => Err(AllocError),
+        Err(fault) => refusal(fault),
+    }
+}
+
+/// The reply to `callers` that found this; the one error is want of memory.
+pub fn callers_reply(found: Result<Rows, AskFault>) -> Result<Reply, AllocError>
+    ensures reply { IfOk result (λ reply. reply ≡ callers_reply found) }
+    ensures definite { IfOk result (λ _. found ≢ Err ask.NoMemory) }
+{
+    match found {
+        Ok(rows) => Ok(Reply::Callers(rows)),
+        Err(fault) => refusal(fault),
+    }
+}
+
+/// The reply to a query that is refused; the one error is want of memory.
+fn refusal(fault: AskFault) -> Result<Reply, AllocError>
+    ensures reply { IfOk result (λ reply. reply ≡ query_reply (Err fault)) }
+    ensures definite { IfOk result (λ _. fault ≢ ask.NoMemory) }
+{
+    match fault {
+        AskFault::NoFile => Ok(Reply::Plain(PlainError::NoFile)),
+        AskFault::NoReference => Ok(Reply::Plain(PlainError::NoReference)),
+        AskFault::NoDefinition => Ok(Reply::Plain(PlainError::NoDefinition)),
+        AskFault::Crowded => Ok(Reply::Plain(PlainError::Crowded)),
+        AskFault::NoMemory => Err(AllocError),
     }
 }

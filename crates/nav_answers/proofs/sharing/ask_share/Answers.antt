@@ -1,6 +1,6 @@
 use Rattle.std.proofs.Common.{◌∙◌, ◌+◌, sym, arith}
 use Rattle.nav_answers.specs.Sources.{graphs_seen}
-use Rattle.nav_answers.proofs.Shared.{share_begun, share_left, share_grown, share_held, share_ended}
+use Rattle.nav_answers.proofs.Shared.{job_among, share_begun, share_left, share_grown, share_held, share_ended}
 use Rattle.nav_answers.proofs.sharing.ask_share.Goals as goal
 
 pub loop-job-init : goal.loop-job-init
@@ -23,3 +23,6 @@ pub returns : goal.returns
 returns g c =
     share_ended c.args.query.now.bounds (graphs_seen c.args.query.now.view.now) c.args.query.now.definitions.now c.args.all.now c.args.step c.args.first c.loop-job.job c.loop-job.links
     (omega (arith, c.loop-job-test.false, c.loop-job.auto.job-end)) c.loop-job.invariant
+
+pub ask_into-requires-clause-among : goal.ask_into-requires-clause-among
+ask_into-requires-clause-among g c = job_among c.args.all.now c.loop-job.job _ c.loop-job-test.true

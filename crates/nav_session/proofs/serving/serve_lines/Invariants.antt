@@ -1,7 +1,7 @@
 use Rattle.std.proofs.Common.{◌≤◌}
 use Rattle.nav_session.specs.Desks.{moment}
 use Rattle.nav_session.specs.Turns.{spot}
-use Rattle.nav_session.proofs.UnderWay.{IsUnderWay}
+use Rattle.nav_session.specs.UnderWay.{IsUnderWay}
 use Rattle.nav_session.proofs.serving.serve_lines.Given as goal
 
 -- So many lines were answered, and no count of faults fell.

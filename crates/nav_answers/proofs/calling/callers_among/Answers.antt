@@ -1,0 +1,30 @@
+use Rattle.std.proofs.Common.{ap, subst, ◌∙◌, map, Err, List}
+use Rattle.partial_path.specs.declared.bounds.Bounds.{Bounds}
+use Rattle.version_tree.specs.Graphs.{graph_rows}
+use Rattle.whole_search.specs.declared.found.Hit.{Hit}
+use Rattle.nav_answers.specs.Asking.{IsCrowdedAmong}
+use Rattle.nav_answers.specs.Replies.{row_of}
+use Rattle.nav_answers.specs.Sources.{graphs_seen}
+use Rattle.nav_answers.proofs.Called.{among_leads, crowded_tells, links_are, none_leads, rows_tell, usual_is}
+use Rattle.nav_answers.proofs.calling.callers_among.Goals as goal
+
+pub callers_by-requires-clause-links : goal.callers_by-requires-clause-links
+callers_by-requires-clause-links g c =
+    links_are c.usual.result (graphs_seen c.args.view.now) c.args.node c.hit_of.result c.args.leading.now c.in-Ok.links
+    (usual_is c.usual.result c.usual.ensures.edges c.usual.ensures.depth) c.hit_of.ensures c.in-Ok.ensures.found
+
+pub returns-in_ok-rows_told-in-Ok : goal.returns-in_ok-rows_told-in-Ok
+returns-in_ok-rows_told-in-Ok g c _ =
+    rows_tell c.args.view.now c.args.node c.in_ok-hits-in-Ok.hits.items c.in_ok-rows_told-in-Ok.field-0
+    (none_leads (graphs_seen c.args.view.now) c.args.node c.args.leading.now c.requires.leading c.in-Ok.links
+    (links_are c.usual.result (graphs_seen c.args.view.now) c.args.node c.hit_of.result c.args.leading.now c.in-Ok.links
+    (usual_is c.usual.result c.usual.ensures.edges c.usual.ensures.depth) c.hit_of.ensures c.in-Ok.ensures.found))
+    c.in_ok-hits-in-Ok.ensures
+    (c.in_ok-rows_told-in-Ok.ensures ∙ ap (λ (hits : List Hit). map (row_of (graph_rows c.args.view.now)) hits) c.deref.ensures.value)
+
+pub returns-in-Err-Crowded : goal.returns-in-Err-Crowded
+returns-in-Err-Crowded g c _ =
+    crowded_tells c.args.view.now c.args.node
+    (among_leads (graphs_seen c.args.view.now) c.args.node c.args.leading.now c.requires.leading
+    (subst (λ (b : Bounds). IsCrowdedAmong b (graphs_seen c.args.view.now) c.args.leading.now) (usual_is c.usual.result c.usual.ensures.edges c.usual.ensures.depth)
+    (c.in-Err-Crowded.ensures.crowded (ap (λ x. Err x) c.in-Err-Crowded.field-0-is))))
