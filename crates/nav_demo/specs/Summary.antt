@@ -10,7 +10,7 @@ use Rattle.nav_io.specs.Faults.{counted}
 use Rattle.nav_io.specs.Write.{HoldsPrefix}
 use Rattle.nav_proto.specs.declared.request.Request.{Request}
 use Rattle.nav_proto.specs.declared.reply.Reply.{Reply}
-use Rattle.nav_proto.specs.declared.reply.Reply.TheVariants.{Version, Done, Rows, Plain, BadRequest, Stale, Twice, AbsentFile, AbsentGrant, TooManyFiles, TooHeavy, BadFile}
+use Rattle.nav_proto.specs.declared.reply.Reply.TheVariants.{Version, Done, Rows, Callers, Plain, BadRequest, Stale, Twice, AbsentFile, AbsentGrant, TooManyFiles, TooHeavy, BadFile}
 use Rattle.nav_proto.specs.declared.reply.PlainError.{PlainError}
 use Rattle.nav_proto.specs.declared.reply.PlainError.TheVariants.{BadJson, NoUser, Forbidden, Spent, NoFile, NoReference, NoDefinition, Crowded}
 use Rattle.nav_session.specs.Sessions.{Session, opened, IsAnswered}
@@ -36,6 +36,7 @@ abbrev pub is_crowded : Reply → Bool
 is_crowded (Version n) = false
 is_crowded Done = false
 is_crowded (Rows answer) = false
+is_crowded (Callers rows) = false
 is_crowded (Plain error) = is_crowded_error error
 is_crowded (BadRequest field) = false
 is_crowded (Stale head) = false
@@ -51,6 +52,7 @@ abbrev pub is_limited : Reply → Bool
 is_limited (Version n) = false
 is_limited Done = false
 is_limited (Rows answer) = answer.limit
+is_limited (Callers rows) = false
 is_limited (Plain error) = false
 is_limited (BadRequest field) = false
 is_limited (Stale head) = false
@@ -66,6 +68,7 @@ abbrev pub rows_of : Reply → List Row
 rows_of (Version n) = []
 rows_of Done = []
 rows_of (Rows answer) = answer.rows
+rows_of (Callers rows) = rows
 rows_of (Plain error) = []
 rows_of (BadRequest field) = []
 rows_of (Stale head) = []

@@ -55,6 +55,7 @@ fn rows_of(reply: &Reply) -> &[Row]
 {
     match reply {
         Reply::Rows(answer) => answer.rows.items(),
+        Reply::Callers(rows) => rows.items(),
         _ => &[],
     }
 }

@@ -11,7 +11,8 @@ use std::sync::ledger::Ledger;
 use std::thread::Threads;
 use version_board::Commits;
 
-/// Serves the door's next connection as a session of the seat, and gives the session's status. `Failed` where the door
+/// Serves the door's next connection as a session of the seat, and gives the session's status. The
+/// pair goes back however the session ended, since that closes the connection. `Failed` where the door
 /// failed in place of a connection.
 pub(crate) fn serve_next<R: Threads + Sync, B: Commits<R>, D: Door, G: Gate + Sync, L: Ledger>(
     rt: &R,

@@ -11,17 +11,17 @@ use std::sync::ledger::Ledger;
 use std::thread::Threads;
 use version_board::Commits;
 
-/// All connections were served that were asked for.
 pub(crate) const ALL_SERVED: u8 = 0;
 
-/// Memory was refused.
+/// Memory was refused. It is the status of a session for that, which a loop passes on.
 pub(crate) const NO_MEMORY: u8 = 5;
 
 /// A door failed where it was asked for a connection.
 pub const ACCEPT_FAILED: u8 = 8;
 
-/// Serves so many connections of a door, one after the other, each as a session of the seat, on one desk. Each pair goes
-/// back to the door when its session ended, however it did. The status:
+/// Serves so many connections of a door, one after the other, each as a session of the seat. All are
+/// on one desk, so that a document that one of them committed is kept for the next. Each pair goes back
+/// to the door when its session ended, however it did. The status:
 ///
 /// - 0: so many connections were served. A session that ends with 3, 4, 6 or 7 ends alone.
 /// - 5: a session ended for want of memory; no further connection is asked for.

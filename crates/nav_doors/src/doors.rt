@@ -1,4 +1,4 @@
-//! The loops of all doors, each on a thread of its own.
+//! The loops of all doors, each on a thread of its own, so that a slow client holds up its own door alone.
 ghost use Rattle.std.specs.Prelude.{◌≡◌, ◌==◌, ◌<◌, ◌⊎◌, ℕ, None, length, vec_len, slice_index_or, IfSome};
 ghost use Rattle.std.specs.List.{list_any};
 ghost use Rattle.nav_doors.specs.Connections.{outside, ServesDoor};
@@ -21,7 +21,7 @@ use std::thread;
 use std::thread::Threads;
 use version_board::Commits;
 
-/// Serves the door of a place.
+/// The status stays with the place, since a thread hands nothing back.
 fn serve_place<R: Threads + Sync, B: Commits<R> + Drop, D: Door + Drop>(
     rt: &R,
     alloc: Global,
@@ -42,6 +42,7 @@ fn serve_place<R: Threads + Sync, B: Commits<R> + Drop, D: Door + Drop>(
     );
 }
 
+/// Steps are counted on a ledger for this door alone, whose name the caller picks; nobody reads them.
 fn serve_counted<R: Threads + Sync, B: Commits<R>, D: Door, L: Ledger>(
     rt: &R,
     alloc: Global,
@@ -72,7 +73,7 @@ fn serve_counted<R: Threads + Sync, B: Commits<R>, D: Door, L: Ledger>(
     )
 }
 
-/// Serves the doors of all places, each on a thread of its own where one can be made.
+/// Each door is served on a thread of its own where one can be made, and else by this one.
 fn serve_places<R: Threads + Sync, B: Commits<R> + Send + Drop, D: Door + Send + Drop>(
     rt: &R,
     alloc: Global,
@@ -100,7 +101,9 @@ where
 
 /// The status of all doors: 5 where memory was refused to one, else 8 where one failed, else 0.
 fn status_of<D: Drop, B: Drop>(places: &[Place<D, B>]) -> u8
-    ensures { result ≡ worst (list_any (λ place. place.status == 5) places.now) (list_any (λ place. place.status == 8) places.now) }
+    ensures { result ≡ worst
+        (list_any (λ place. place.status == 5) places.now)
+        (list_any (λ place. place.status == 8) places.now) }
 {
     if has_status(places, NO_MEMORY) {
         return NO_MEMORY;
@@ -111,15 +114,14 @@ fn status_of<D: Drop, B: Drop>(places: &[Place<D, B>]) -> u8
     ALL_SERVED
 }
 
-/// Whether a place has the status.
 fn has_status<D: Drop, B: Drop>(places: &[Place<D, B>], status: u8) -> bool
     ensures { result ≡ list_any (λ place. place.status == status) places.now }
 {
     places.iter().any(|place| place.status == status)
 }
 
-/// Serves each door for the seat that stands where it does. `None` where memory was refused before any began; then all
-/// stay as they are.
+/// Serves each door for the seat that stands where it does. `None`, and not 5, where memory was refused
+/// before any began: then all stay as they are.
 fn serve_all<R: Threads + Sync, B: Commits<R> + Send + Drop, D: Door + Send + Drop>(
     rt: &R,
     alloc: Global,
@@ -133,7 +135,8 @@ where
     requires { vec_len seats.old ≡ vec_len doors.old }
     ensures all { IfSome result (λ status. ServesDoors
         (outside D.gave D.got_back D.faults D.S.left D.S.faults D.K.held D.K.faults)
-        B.seat B.log connections doors.old.items doors.new.items seats.old.items seats.new.items status) }
+        B.seat B.log connections
+        doors.old.items doors.new.items seats.old.items seats.new.items status) }
     ensures same_doors { result ≡ None → doors.new.items ≡ doors.old.items }
     ensures same_seats { result ≡ None → seats.new.items ≡ seats.old.items }
 {

@@ -37,7 +37,8 @@ where
     requires some { 1 ≤ doors }
     requires few { doors ≤ max_seats }
     ensures served { ServesHouse
-        (outside H.D.gave H.D.got_back H.D.faults H.D.S.left H.D.S.faults H.D.K.held H.D.K.faults) doors connections
+        (outside H.D.gave H.D.got_back H.D.faults H.D.S.left H.D.S.faults H.D.K.held H.D.K.faults)
+        doors connections
         (house_with (H.gave house.old) (H.got_back house.old) (H.faults house.old))
         (house_with (H.gave house.new) (H.got_back house.new) (H.faults house.new)) result }
 {
@@ -62,7 +63,8 @@ where
     requires board { board ≡ J.board }
     requires all { board.seats ≡ doors }
     ensures served { ServesHouse
-        (outside H.D.gave H.D.got_back H.D.faults H.D.S.left H.D.S.faults H.D.K.held H.D.K.faults) doors connections
+        (outside H.D.gave H.D.got_back H.D.faults H.D.S.left H.D.S.faults H.D.K.held H.D.K.faults)
+        doors connections
         (house_with (H.gave house.old) (H.got_back house.old) (H.faults house.old))
         (house_with (H.gave house.new) (H.got_back house.new) (H.faults house.new)) result }
 {
@@ -86,7 +88,8 @@ where
     requires board { board ≡ J.board }
     requires all { board.seats ≡ doors }
     ensures served { ServesHouse
-        (outside H.D.gave H.D.got_back H.D.faults H.D.S.left H.D.S.faults H.D.K.held H.D.K.faults) doors connections
+        (outside H.D.gave H.D.got_back H.D.faults H.D.S.left H.D.S.faults H.D.K.held H.D.K.faults)
+        doors connections
         (house_with (H.gave house.old) (H.got_back house.old) (H.faults house.old))
         (house_with (H.gave house.new) (H.got_back house.new) (H.faults house.new)) result }
 {
@@ -98,7 +101,7 @@ where
     status
 }
 
-/// Asks the house for a door for each of the seats, and serves them.
+/// Asks the house for a door for each of the seats. They go back to it whatever came of them.
 fn serve_seats<'a, J: Naming + Send + Sync, R: Threads + Wait + Sync, H: House>(
     rt: &'a R,
     alloc: Global,
@@ -115,7 +118,8 @@ where
     requires seats { AreNewcomers J.board.seats seats.old.items }
     requires all { J.board.seats ≡ doors }
     ensures served { ServesHouse
-        (outside H.D.gave H.D.got_back H.D.faults H.D.S.left H.D.S.faults H.D.K.held H.D.K.faults) doors connections
+        (outside H.D.gave H.D.got_back H.D.faults H.D.S.left H.D.S.faults H.D.K.held H.D.K.faults)
+        doors connections
         (house_with (H.gave house.old) (H.got_back house.old) (H.faults house.old))
         (house_with (H.gave house.new) (H.got_back house.new) (H.faults house.new)) result }
 {
@@ -130,7 +134,7 @@ where
     }
 }
 
-/// Serves the doors, each for the seat that stands where it does.
+/// New seats stand in the order of their names, as `serve_doors` asks of them.
 fn serve_opened<'a, J: Naming + Send + Sync, R: Threads + Wait + Sync, D: Door + Send + Drop>(
     rt: &'a R,
     alloc: Global,

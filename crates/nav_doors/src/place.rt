@@ -1,4 +1,4 @@
-/// A door with the seat that its sessions have, and the status with which its loop ended.
+/// What one thread works on: a door, the seat that its sessions have, and the status of its loop.
 #[derive(Drop)]
 pub struct Place<D: Drop, B: Drop> {
     pub(crate) door: D,

@@ -1,4 +1,4 @@
-//! Doors and seats brought together, place by place, and taken apart again.
+//! Doors and seats brought together, place by place, since a thread is lent one value; and taken apart again.
 ghost use Rattle.std.specs.Prelude.{◌≡◌, ◌≤◌, [], length, vec_len, vec_capacity, IfOk, OnOk, OnErr};
 ghost use Rattle.nav_doors.specs.Inside.{doors_of, seats_of};
 
@@ -6,7 +6,8 @@ use crate::door::ALL_SERVED;
 use crate::place::Place;
 use std::alloc::{AllocError, Global};
 
-/// A place for each door and the seat that stands where it does. The one error is want of memory; then all stay.
+/// A place for each door and the seat that stands where it does. Room is taken for all before any is
+/// moved, so that all stay where memory is refused, which is the one error.
 pub(crate) fn places_of<D: Drop, B: Drop>(
     alloc: Global,
     doors: &mut Vec<D>,
@@ -34,7 +35,7 @@ pub(crate) fn places_of<D: Drop, B: Drop>(
     Ok(places)
 }
 
-/// Puts the doors and the seats of the places back.
+/// Puts the doors and the seats back into the room that they left, so that no memory is wanted.
 pub(crate) fn take_apart<D: Drop, B: Drop>(
     places: Vec<Place<D, B>>,
     doors: &mut Vec<D>,

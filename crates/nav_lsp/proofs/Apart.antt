@@ -1,11 +1,11 @@
 -- No two files that a user sees of a version have the same path.
-use Rattle.std.proofs.Common.{◌≡◌, ◌≢◌, ◌∙◌, ℕ, List, [], ◌∷◌, sym, ap, subst, take}
+use Rattle.std.proofs.Common.{◌≡◌, ◌≢◌, ℕ, List, [], ◌∷◌, sym, subst, take}
 use Rattle.std.specs.List.{AllByRecursion, flat_map}
-use Rattle.std.specs.declared.cmp.Ordering.TheVariants.{Less, Equal}
+use Rattle.std.specs.declared.cmp.Ordering.TheVariants.{Less}
 use Rattle.version_tree.specs.declared.edit.Edit.{Edit}
 use Rattle.version_tree.specs.declared.edit.Edit.TheVariants.{Put, Remove, Grant, Revoke, Deny, Undeny}
 use Rattle.version_tree.specs.declared.entry.Entry.{Entry}
-use Rattle.version_tree.specs.Contents.{Content, FileRow, IsInOrder, covered, edited, edited_all, granted_rows, no_content, path_cmp, replay, rowed}
+use Rattle.version_tree.specs.Contents.{Content, FileRow, IsInOrder, edited, edited_all, granted_rows, no_content, path_cmp, replay, rowed}
 use Rattle.version_tree.specs.Graphs.{GraphRow, graph_rows}
 use Rattle.version_tree.proofs.Order.{tied}
 use Rattle.version_tree.proofs.Parts.{filter-in-order, with-in-order}

@@ -1,6 +1,6 @@
 -- Over logs of its own entries alone an editor's session has one reply to each message: two such sessions see as much of
 -- their logs, pin as much of them, and what they see is alike.
-use Rattle.std.proofs.Common.{◌≡◌, ◌∙◌, ℕ, ◌≤◌, Bool, if◌then◌else◌, List, [], ◌∷◌, ◌++◌, length, take, Option, None, Some, refl, sym, ap, subst, arith}
+use Rattle.std.proofs.Common.{◌≡◌, ◌∙◌, ℕ, ◌≤◌, Bool, if◌then◌else◌, List, [], ◌∷◌, ◌++◌, take, Option, None, Some, refl, sym, ap, subst, arith}
 use Rattle.std.specs.Prelude.{MatchOption}
 use Rattle.std.specs.Option.{option_map_or}
 use Rattle.version_tree.specs.declared.entry.Entry.{Entry}
@@ -10,10 +10,10 @@ use Rattle.nav_proto.specs.declared.request.FileEdit.{FileEdit}
 use Rattle.nav_proto.specs.declared.request.FileEdit.TheVariants.{Put, Remove}
 use Rattle.nav_proto.specs.declared.request.Request.TheVariants.{Commit}
 use Rattle.nav_proto.specs.declared.reply.Reply.{Reply as Answer}
-use Rattle.nav_session.specs.Sessions.{Asker, Session, asked_by, IsAnswered}
+use Rattle.nav_session.specs.Sessions.{Asker, Session, asked_by}
 use Rattle.nav_session.specs.Desks.{is_accepted}
-use Rattle.nav_session.proofs.OneScript.{Alike, IsSame as StandAlike, StaySame as StayAlike, answered_same, same_opened, sees_no_more}
-use Rattle.nav_session.proofs.Plain.{alike_views, plain_log}
+use Rattle.nav_session.proofs.OneScript.{Alike, answered_same, same_opened, sees_no_more}
+use Rattle.nav_session.proofs.Plain.{alike_views}
 use Rattle.lsp_wire.specs.declared.message.Id.{Id}
 use Rattle.lsp_wire.specs.declared.message.Asks.{Asks}
 use Rattle.lsp_wire.specs.declared.message.Asks.TheVariants.{Initialize, Initialized, Shutdown, Exit, DidOpen, DidChange, DidClose, Definition, References, Unknown, WrongParams}
@@ -26,16 +26,16 @@ use Rattle.lsp_wire.specs.declared.reply.Refusal.{Refusal}
 use Rattle.lsp_wire.specs.declared.reply.Refusal.TheVariants.{ParseError, InvalidRequest}
 use Rattle.lsp_wire.specs.declared.reply.Reply.{Reply}
 use Rattle.lsp_wire.specs.Messages.{body_from}
-use Rattle.lsp_texts.specs.Texts.{Texts, with_text}
+use Rattle.lsp_texts.specs.Texts.{with_text}
 use Rattle.lsp_answers.specs.Documents.{path_under}
 use Rattle.lsp_answers.specs.Queries.{IsPlaced, TellsDefinitions, TellsReferences}
 use Rattle.lsp_answers.proofs.OneOutcome.{one_outcome}
 use Rattle.nav_lsp.specs.declared.phase.Phase.{Phase}
 use Rattle.nav_lsp.specs.declared.phase.Phase.TheVariants.{Before, Open, Shut}
 use Rattle.nav_lsp.specs.Editing.{Editing, begun, files_of, is_shut, opened, operator, shut}
-use Rattle.nav_lsp.specs.Replies.{Commits, IfInside, IsCarriedOut, IsChanged, IsClosed, IsMessage, IsNoted, IsNotified, IsPut, IsQueried, IsReplied, IsReplyTo, IsRequested, RepliesWith, refusal_of, refused, replied}
-use Rattle.nav_lsp.specs.Transcripts.{AreReplies, IsTold, IsTranscript}
-use Rattle.nav_lsp.specs.Laws.{AreFirstTold, MessagesHaveOneScript}
+use Rattle.nav_lsp.specs.Replies.{Commits, IsCarriedOut, IsChanged, IsClosed, IsMessage, IsNoted, IsNotified, IsPut, IsQueried, IsReplied, IsRequested, RepliesWith, refusal_of, refused, replied}
+use Rattle.nav_lsp.specs.Transcripts.{AreReplies, IsTold}
+use Rattle.nav_lsp.specs.Laws.{MessagesHaveOneScript}
 use Rattle.nav_lsp.proofs.Apart.{files_apart}
 
 -- two sessions that stand alike

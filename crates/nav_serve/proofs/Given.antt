@@ -1,5 +1,5 @@
 -- What a command that was done on a board of its own wrote, against its one output.
-use Rattle.std.proofs.Common.{◌≡◌, ◌∙◌, ◌||◌, ◌==◌, ◌⊎◌, inl, inr, ℕ, Bool, true, false, List, [], ◌++◌, append-nil, Option, Some, None, IfSome, refl, sym, ap, subst}
+use Rattle.std.proofs.Common.{◌≡◌, ◌∙◌, ◌||◌, ◌==◌, ◌⊎◌, inl, inr, ℕ, Bool, true, false, List, [], ◌++◌, append-nil, Option, Some, None, IfSome, refl, sym, ap, subst, true≢false}
 use Rattle.std.specs.Io.KnownBytes.{append_known}
 use Rattle.std.proofs.lemmas.Bool.{eqb-true}
 use Rattle.std.proofs.lemmas.List.{append_assoc}
@@ -28,10 +28,11 @@ use Rattle.nav_serve.specs.declared.words.Command.{Command}
 use Rattle.nav_serve.specs.declared.words.Command.TheVariants.{Once, Upgrade, Run, Lsp, Demo, Serve}
 use Rattle.nav_serve.specs.declared.tasks.Task.{Task}
 use Rattle.nav_serve.specs.declared.tasks.Task.TheVariants as task
-use Rattle.nav_serve.specs.Outside.{Outside, seen}
-use Rattle.nav_serve.specs.Commands.{Does, DoesTask, parts_of, parts_used}
+use Rattle.nav_serve.specs.Outside.{Outside, scene, seen}
+use Rattle.nav_serve.specs.Performed.{DoesTask}
 use Rattle.nav_serve.specs.Taken.{IsBeginning, IsOutput}
-use Rattle.nav_serve.specs.Outputs.{BeginsOutput, Gives, IsDemonstration, IsOutputOf, gives_all, input_of}
+use Rattle.nav_serve.specs.Outputs.{IsDemonstration}
+use Rattle.nav_serve.specs.Headline.{BeginsOutput, Gives, Keeps, KeepsAlone, input_of, promise, used_by}
 use Rattle.nav_serve.proofs.CallerLemmas.{append_known-nil}
 use Rattle.nav_serve.proofs.OneOutput.{one_demo, one_task}
 
@@ -69,7 +70,7 @@ gives_run law log left left' held held' f k f' k' status all_own s = record {
   written = s.written;
   holds = s.holds;
   whole = λ all. if_both (λ input. s.answered ≡ to_answer max_lines (lines input)) (λ input. status ≡ status_at (ending max_lines (lines input)))
-      (λ input. IsOutputOf Run input s.written status) left
+      (λ input. (promise Run).output input s.written status) left
       (λ input is ends. (
         record {
           log = log;
@@ -108,7 +109,7 @@ gives_lsp law log left left' held held' f k f' k' status all_own editor =
       written = s.written;
       holds = s.holds;
       whole = λ all. if_both (λ input. s.answered ≡ messages_of max_messages input) (λ input. status ≡ status_of s.shut (ending_of max_messages input))
-          (λ input. IsOutputOf Lsp input s.written status) left
+          (λ input. (promise Lsp).output input s.written status) left
           (λ input is ends. (
             s.shut,
             record {
@@ -201,10 +202,10 @@ gives_demo law log files start left left' held held' f k f' k' status all_own h 
 
 -- ---- every command
 
-pub gives : {D S K : Type 0} (o : Doors D S K) → FirstLinesHaveOneScript → MessagesHaveOneScript → TreesHaveOneSummary
+gives : {D S K : Type 0} (o : Doors D S K) → FirstLinesHaveOneScript → MessagesHaveOneScript → TreesHaveOneSummary
     → (command : Command) (log : List Entry) (left left' held held' : Option (List ℕ)) (f k f' k' : ℕ) (house house' : House D) (status : ℕ)
-    → own 0 log ≡ log → Does o command 0 [] log (seen left f held k) (seen left' f' held' k') house house' status
-    → ((parts_of command).sink ≡ false → held' ≡ held) → Gives command (seen left f held k) (seen left' f' held' k') status
+    → own 0 log ≡ log → (promise command).does o (scene (seen left f held k) house 0 []) (scene (seen left' f' held' k') house' 0 log) status
+    → ((promise command).uses.sink ≡ false → held' ≡ held) → Gives command (seen left f held k) (seen left' f' held' k') status
 gives o law1 law2 law3 Once log left left' held held' f k f' k' house house' status all_own does stays =
     let g = gives_task task.Once (seen left f held k) (seen left' f' held' k') status does in
     record { written = g.written; holds = g.holds; whole = g.whole; begins = g.begins }
@@ -220,32 +221,38 @@ gives o law1 law2 law3 (Demo files start) log left left' held held' f k f' k' ho
 gives o law1 law2 law3 (Serve port doors connections) log left left' held held' f k f' k' house house' status all_own does stays = record {
   written = [];
   holds = stays refl ∙ append_known-nil held;
-  whole = λ all. absurd (cc all);
+  whole = λ all. absurd (true≢false (sym all));
   begins = λ output s none. absurd none;
 }
 
 -- the same where there is a command
 gives_some : {D S K : Type 0} (o : Doors D S K) → FirstLinesHaveOneScript → MessagesHaveOneScript → TreesHaveOneSummary
     → (command : Option Command) (log : List Entry) (left left' held held' : Option (List ℕ)) (f k f' k' : ℕ) (house house' : House D) (status : ℕ)
-    → own 0 log ≡ log → IfSome command (λ one. Does o one 0 [] log (seen left f held k) (seen left' f' held' k') house house' status)
-    → ((parts_used command).sink ≡ false → held' ≡ held) → IfSome command (λ one. Gives one (seen left f held k) (seen left' f' held' k') status)
+    → own 0 log ≡ log → IfSome command (λ one. (promise one).does o (scene (seen left f held k) house 0 []) (scene (seen left' f' held' k') house' 0 log) status)
+    → ((used_by command).sink ≡ false → held' ≡ held) → IfSome command (λ one. Gives one (seen left f held k) (seen left' f' held' k') status)
 gives_some o law1 law2 law3 None log left left' held held' f k f' k' house house' status all_own does stays = tt
 gives_some o law1 law2 law3 (Some one) log left left' held held' f k f' k' house house' status all_own does stays =
     gives o law1 law2 law3 one log left left' held held' f k f' k' house house' status all_own does stays
 
--- the same of the command that the words are, on a board that was made
-pub gives_alone : {D S K : Type 0} (o : Doors D S K) → FirstLinesHaveOneScript → MessagesHaveOneScript → TreesHaveOneSummary
+-- what is kept of the command that the words are, on a board that was made
+pub keeps_alone : {D S K : Type 0} (o : Doors D S K) → FirstLinesHaveOneScript → MessagesHaveOneScript → TreesHaveOneSummary
     → (found command : Option Command) (begin log : List Entry) (left left' held held' : Option (List ℕ)) (f k f' k' : ℕ) (house house' : House D) (status : ℕ)
     → found ≡ command → begin ≡ [] → own 0 log ≡ log
-    → IfSome found (λ one. Does o one 0 begin log (seen left f held k) (seen left' f' held' k') house house' status)
-    → ((parts_used found).sink ≡ false → held' ≡ held) → IfSome command (λ one. Gives one (seen left f held k) (seen left' f' held' k') status)
-gives_alone o law1 law2 law3 found command begin log left left' held held' f k f' k' house house' status is empty all_own does stays =
-    subst (λ (c : Option Command). IfSome c (λ one. Gives one (seen left f held k) (seen left' f' held' k') status)) is
-    (gives_some o law1 law2 law3 found log left left' held held' f k f' k' house house' status all_own
-    (subst (λ (es : List Entry). IfSome found (λ one. Does o one 0 es log (seen left f held k) (seen left' f' held' k') house house' status)) empty does) stays)
+    → Keeps o found (scene (seen left f held k) house 0 begin) (scene (seen left' f' held' k') house' 0 log) status
+    → ((used_by found).sink ≡ false → held' ≡ held)
+    → KeepsAlone o command (seen left f held k) (seen left' f' held' k') house house' status
+keeps_alone o law1 law2 law3 found command begin log left left' held held' f k f' k' house house' status is empty all_own keeps stays =
+    let kept = subst (λ (es : List Entry). Keeps o found (scene (seen left f held k) house 0 es) (scene (seen left' f' held' k') house' 0 log) status) empty keeps in
+    let one : KeepsAlone o found (seen left f held k) (seen left' f' held' k') house house' status = record {
+      log = log;
+      all_own = all_own;
+      keeps = kept;
+      gives = gives_some o law1 law2 law3 found log left left' held held' f k f' k' house house' status all_own kept.does stays;
+    } in
+    subst (λ (c : Option Command). KeepsAlone o c (seen left f held k) (seen left' f' held' k') house house' status) is one
 
 -- a command that was refused memory before it began
-not_all : (command : Command) → gives_all command 5 ≡ false
+not_all : (command : Command) → (promise command).all 5 ≡ false
 not_all Once = refl
 not_all Upgrade = refl
 not_all Run = refl
@@ -262,7 +269,7 @@ at_five None left held f k = tt
 at_five (Some command) left held f k = record {
   written = [];
   holds = append_known-nil held;
-  whole = λ all. absurd (let none = not_all command in cc (all, none));
+  whole = λ all. absurd (true≢false (sym all ∙ not_all command));
   begins = nothing_begins command (input_of command left);
 }
 

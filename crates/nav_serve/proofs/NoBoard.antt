@@ -1,40 +1,54 @@
--- What is done where no board is made.
-use Rattle.std.proofs.Common.{◌≡◌, ◌∙◌, ℕ, Bool, true, not, List, [], Option, None, Some, Result, Ok, Err, String, is_some, refl, sym, ap, subst}
+-- What is kept where no board is made, and what words tell that can't be had.
+use Rattle.std.proofs.Common.{◌≡◌, ◌∙◌, ℕ, Bool, true, not, List, [], Option, None, Some, IsTrue, Result, Ok, Err, String, is_some, refl, sym, ap, subst, true≢false}
 use Rattle.std.specs.Global.{Global, Vec}
 use Rattle.nav_doors.specs.Connections.{Outside as Doors}
 use Rattle.nav_doors.specs.Houses.{House}
 use Rattle.nav_serve.specs.declared.words.Command.{Command}
 use Rattle.nav_serve.specs.Words.{command_in, command_of, texts}
 use Rattle.nav_serve.specs.Outside.{seen}
-use Rattle.nav_serve.proofs.CallerLemmas.{does_nothing}
-use Rattle.nav_serve.specs.Alone.{RunsAlone}
+use Rattle.nav_serve.specs.Headline.{KeepsAlone, refuses}
+use Rattle.nav_serve.proofs.CallerLemmas.{blames_none, keeps_refused}
+use Rattle.nav_serve.proofs.Given.{gives_nothing}
 
 -- what the test for a command tells
 pub none_of : (found command : Option Command) (test : Bool) → is_some found ≡ not test → test ≡ true → found ≡ command → command ≡ None
 none_of None command test told holds is = sym is
 none_of (Some one) command test told holds is = cc
 
--- the words are no command
-pub no_words : {D S K : Type 0} (o : Doors D S K) (command : Option Command) (left held : Option (List ℕ)) (source_faults sink_faults : ℕ) (house : House D) (status : ℕ)
-    → command ≡ None → RunsAlone o command (seen left source_faults held sink_faults) (seen left source_faults held sink_faults) house house status
-no_words o None left held source_faults sink_faults house status e = record { log = []; all_own = refl; does = tt }
-no_words o (Some command) left held source_faults sink_faults house status e = cc
+-- a status that refuses the words is none that blames the outside
+not_source : (status : ℕ) → IsTrue (refuses status) → status ≡ 3 → ⊥
+not_source status ends e = let three : IsTrue (refuses 3) = subst (λ (s : ℕ). IsTrue (refuses s)) e ends in true≢false (sym three)
 
-at_five : {D S K : Type 0} (o : Doors D S K) (command : Option Command) (left held : Option (List ℕ)) (source_faults sink_faults : ℕ) (house : House D)
-    → RunsAlone o command (seen left source_faults held sink_faults) (seen left source_faults held sink_faults) house house 5
-at_five o None left held source_faults sink_faults house = record { log = []; all_own = refl; does = tt }
-at_five o (Some command) left held source_faults sink_faults house = record {
+not_sink : (status : ℕ) → IsTrue (refuses status) → status ≡ 4 → ⊥
+not_sink status ends e = let four : IsTrue (refuses 4) = subst (λ (s : ℕ). IsTrue (refuses s)) e ends in true≢false (sym four)
+
+-- the words are no command
+pub no_words : {D S K : Type 0} (o : Doors D S K) (command : Option Command) (left held : Option (List ℕ)) (f k : ℕ) (house : House D) (status : ℕ)
+    → command ≡ None → IsTrue (refuses status)
+    → KeepsAlone o command (seen left f held k) (seen left f held k) house house status
+no_words o None left held f k house status e ends = record {
   log = [];
   all_own = refl;
-  does = does_nothing o command 0 [] left held source_faults sink_faults house;
+  keeps = record {
+    ends = ends;
+    causes = blames_none left held f k status (not_source status ends) (not_sink status ends);
+    complete = λ none. tt;
+    does = tt;
+    same_seat = refl;
+  };
+  gives = tt;
 }
+no_words o (Some command) left held f k house status e ends = cc
 
 -- memory for the words or the board was refused
-pub refused : {D S K : Type 0} (o : Doors D S K) (command : Option Command) (left held : Option (List ℕ)) (source_faults sink_faults : ℕ) (house : House D) (status : ℕ)
-    → status ≡ 5 → RunsAlone o command (seen left source_faults held sink_faults) (seen left source_faults held sink_faults) house house status
-refused o command left held source_faults sink_faults house status five =
-    subst (λ (s : ℕ). RunsAlone o command (seen left source_faults held sink_faults) (seen left source_faults held sink_faults) house house s) (sym five)
-    (at_five o command left held source_faults sink_faults house)
+pub refused : {D S K : Type 0} (o : Doors D S K) (command : Option Command) (left held : Option (List ℕ)) (f k : ℕ) (house : House D) (status : ℕ)
+    → status ≡ 5 → KeepsAlone o command (seen left f held k) (seen left f held k) house house status
+refused o command left held f k house status five = record {
+  log = [];
+  all_own = refl;
+  keeps = keeps_refused o command left held f k house 0 [] status five;
+  gives = gives_nothing command left held f k status five;
+}
 
 -- words that can't be had are no command
 pub none_in : {E : Type 0} (words : Result (Vec (String Global)) E) (error : E) → words ≡ Err error → command_in words ≡ None

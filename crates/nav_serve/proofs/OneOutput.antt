@@ -28,7 +28,8 @@ use Rattle.nav_serve.specs.declared.tasks.Task.TheVariants as task
 use Rattle.nav_serve.specs.Files.{graph_line}
 use Rattle.nav_serve.specs.Once.{AnswersFrom, AnswersNode, AnswersRest, GivesDefinitions, answer_of, node_line, once_path, usual}
 use Rattle.nav_serve.specs.Taken.{IsOutput}
-use Rattle.nav_serve.specs.Outputs.{CommandsHaveOneOutput, IsDemonstration, IsEditorScript, IsScript}
+use Rattle.nav_serve.specs.Outputs.{IsDemonstration, IsEditorScript, IsScript}
+use Rattle.nav_serve.specs.Laws.{CommandsHaveOneOutput}
 
 -- ---- `once`
 

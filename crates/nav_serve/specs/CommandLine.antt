@@ -22,7 +22,9 @@ abbrev pub demo_line : App
 demo_line = and_word (and_word (alone (codes "demo")) (codes "files")) (codes "start")
 
 abbrev pub serve_line : App
-serve_line = and_word (and_word (and_word (alone (codes "serve")) (codes "port")) (codes "doors")) (codes "connections")
+serve_line =
+    and_word (and_word (and_word (alone (codes "serve")) (codes "port")) (codes "doors"))
+    (codes "connections")
 
 -- the program with no command yet: its words begin with the command, one is wanted, and there are no flags
 abbrev pub program : App
@@ -43,7 +45,8 @@ and_command app sub = with_subcommand app sub.top
 abbrev pub command_line : App
 command_line =
     and_command (and_command (and_command (and_command (and_command (and_command program
-    (alone (codes "once"))) (alone (codes "upgrade"))) (alone (codes "run"))) (alone (codes "lsp"))) demo_line) serve_line
+    (alone (codes "once"))) (alone (codes "upgrade"))) (alone (codes "run")))
+    (alone (codes "lsp"))) demo_line) serve_line
 
 -- whether a word begins with a hyphen
 abbrev pub has_hyphen : Text → Bool
@@ -57,8 +60,11 @@ number_at id rows = option_and_then number_of (first_of id rows)
 -- the command that a subcommand and its matches are
 abbrev pub chosen : Text → List Row → Option Command
 chosen name rows =
-    if bytes_eq name (codes "demo") then demo_of (number_at (codes "files") rows) (number_at (codes "start") rows)
-    else if bytes_eq name (codes "serve") then serve_of (number_at (codes "port") rows) (number_at (codes "doors") rows) (number_at (codes "connections") rows)
+    if bytes_eq name (codes "demo")
+    then demo_of (number_at (codes "files") rows) (number_at (codes "start") rows)
+    else if bytes_eq name (codes "serve")
+    then serve_of (number_at (codes "port") rows) (number_at (codes "doors") rows)
+    (number_at (codes "connections") rows)
     else command_named name
 
 -- the same, where there is a subcommand

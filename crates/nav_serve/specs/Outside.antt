@@ -1,7 +1,12 @@
--- What is seen of the outside at one moment.
-use Rattle.std.specs.Prelude.{ℕ, List, Option}
+-- What is seen at one moment of all that a command may meet, and what failed from one moment to another.
+use Rattle.std.specs.Prelude.{◌≡◌, ℕ, ◌≤◌, List, Option}
+use Rattle.version_tree.specs.declared.entry.Entry.{Entry}
+use Rattle.nav_io.specs.Faults.{HasRisen}
+use Rattle.nav_doors.specs.Houses.{House}
+use Rattle.nav_serve.specs.Statuses as end
 
--- the bytes that the source has left and those that the sink holds, where they are told, and the faults of each
+-- of the source and the sink: the bytes that the source has left and those that the sink holds, where
+-- they are told, and the faults of each
 pub record Outside : Type 0 where
   pub left : Option (List ℕ)
   pub source_faults : ℕ
@@ -12,3 +17,26 @@ pub record Outside : Type 0 where
 abbrev pub seen : Option (List ℕ) → ℕ → Option (List ℕ) → ℕ → Outside
 seen left source_faults held sink_faults =
     record { left = left; source_faults = source_faults; held = held; sink_faults = sink_faults }
+
+-- of these, of the house, and of the board: the name of the seat, and the log that it has seen
+pub record Scene (D : Type 0) : Type 0 where
+  pub outside : Outside
+  pub house : House D
+  pub seat : ℕ
+  pub log : List Entry
+
+-- the scene with these
+abbrev pub scene : {D : Type 0} → Outside → House D → ℕ → List Entry → Scene D
+scene outside house seat log = record { outside = outside; house = house; seat = seat; log = log }
+
+-- a status that blames the source or the sink has its cause there, and no count of faults falls
+pub record HasCause (before after : Outside) (status : ℕ) : Type 0 where
+  pub source_failed : status ≡ end.source_failed → HasRisen before.source_faults after.source_faults
+  pub sink_failed : status ≡ end.sink_failed → HasRisen before.sink_faults after.sink_faults
+  pub source_count : before.source_faults ≤ after.source_faults
+  pub sink_count : before.sink_faults ≤ after.sink_faults
+
+-- neither count of faults rose
+pub record HasNoFault (before after : Outside) : Type 0 where
+  pub source : ¬ HasRisen before.source_faults after.source_faults
+  pub sink : ¬ HasRisen before.sink_faults after.sink_faults

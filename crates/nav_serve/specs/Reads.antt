@@ -30,4 +30,5 @@ ReadsAs old new left left' view defined (Ok x) =
     (next : Option (List ℕ)) × ReadsLine old new left left' next × (defined next ≡ Ok (view x))
 ReadsAs old new left left' view defined (Err (refused.Reply reply)) =
     (next : Option (List ℕ)) × ReadsLine old new left left' next × (defined next ≡ Err reply)
-ReadsAs old new left left' view defined (Err (refused.Halt reason)) = StopsAt old new left left' reason
+ReadsAs old new left left' view defined (Err (refused.Halt reason)) =
+    StopsAt old new left left' reason

@@ -19,7 +19,8 @@ StopsReading task left left' SinkFailed = ⊥
 
 -- the input of `once` was read and has this reply, or its reading stopped
 abbrev pub AnswersOnce : Option (List ℕ) → Option (List ℕ) → Result Reply Halt → Type 0
-AnswersOnce left left' (Ok reply) = IfSome left (λ input. IsOnceReply input reply × ¬ HasLongLine Once input)
+AnswersOnce left left' (Ok reply) =
+    IfSome left (λ input. IsOnceReply input reply × ¬ HasLongLine Once input)
 AnswersOnce left left' (Err reason) = StopsReading Once left left' reason
 
 -- the task's input was read and is answered by this text and a newline, or its reading stopped
@@ -34,14 +35,18 @@ pub record ServesAll (task : Task) (left held held' : Option (List ℕ)) : Type 
   pub not_long : IfSome left (λ input. ¬ HasLongLine task input)
 
 -- nothing was written, and the reading stopped for this reason
-pub record ServesNone (task : Task) (left left' held held' : Option (List ℕ)) (reason : Halt) : Type 0 where
+pub record ServesNone (task : Task) (left left' held held' : Option (List ℕ)) (reason : Halt)
+    : Type 0 where
   pub silent : held' ≡ held
   pub reading : StopsReading task left left' reason
 
 -- what the task did where it stopped for this reason
-abbrev pub StopsServing : Task → Option (List ℕ) → Option (List ℕ) → Option (List ℕ) → Option (List ℕ) → Halt → Type 0
-StopsServing task left left' held held' SourceFailed = ServesNone task left left' held held' SourceFailed
-StopsServing task left left' held held' LongLine = ServesNone task left left' held held' LongLine
+abbrev pub StopsServing : Task → Option (List ℕ) → Option (List ℕ) → Option (List ℕ)
+    → Option (List ℕ) → Halt → Type 0
+StopsServing task left left' held held' SourceFailed =
+    ServesNone task left left' held held' SourceFailed
+StopsServing task left left' held held' LongLine =
+    ServesNone task left left' held held' LongLine
 StopsServing task left left' held held' SinkFailed = WritesBeginning task left held held'
 StopsServing task left left' held held' NoMemory = WritesBeginning task left held held'
 

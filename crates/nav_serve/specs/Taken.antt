@@ -15,7 +15,8 @@ use Rattle.nav_serve.specs.Upgrade.{upgrade_text}
 
 -- the output that answers the input of the task
 abbrev pub IsOutput : Task → List ℕ → List ℕ → Type 0
-IsOutput Once input output = (reply : Reply) × IsOnceReply input reply × (output ≡ with_newline (reply_text reply))
+IsOutput Once input output =
+    (reply : Reply) × IsOnceReply input reply × (output ≡ with_newline (reply_text reply))
 IsOutput Upgrade input output = output ≡ with_newline (upgrade_text input)
 
 -- nothing, or the beginning of an output that answers the input
@@ -26,12 +27,14 @@ IsBeginning task input written =
 -- the whole output was written, where the source told its input
 abbrev pub WritesOutput : Task → Option (List ℕ) → Option (List ℕ) → Option (List ℕ) → Type 0
 WritesOutput task left held held' =
-    (output : List ℕ) × (held' ≡ append_known held output) × IfSome left (λ input. IsOutput task input output)
+    (output : List ℕ) × (held' ≡ append_known held output)
+    × IfSome left (λ input. IsOutput task input output)
 
 -- nothing or the beginning of an output was written
 abbrev pub WritesBeginning : Task → Option (List ℕ) → Option (List ℕ) → Option (List ℕ) → Type 0
 WritesBeginning task left held held' =
-    (written : List ℕ) × (held' ≡ append_known held written) × IfSome left (λ input. IsBeginning task input written)
+    (written : List ℕ) × (held' ≡ append_known held written)
+    × IfSome left (λ input. IsBeginning task input written)
 
 -- the line is a graph file that `once` accepts
 abbrev pub IsAccepted : Option (List ℕ) → Type 0

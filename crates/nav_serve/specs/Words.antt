@@ -20,7 +20,8 @@ command_named word =
 -- the number that a decimal digit spells behind n; None where the byte is no digit, or where it is above 2^32 - 1
 abbrev pub with_digit : ℕ → ℕ → Option ℕ
 with_digit n byte =
-    if nat_le 48 byte && nat_le byte 57 && nat_le (n * 10 + (byte - 48)) 4294967295 then Some (n * 10 + (byte - 48)) else None
+    if nat_le 48 byte && nat_le byte 57 && nat_le (n * 10 + (byte - 48)) 4294967295
+    then Some (n * 10 + (byte - 48)) else None
 
 -- the number that decimal digits spell behind n
 abbrev pub spelled : ℕ → List ℕ → Option ℕ
@@ -41,7 +42,8 @@ number_of (byte ∷ bytes) = if byte == 48 then zero_alone bytes else spelled 0 
 abbrev pub demo_of : Option ℕ → Option ℕ → Option Command
 demo_of None start = None
 demo_of (Some files) None = None
-demo_of (Some files) (Some start) = if nat_le 1 files && nat_le files 2048 then Some (Demo files start) else None
+demo_of (Some files) (Some start) =
+    if nat_le 1 files && nat_le files 2048 then Some (Demo files start) else None
 
 -- serving at this port, 1 to 65,535, by so many doors, 1 to 32, each for so many connections, 1 to 1,000
 abbrev pub serve_of : Option ℕ → Option ℕ → Option ℕ → Option Command
@@ -49,7 +51,8 @@ serve_of None doors connections = None
 serve_of (Some port) None connections = None
 serve_of (Some port) (Some doors) None = None
 serve_of (Some port) (Some doors) (Some connections) =
-    if nat_le 1 port && nat_le port 65535 && nat_le 1 doors && nat_le doors 32 && nat_le 1 connections && nat_le connections 1000
+    if nat_le 1 port && nat_le port 65535 && nat_le 1 doors && nat_le doors 32
+    && nat_le 1 connections && nat_le connections 1000
     then Some (Serve port doors connections) else None
 
 -- the command that the words are: `demo` with two numbers, `serve` with three, and else one word alone
@@ -57,9 +60,11 @@ abbrev pub command_of : List (List ℕ) → Option Command
 command_of [] = None
 command_of (word ∷ []) = command_named word
 command_of (word ∷ files ∷ []) = None
-command_of (word ∷ files ∷ start ∷ []) = if bytes_eq word (codes "demo") then demo_of (number_of files) (number_of start) else None
+command_of (word ∷ files ∷ start ∷ []) =
+    if bytes_eq word (codes "demo") then demo_of (number_of files) (number_of start) else None
 command_of (word ∷ port ∷ doors ∷ connections ∷ []) =
-    if bytes_eq word (codes "serve") then serve_of (number_of port) (number_of doors) (number_of connections) else None
+    if bytes_eq word (codes "serve")
+    then serve_of (number_of port) (number_of doors) (number_of connections) else None
 command_of (word ∷ port ∷ doors ∷ connections ∷ more ∷ words) = None
 
 -- the texts of the words

@@ -1,12 +1,10 @@
 //! The words run on a board of their own, which no other session sees.
-ghost use Rattle.std.specs.Prelude.{◌≡◌, ◌<◌, ℕ, None, false, IfSome, IsTrue};
+ghost use Rattle.std.specs.Prelude.{◌≡◌, ◌<◌, false, IsTrue};
 ghost use Rattle.nav_doors.specs.Connections.{outside};
 ghost use Rattle.nav_doors.specs.Houses.{house_with};
 ghost use Rattle.nav_serve.specs.Words.{command_in};
 ghost use Rattle.nav_serve.specs.Outside.{seen};
-ghost use Rattle.nav_serve.specs.Commands.{HasCause, HasNoFault, Ends, is_refusal, may_end, parts_used};
-ghost use Rattle.nav_serve.specs.Alone.{RunsAlone};
-ghost use Rattle.nav_serve.specs.Outputs.{Gives};
+ghost use Rattle.nav_serve.specs.Headline.{KeepsAlone, refuses, used_by};
 
 use crate::running::run;
 use crate::words::command_of;
@@ -23,10 +21,11 @@ use std::sync::ledger::{Blank, Ledger};
 use std::thread::Threads;
 use version_board::PlainBoard;
 
-/// Does what the words say on a board that has no version yet and no other seat, and gives the status: that of `run`,
-/// or 5 where memory for the words or the board was refused. Words that can't be had are no command: the status is 5
-/// where memory for them was refused, and else 2. Where the words are no command, no board is made. Steps are counted on a
-/// ledger that is opened from `blank`, and nobody reads them.
+/// Does what the words say on a board that has no version yet and no other seat, and gives the
+/// status: that of `run`, or 5 where memory for the words or the board was refused. Words that can't
+/// be had are no command: the status is 5 where memory for them was refused, and else 2. Where the
+/// words are no command, no board is made. Steps are counted on a ledger that is opened from `blank`,
+/// and nobody reads them.
 pub fn run_alone<R: Threads + Wait + Sync, S: Source, K: Sink, H: House, L: Ledger>(
     rt: &R,
     alloc: Global,
@@ -45,36 +44,22 @@ where
     requires parts { blank.parts ≡ L.parts }
     requires some { 0 < blank.parts }
 
-    // Which status comes with which words.
-    ensures bad_words { result ≡ 2 → command_in words.now ≡ None }
-    ensures no_command { command_in words.now ≡ None → IsTrue (is_refusal result) }
-    ensures statuses { IsTrue (may_end (command_in words.now) result) }
-
-    // What the command does, and why it did no more.
-    ensures does { RunsAlone
-        (outside H.D.gave H.D.got_back H.D.faults H.D.S.left H.D.S.faults H.D.K.held H.D.K.faults) (command_in words.now)
+    // What its user relies on, command by command: specs/Headline.antt.
+    ensures keeps { KeepsAlone
+        (outside H.D.gave H.D.got_back H.D.faults H.D.S.left H.D.S.faults H.D.K.held H.D.K.faults)
+        (command_in words.now)
         (seen (S.left source.old) (S.faults source.old) (K.held sink.old) (K.faults sink.old))
         (seen (S.left source.new) (S.faults source.new) (K.held sink.new) (K.faults sink.new))
         (house_with (H.gave house.old) (H.got_back house.old) (H.faults house.old))
         (house_with (H.gave house.new) (H.got_back house.new) (H.faults house.new)) result }
-    // What was written is the one output for the input, or its beginning.
-    ensures gives { IfSome (command_in words.now) (λ command. Gives command
-        (seen (S.left source.old) (S.faults source.old) (K.held sink.old) (K.faults sink.old))
-        (seen (S.left source.new) (S.faults source.new) (K.held sink.new) (K.faults sink.new)) result) }
-    ensures causes { HasCause
-        (seen (S.left source.old) (S.faults source.old) (K.held sink.old) (K.faults sink.old))
-        (seen (S.left source.new) (S.faults source.new) (K.held sink.new) (K.faults sink.new)) result }
-    ensures complete { HasNoFault
-        (seen (S.left source.old) (S.faults source.old) (K.held sink.old) (K.faults sink.old))
-        (seen (S.left source.new) (S.faults source.new) (K.held sink.new) (K.faults sink.new))
-        → IfSome (command_in words.now) (λ command. Ends command (S.left source.old) result) }
 
-    // What isn't used stays, and all of it where the words are no command.
-    ensures untouched { command_in words.now ≡ None → (source.new ≡ source.old) × (sink.new ≡ sink.old)
-        × (house.new ≡ house.old) }
-    ensures unused_source { (parts_used (command_in words.now)).source ≡ false → source.new ≡ source.old }
-    ensures unused_sink { (parts_used (command_in words.now)).sink ≡ false → sink.new ≡ sink.old }
-    ensures unused_house { (parts_used (command_in words.now)).house ≡ false → house.new ≡ house.old }
+    // What isn't used stays: all of it, where the words are no command.
+    ensures unused_source { (used_by (command_in words.now)).source ≡ false
+        → source.new ≡ source.old }
+    ensures unused_sink { (used_by (command_in words.now)).sink ≡ false
+        → sink.new ≡ sink.old }
+    ensures unused_house { (used_by (command_in words.now)).house ≡ false
+        → house.new ≡ house.old }
 {
     let mut steps = Steps::<L>::new(blank);
     let words = match words {
@@ -100,9 +85,9 @@ where
     status
 }
 
-/// The status where the words can't be had for this reason.
+/// Words that can't be had for another reason than memory aren't UTF-8, and so no command.
 fn status_without_words(kind: ErrorKind) -> u8
-    ensures { IsTrue (is_refusal result) }
+    ensures { IsTrue (refuses result) }
 {
     match kind {
         ErrorKind::OutOfMemory => Halt::NoMemory.status(),

@@ -22,7 +22,7 @@ impl Refused {
     ghost use Rattle.std.specs.Prelude.{◌≡◌};
     ghost use Rattle.nav_serve.specs.Refused.{reply_of};
 
-    /// The reply, or the stop as an error.
+    /// The reply, since a refusal is an answer too; a stop stays an error.
     pub fn reply(self) -> Result<Reply, Halt>
         ensures { result ≡ reply_of self }
     {
@@ -45,7 +45,8 @@ impl From<AllocError> for Refused {
     }
 }
 
-/// The graph of the line, read as a document of that path, or the reply that refuses it.
+/// The graph of the line, or the reply that refuses it. The line is read as a document of that path, whose
+/// ending says that it is a graph file.
 pub fn graph_line(alloc: Global, path: &str, line: Option<&[u8]>) -> Result<FileGraph, Refused>
     ensures { AnswersAs parts result (graph_line path.now (option_copied line.entry)) }
 {
@@ -59,7 +60,6 @@ pub fn graph_line(alloc: Global, path: &str, line: Option<&[u8]>) -> Result<File
     }
 }
 
-/// Refuses the file of that path for its fault.
 fn refuse(alloc: Global, path: &str, fault: FileError) -> Result<FileGraph, Refused>
     ensures { AnswersAs parts result (Err (BadFile path.now fault)) }
 {

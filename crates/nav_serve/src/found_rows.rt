@@ -13,7 +13,8 @@ use std::alloc::{AllocError, Global};
 use version_tree::{Answer, PathText, Row, Rows};
 use whole_search::{Found, SearchFault, is_reference, search};
 
-/// The reply on the node of the graph, which is no reference, crowded, or has these definitions.
+/// The reply on the node of the graph, the first of these: it is no reference, it is crowded, its definitions.
+/// They are those within the usual bounds, since `once` states none.
 pub fn node_reply(alloc: Global, graph: FileGraph, n: u32) -> Result<Reply, Halt>
     ensures reply { IfOk result (AnswersFrom graph (start (graph ∷ []) (node_at 0 n))) }
     ensures err { IfErr result (λ reason. reason ≡ halt.NoMemory) }
@@ -29,7 +30,7 @@ pub fn node_reply(alloc: Global, graph: FileGraph, n: u32) -> Result<Reply, Halt
     }
 }
 
-/// What was found, as rows of the graph's file.
+/// What was found, as rows of the graph's file, in the order of their nodes' positions.
 fn answer_of(alloc: Global, graph: &FileGraph, found: Found) -> Result<Answer, AllocError>
     ensures { IfOk result (λ answer. answer ≡ answer_of graph.now found.limit found.rows) }
 {
@@ -47,7 +48,6 @@ fn answer_of(alloc: Global, graph: &FileGraph, found: Found) -> Result<Answer, A
     })
 }
 
-/// The span of the node, if it has one.
 fn span_at(graph: &FileGraph, n: u32) -> Option<Span>
     ensures { result ≡ span_at graph.now n }
 {

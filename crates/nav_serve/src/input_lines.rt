@@ -14,16 +14,18 @@ use nav_io::{LineReader, Source};
 use nav_session::Halt;
 use std::alloc::Global;
 
-/// Reads a line that has to be a graph file of that path.
+/// Reads a line, of at most 8,388,608 bytes, that has to be a graph file of that path.
 pub fn read_graph_line<S: Source>(
     alloc: Global,
     reader: &mut LineReader,
     source: &mut S,
     path: &str,
 ) -> Result<FileGraph, Refused>
-    ensures reads { ReadsAs reader.old reader.new (S.left source.old) (S.left source.new) parts (graph_line path.now) result }
+    ensures reads { ReadsAs reader.old reader.new (S.left source.old) (S.left source.new)
+        parts (graph_line path.now) result }
     ensures count { S.faults source.old ≤ S.faults source.new }
-    ensures cause { result ≡ Err (refused.Halt halt.SourceFailed) → HasRisen (S.faults source.old) (S.faults source.new) }
+    ensures cause { result ≡ Err (refused.Halt halt.SourceFailed)
+        → HasRisen (S.faults source.old) (S.faults source.new) }
 {
     match reader.next_line(source) {
         Ok(line) => graph_line(alloc, path, line),
@@ -31,15 +33,17 @@ pub fn read_graph_line<S: Source>(
     }
 }
 
-/// Reads a line that has to ask for a node.
+/// Reads a line, of at most as many bytes, that has to ask for a node.
 pub fn read_node_line<S: Source>(
     alloc: Global,
     reader: &mut LineReader,
     source: &mut S,
 ) -> Result<u32, Refused>
-    ensures reads { ReadsAs reader.old reader.new (S.left source.old) (S.left source.new) (λ n. n) node_line result }
+    ensures reads { ReadsAs reader.old reader.new (S.left source.old) (S.left source.new)
+        (λ n. n) node_line result }
     ensures count { S.faults source.old ≤ S.faults source.new }
-    ensures cause { result ≡ Err (refused.Halt halt.SourceFailed) → HasRisen (S.faults source.old) (S.faults source.new) }
+    ensures cause { result ≡ Err (refused.Halt halt.SourceFailed)
+        → HasRisen (S.faults source.old) (S.faults source.new) }
 {
     match reader.next_line(source) {
         Ok(line) => node_line(alloc, line),

@@ -16,7 +16,7 @@ mod upgrade_input;
 mod words;
 
 pub use alone::run_alone;
-pub use laws::{commands_have_one_output, once_and_upgrade_are_tasks};
+pub use laws::{commands_have_one_output, once_and_upgrade_are_tasks, two_tells_of_no_command};
 pub use running::run;
 pub use tasks::{Task, perform};
 pub use words::{Command, command_of};

@@ -9,7 +9,7 @@ use nav_proto::{PlainError, ProtoFault, Reply, ReplyText, read_node};
 use nav_session::Halt;
 use std::alloc::Global;
 
-/// The position of the node that the line asks for, or the reply that refuses it.
+/// The position of the node that the line asks for, from 0, or the reply that refuses it.
 pub fn node_line(alloc: Global, line: Option<&[u8]>) -> Result<u32, Refused>
     ensures { AnswersAs (λ n. n) result (node_line (option_copied line.entry)) }
 {
@@ -22,7 +22,7 @@ pub fn node_line(alloc: Global, line: Option<&[u8]>) -> Result<u32, Refused>
     }
 }
 
-/// What stands in place of a node for that fault of its line.
+/// Want of memory is no fault of the line: it has no reply, and stops the task.
 fn refused(fault: ProtoFault) -> Refused
     ensures { result ≡ refusal_of fault }
 {

@@ -12,30 +12,33 @@ use nav_proto::Reply;
 use nav_session::{Halt, reply_bytes};
 use std::alloc::Global;
 
-/// The path that `once` gives its graph.
+/// The path that `once` gives its graph. By its ending the first line has to be a graph file.
 pub const ONCE_PATH: &str = "once.sg.json";
 
 /// Reads a graph line and a node line; the text that answers them, without its newline.
 ///
-/// It is the first of these: no first line, `bad_request` with field `graph`; a line that is no graph
-/// file, `bad_file` with its first fault; no second line or one of another form, `bad_request` with field
-/// `node`, and `bad_json` where it isn't JSON; a node that is no reference, `no_reference`; `crowded`;
-/// else the definitions of the reference. The second line is read only where the graph is accepted, and
-/// nothing behind it.
+/// It is the first of these: no first line, `bad_request` with field `graph`; a line that is no
+/// graph file, `bad_file` with its first fault; no second line or one of another form, `bad_request`
+/// with field `node`, and `bad_json` where it isn't JSON; a node that is no reference,
+/// `no_reference`; `crowded`; else the definitions of the reference. The second line is read only
+/// where the graph is accepted, and nothing behind it.
 pub fn once_text<S: Source>(alloc: Global, source: &mut S) -> Result<Vec<u8>, Halt>
     ensures answers { AnswersText task.Once (S.left source.old) (S.left source.new) result }
     ensures count { S.faults source.old ≤ S.faults source.new }
-    ensures cause { result ≡ Err halt.SourceFailed → HasRisen (S.faults source.old) (S.faults source.new) }
+    ensures cause { result ≡ Err halt.SourceFailed
+        → HasRisen (S.faults source.old) (S.faults source.new) }
 {
     let reply = reply(alloc, source)?;
     reply_bytes(alloc, &reply)
 }
 
-/// Reads the input; the one reply to it.
+/// Reads the input; the one reply to it. One reader has both lines, since with the first one it may have taken
+/// bytes of the second.
 fn reply<S: Source>(alloc: Global, source: &mut S) -> Result<Reply, Halt>
     ensures answers { AnswersOnce (S.left source.old) (S.left source.new) result }
     ensures count { S.faults source.old ≤ S.faults source.new }
-    ensures cause { result ≡ Err halt.SourceFailed → HasRisen (S.faults source.old) (S.faults source.new) }
+    ensures cause { result ≡ Err halt.SourceFailed
+        → HasRisen (S.faults source.old) (S.faults source.new) }
 {
     let mut reader = LineReader::new(alloc)?;
     let graph = match read_graph_line(alloc, &mut reader, source, ONCE_PATH) {

@@ -24,18 +24,20 @@ pub fn command_line<'a>(alloc: Global) -> Result<Command<'a>, AllocError>
         .subcommand(serve_line(alloc)?)
 }
 
-/// `demo` and its two words.
+/// `demo` and its two words, both required, so that fewer are no command.
 fn demo_line<'a>(alloc: Global) -> Result<Command<'a>, AllocError>
-    ensures { IfOk result (λ line. (app_of line ≡ demo_line) × ((fields_of line).has_globals ≡ false)) }
+    ensures { IfOk result (λ line. (app_of line ≡ demo_line)
+        × ((fields_of line).has_globals ≡ false)) }
 {
     Command::new(alloc, "demo")
         .arg(Arg::new(alloc, "files").required(true))?
         .arg(Arg::new(alloc, "start").required(true))
 }
 
-/// `serve` and its three words.
+/// `serve` and its three words, required as well.
 fn serve_line<'a>(alloc: Global) -> Result<Command<'a>, AllocError>
-    ensures { IfOk result (λ line. (app_of line ≡ serve_line) × ((fields_of line).has_globals ≡ false)) }
+    ensures { IfOk result (λ line. (app_of line ≡ serve_line)
+        × ((fields_of line).has_globals ≡ false)) }
 {
     Command::new(alloc, "serve")
         .arg(Arg::new(alloc, "port").required(true))?

@@ -1,10 +1,10 @@
 //! The whole program, but for making the outside.
-ghost use Rattle.std.specs.Prelude.{◌≡◌, ℕ, None, false, IfSome, IsTrue};
+ghost use Rattle.std.specs.Prelude.{◌≡◌, false};
 ghost use Rattle.nav_doors.specs.Connections.{outside};
 ghost use Rattle.nav_doors.specs.Houses.{house_with};
 ghost use Rattle.nav_serve.specs.Words.{command_of, texts};
-ghost use Rattle.nav_serve.specs.Outside.{seen};
-ghost use Rattle.nav_serve.specs.Commands.{Does, HasCause, HasNoFault, Ends, is_refusal, may_end, parts_used};
+ghost use Rattle.nav_serve.specs.Outside.{seen, scene};
+ghost use Rattle.nav_serve.specs.Headline.{Keeps, used_by};
 
 use crate::session::{run_demo, run_editor, run_session};
 use crate::tasks::{Task, perform};
@@ -19,14 +19,15 @@ use std::sync::ledger::Ledger;
 use std::thread::Threads;
 use version_board::Commits;
 
-/// Does what the words after the program's name say, and gives the status with which the program ends.
+/// Does what the words after the program's name say, and gives the status with which the program
+/// ends.
 ///
 /// The words are exactly one command's name: `once` or `upgrade`, which use the source and the sink
-/// alone, or `run` or `lsp`, which serve a session on the board and count steps besides; or they are `demo` and
-/// two numbers, which uses the sink, the board and the steps, or `serve` and three numbers, which serves the
-/// doors of the house on a board of its own. With any others the status is 2, and nothing is read or
-/// written; or 5 where memory is refused before the words are read, whatever they are. The other statuses are those
-/// of the commands. It may wait, for `serve` does: what each other
+/// alone, or `run` or `lsp`, which serve a session on the board and count steps besides; or they are
+/// `demo` and two numbers, which uses the sink, the board and the steps, or `serve` and three numbers,
+/// which serves the doors of the house on a board of its own. With any others the status is 2, and
+/// nothing is read or written; or 5 where memory is refused before the words are read, whatever they
+/// are. The other statuses are those of the commands. It may wait, for `serve` does: what each other
 /// command does is a function without that leave, and ends.
 pub fn run<R: Threads + Wait + Sync, S: Source, K: Sink, H: House, B: Commits<R>, L: Ledger>(
     rt: &R,
@@ -42,36 +43,30 @@ where
     H::D: Send + Drop,
     <H::D as Door>::S: Send,
     <H::D as Door>::K: Send,
-    // Which status comes with which words.
-    ensures bad_words { result ≡ 2 → command_of (texts words.now) ≡ None }
-    ensures no_command { command_of (texts words.now) ≡ None → IsTrue (is_refusal result) }
-    ensures statuses { IsTrue (may_end (command_of (texts words.now)) result) }
-
-    // What the command does, and why it did no more.
-    ensures does { IfSome (command_of (texts words.now)) (λ command. Does
-        (outside H.D.gave H.D.got_back H.D.faults H.D.S.left H.D.S.faults H.D.K.held H.D.K.faults) command
-        (B.seat board.old) (B.log board.old) (B.log board.new)
+    // What its user relies on, command by command: specs/Headline.antt.
+    ensures keeps { let before = scene
         (seen (S.left source.old) (S.faults source.old) (K.held sink.old) (K.faults sink.old))
-        (seen (S.left source.new) (S.faults source.new) (K.held sink.new) (K.faults sink.new))
         (house_with (H.gave house.old) (H.got_back house.old) (H.faults house.old))
-        (house_with (H.gave house.new) (H.got_back house.new) (H.faults house.new)) result) }
-    ensures seat { B.seat board.new ≡ B.seat board.old }
-    ensures causes { HasCause
-        (seen (S.left source.old) (S.faults source.old) (K.held sink.old) (K.faults sink.old))
-        (seen (S.left source.new) (S.faults source.new) (K.held sink.new) (K.faults sink.new)) result }
-    ensures complete { HasNoFault
-        (seen (S.left source.old) (S.faults source.old) (K.held sink.old) (K.faults sink.old))
+        (B.seat board.old) (B.log board.old) in
+        let after = scene
         (seen (S.left source.new) (S.faults source.new) (K.held sink.new) (K.faults sink.new))
-        → IfSome (command_of (texts words.now)) (λ command. Ends command (S.left source.old) result) }
+        (house_with (H.gave house.new) (H.got_back house.new) (H.faults house.new))
+        (B.seat board.new) (B.log board.new) in
+        Keeps
+        (outside H.D.gave H.D.got_back H.D.faults H.D.S.left H.D.S.faults H.D.K.held H.D.K.faults)
+        (command_of (texts words.now)) before after result }
 
-    // What isn't used stays, and all of it where the words are no command.
-    ensures untouched { command_of (texts words.now) ≡ None → (source.new ≡ source.old) × (sink.new ≡ sink.old)
-        × (house.new ≡ house.old) × (board.new ≡ board.old) × (steps.new ≡ steps.old) }
-    ensures unused_source { (parts_used (command_of (texts words.now))).source ≡ false → source.new ≡ source.old }
-    ensures unused_sink { (parts_used (command_of (texts words.now))).sink ≡ false → sink.new ≡ sink.old }
-    ensures unused_house { (parts_used (command_of (texts words.now))).house ≡ false → house.new ≡ house.old }
-    ensures unused_board { (parts_used (command_of (texts words.now))).board ≡ false → board.new ≡ board.old }
-    ensures unused_steps { (parts_used (command_of (texts words.now))).steps ≡ false → steps.new ≡ steps.old }
+    // What isn't used stays: all of it, where the words are no command.
+    ensures unused_source { (used_by (command_of (texts words.now))).source ≡ false
+        → source.new ≡ source.old }
+    ensures unused_sink { (used_by (command_of (texts words.now))).sink ≡ false
+        → sink.new ≡ sink.old }
+    ensures unused_house { (used_by (command_of (texts words.now))).house ≡ false
+        → house.new ≡ house.old }
+    ensures unused_board { (used_by (command_of (texts words.now))).board ≡ false
+        → board.new ≡ board.old }
+    ensures unused_steps { (used_by (command_of (texts words.now))).steps ≡ false
+        → steps.new ≡ steps.old }
 {
     let Ok(command) = command_of(alloc, words) else {
         return Halt::NoMemory.status();

@@ -4,8 +4,7 @@ ghost use Rattle.nav_session.specs.Serving.{Serves, ends_session, ends_unhindere
 ghost use Rattle.lsp_messages.specs.Ends.{ends_session as ends_editor, ends_unhindered as ends_editor_unhindered};
 ghost use Rattle.nav_lsp.specs.Serving.{ServesEditor};
 ghost use Rattle.nav_demo.specs.Summary.{Demonstrates, ends_demo, ends_demo_unhindered};
-ghost use Rattle.nav_serve.specs.Outside.{seen};
-ghost use Rattle.nav_serve.specs.Commands.{HasCause, HasNoFault};
+ghost use Rattle.nav_serve.specs.Outside.{HasCause, HasNoFault, seen};
 
 use graph_nodes::Steps;
 use nav_demo::demo;
@@ -17,8 +16,8 @@ use std::sync::ledger::Ledger;
 use std::thread::Threads;
 use version_board::Commits;
 
-/// Serves one session on this board, with a store of its own that is empty at first, and gives its status: one of
-/// those of `serve_session`.
+/// Serves one session on this board, with a store of its own that is empty at first, and gives
+/// its status: one of those of `serve_session`.
 pub fn run_session<R: Threads + Sync, S: Source, K: Sink, B: Commits<R>, L: Ledger>(
     rt: &R,
     alloc: Global,
@@ -33,7 +32,8 @@ pub fn run_session<R: Threads + Sync, S: Source, K: Sink, B: Commits<R>, L: Ledg
     ensures statuses { IsTrue (ends_session result) }
     ensures causes { HasCause
         (seen (S.left source.old) (S.faults source.old) (K.held sink.old) (K.faults sink.old))
-        (seen (S.left source.new) (S.faults source.new) (K.held sink.new) (K.faults sink.new)) result }
+        (seen (S.left source.new) (S.faults source.new) (K.held sink.new) (K.faults sink.new))
+        result }
     ensures complete { HasNoFault
         (seen (S.left source.old) (S.faults source.old) (K.held sink.old) (K.faults sink.old))
         (seen (S.left source.new) (S.faults source.new) (K.held sink.new) (K.faults sink.new))
@@ -43,7 +43,8 @@ pub fn run_session<R: Threads + Sync, S: Source, K: Sink, B: Commits<R>, L: Ledg
     serve_session(rt, alloc, &mut desk, board, &Unguarded, source, sink, steps)
 }
 
-/// Serves one editor on this board by the Language Server Protocol, and gives its status: one of those of `serve_lsp`.
+/// Serves one editor on this board by the Language Server Protocol, and gives its status: one of
+/// those of `serve_lsp`.
 pub fn run_editor<R: Threads + Sync, S: Source, K: Sink, B: Commits<R>, L: Ledger>(
     rt: &R,
     alloc: Global,
@@ -58,7 +59,8 @@ pub fn run_editor<R: Threads + Sync, S: Source, K: Sink, B: Commits<R>, L: Ledge
     ensures statuses { IsTrue (ends_editor result) }
     ensures causes { HasCause
         (seen (S.left source.old) (S.faults source.old) (K.held sink.old) (K.faults sink.old))
-        (seen (S.left source.new) (S.faults source.new) (K.held sink.new) (K.faults sink.new)) result }
+        (seen (S.left source.new) (S.faults source.new) (K.held sink.new) (K.faults sink.new))
+        result }
     ensures complete { HasNoFault
         (seen (S.left source.old) (S.faults source.old) (K.held sink.old) (K.faults sink.old))
         (seen (S.left source.new) (S.faults source.new) (K.held sink.new) (K.faults sink.new))
@@ -67,8 +69,8 @@ pub fn run_editor<R: Threads + Sync, S: Source, K: Sink, B: Commits<R>, L: Ledge
     serve_lsp(rt, alloc, board, &Unguarded, source, sink, steps)
 }
 
-/// Commits and queries the made tree of so many files that is drawn from this start, on this board, writes the summary,
-/// and gives the status: one of those of `demo`.
+/// Commits and queries the made tree of so many files that is drawn from this start, on this
+/// board, writes the summary, and gives the status: one of those of `demo`.
 pub fn run_demo<R: Threads + Sync, K: Sink, B: Commits<R>, L: Ledger>(
     rt: &R,
     alloc: Global,

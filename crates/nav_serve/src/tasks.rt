@@ -2,8 +2,8 @@
 ghost use Rattle.std.specs.Prelude.{◌≡◌, ◌≤◌, ℕ, IsTrue, Err};
 ghost use Rattle.nav_io.specs.Faults.{HasRisen};
 ghost use Rattle.nav_session.specs.declared.halt.Halt.TheVariants as halt;
-ghost use Rattle.nav_serve.specs.Outside.{seen};
-ghost use Rattle.nav_serve.specs.Commands.{DoesTask, HasCause, HasNoFault, EndsTask, task_ends};
+ghost use Rattle.nav_serve.specs.Outside.{HasCause, HasNoFault, seen};
+ghost use Rattle.nav_serve.specs.Performed.{DoesTask, EndsTask, task_ends};
 ghost use Rattle.nav_serve.specs.Serving.{AnswersText, Serves};
 
 use crate::once_input::once_text;
@@ -23,16 +23,18 @@ pub enum Task {
 
 /// Reads the task's input, writes the one line that answers it, and gives the status.
 ///
-/// Status 0: the line was written. 3: the source failed, and nothing was written. 4: the sink failed.
-/// 5: memory was refused. 6: a line that has to be read is longer than a line may be, and nothing was
-/// written.
+/// Status 0: the line was written. 3: the source failed, and nothing was written. 4: the sink
+/// failed. 5: memory was refused. 6: a line that has to be read has more than 8,388,608 bytes, and
+/// nothing was written.
 pub fn perform<S: Source, K: Sink>(task: Task, alloc: Global, source: &mut S, sink: &mut K) -> u8
     ensures does { DoesTask task
         (seen (S.left source.old) (S.faults source.old) (K.held sink.old) (K.faults sink.old))
-        (seen (S.left source.new) (S.faults source.new) (K.held sink.new) (K.faults sink.new)) result }
+        (seen (S.left source.new) (S.faults source.new) (K.held sink.new) (K.faults sink.new))
+        result }
     ensures causes { HasCause
         (seen (S.left source.old) (S.faults source.old) (K.held sink.old) (K.faults sink.old))
-        (seen (S.left source.new) (S.faults source.new) (K.held sink.new) (K.faults sink.new)) result }
+        (seen (S.left source.new) (S.faults source.new) (K.held sink.new) (K.faults sink.new))
+        result }
     ensures complete { HasNoFault
         (seen (S.left source.old) (S.faults source.old) (K.held sink.old) (K.faults sink.old))
         (seen (S.left source.new) (S.faults source.new) (K.held sink.new) (K.faults sink.new))
@@ -45,16 +47,19 @@ pub fn perform<S: Source, K: Sink>(task: Task, alloc: Global, source: &mut S, si
     }
 }
 
-// Reads the input and writes the line that answers it.
+// Apart from `perform`, so that `?` passes on whatever stops the task, and its status is told at one place.
 fn serve<S: Source, K: Sink>(
     task: Task,
     alloc: Global,
     source: &mut S,
     sink: &mut K,
 ) -> Result<(), Halt>
-    ensures served { Serves task (S.left source.old) (S.left source.new) (K.held sink.old) (K.held sink.new) result }
-    ensures source_failed { result ≡ Err halt.SourceFailed → HasRisen (S.faults source.old) (S.faults source.new) }
-    ensures sink_failed { result ≡ Err halt.SinkFailed → HasRisen (K.faults sink.old) (K.faults sink.new) }
+    ensures served { Serves task
+        (S.left source.old) (S.left source.new) (K.held sink.old) (K.held sink.new) result }
+    ensures source_failed { result ≡ Err halt.SourceFailed
+        → HasRisen (S.faults source.old) (S.faults source.new) }
+    ensures sink_failed { result ≡ Err halt.SinkFailed
+        → HasRisen (K.faults sink.old) (K.faults sink.new) }
     ensures source_count { S.faults source.old ≤ S.faults source.new }
     ensures sink_count { K.faults sink.old ≤ K.faults sink.new }
 {
@@ -62,11 +67,12 @@ fn serve<S: Source, K: Sink>(
     write_line(sink, text)
 }
 
-// Reads the input; the text that answers it, without its newline.
+// Reads the input; the text that answers it, without the newline, which `write_line` puts behind it.
 fn text<S: Source>(task: Task, alloc: Global, source: &mut S) -> Result<Vec<u8>, Halt>
     ensures answers { AnswersText task (S.left source.old) (S.left source.new) result }
     ensures count { S.faults source.old ≤ S.faults source.new }
-    ensures cause { result ≡ Err halt.SourceFailed → HasRisen (S.faults source.old) (S.faults source.new) }
+    ensures cause { result ≡ Err halt.SourceFailed
+        → HasRisen (S.faults source.old) (S.faults source.new) }
 {
     match task {
         Task::Once => once_text(alloc, source),

@@ -11,7 +11,7 @@ use nav_io::{LineReader, Source};
 use nav_session::{Halt, reply_bytes};
 use std::alloc::Global;
 
-/// The path that `upgrade` gives its graph.
+/// The path that `upgrade` gives its graph. By its ending the line has to be a graph file.
 pub const UPGRADE_PATH: &str = "upgrade.sg.json";
 
 /// Reads one line; the text that answers it, without its newline: its graph in format 2, or a reply.
@@ -21,7 +21,8 @@ pub const UPGRADE_PATH: &str = "upgrade.sg.json";
 pub fn upgrade_text<S: Source>(alloc: Global, source: &mut S) -> Result<Vec<u8>, Halt>
     ensures answers { AnswersText task.Upgrade (S.left source.old) (S.left source.new) result }
     ensures count { S.faults source.old ≤ S.faults source.new }
-    ensures cause { result ≡ Err halt.SourceFailed → HasRisen (S.faults source.old) (S.faults source.new) }
+    ensures cause { result ≡ Err halt.SourceFailed
+        → HasRisen (S.faults source.old) (S.faults source.new) }
 {
     let mut reader = LineReader::new(alloc)?;
     match read_graph_line(alloc, &mut reader, source, UPGRADE_PATH) {

@@ -26,7 +26,8 @@ pub enum Command {
         files: u32,
         start: u32,
     },
-    /// Serves clients at the port, 1 to 65,535, by so many doors, 1 to 32, each for so many connections, 1 to 1,000.
+    /// Serves clients at the port, 1 to 65,535, by so many doors, 1 to 32, each for so many
+    /// connections, 1 to 1,000.
     Serve {
         port: u16,
         doors: u32,
@@ -34,8 +35,9 @@ pub enum Command {
     },
 }
 
-/// The command that the words are, if they are one: exactly one word, a command's name, or `demo` and two numbers, or
-/// `serve` and three. A word that begins with a hyphen is part of no command. It fails where memory is refused.
+/// The command that the words are, if they are one: exactly one word, a command's name, or `demo`
+/// and two numbers, or `serve` and three. A word that begins with a hyphen is part of no command. It
+/// fails where memory is refused.
 pub fn command_of(alloc: Global, words: &[String]) -> Result<Option<Command>, AllocError>
     ensures { IfOk result (λ command. command ≡ command_of (texts words.now)) }
 {
@@ -48,7 +50,7 @@ pub fn command_of(alloc: Global, words: &[String]) -> Result<Option<Command>, Al
     }
 }
 
-/// No command, but where the words were refused for want of memory alone.
+/// No command, unless memory was refused: then nothing is known of the words.
 fn refused(kind: ErrorKind) -> Result<Option<Command>, AllocError>
     ensures { IfOk result (λ command. (command ≡ None) × (kind ≡ ErrorKind.OutOfMemory → ⊥)) }
 {
@@ -58,21 +60,19 @@ fn refused(kind: ErrorKind) -> Result<Option<Command>, AllocError>
     }
 }
 
-/// Whether any of the words begins with a hyphen.
+/// Asked before `clap` is, which takes a word that begins with a hyphen for an option.
 fn has_hyphens(words: &[String]) -> bool
     ensures { result ≡ list_any (λ word. has_hyphen (string_bytes word)) words.now }
 {
     words.iter().any(|word| has_hyphen(word.as_str()))
 }
 
-/// Whether the word begins with a hyphen.
 fn has_hyphen(word: &str) -> bool
     ensures { result ≡ has_hyphen word.now }
 {
     matches!(word.as_bytes(), [b'-', ..])
 }
 
-/// The command that the matches are.
 fn chosen_of(matches: &ArgMatches<'_>) -> Option<Command>
     ensures { result ≡ chosen_of (subcommand_rows_of matches.now) }
 {
@@ -80,7 +80,7 @@ fn chosen_of(matches: &ArgMatches<'_>) -> Option<Command>
     chosen(name, values)
 }
 
-/// The command that a subcommand of this name with these matches is.
+/// `demo` and `serve` have numbers behind them; each other command is a word alone.
 fn chosen(name: &str, values: &ArgMatches<'_>) -> Option<Command>
     ensures { result ≡ chosen name.now (rows_of (found_of values.now)) }
 {
@@ -97,14 +97,13 @@ fn chosen(name: &str, values: &ArgMatches<'_>) -> Option<Command>
     }
 }
 
-/// The number that stands at this place.
 fn number_at(values: &ArgMatches<'_>, id: &str) -> Option<u32>
     ensures { result ≡ number_at id.now (rows_of (found_of values.now)) }
 {
     number_of(values.get_str(id)?)
 }
 
-/// The demonstration of so many files from this start.
+/// So many files, 1 to 2,048, which is as many as a version holds.
 fn demo_of(files: Option<u32>, start: Option<u32>) -> Option<Command>
     ensures { result ≡ demo_of files start }
 {
@@ -117,7 +116,8 @@ fn demo_of(files: Option<u32>, start: Option<u32>) -> Option<Command>
     }
 }
 
-/// Serving at this port, by so many doors, for so many connections each.
+/// A port is 1 to 65,535; doors are 1 to 32, since each has a seat of its own and a board has no more; connections
+/// are 1 to 1,000.
 fn serve_of(port: Option<u32>, doors: Option<u32>, connections: Option<u32>) -> Option<Command>
     ensures { result ≡ serve_of port doors connections }
 {
@@ -139,7 +139,8 @@ fn serve_of(port: Option<u32>, doors: Option<u32>, connections: Option<u32>) -> 
     }
 }
 
-/// The number that the word is: decimal digits without a sign, and without a zero in front but `0` itself.
+/// The number that the word is: decimal digits without a sign, and without a zero in front but `0`
+/// itself, so that a number has one spelling.
 fn number_of(word: &str) -> Option<u32>
     ensures { result ≡ number_of word.now }
 {
@@ -157,7 +158,7 @@ fn number_of(word: &str) -> Option<u32>
     }
 }
 
-/// The number that the digits spell.
+/// The number that the digits spell, if it is at most 2^32 - 1.
 fn spelled(digits: &[u8]) -> Option<u32>
     ensures { result ≡ spelled 0 digits.now }
 {
@@ -168,7 +169,7 @@ fn spelled(digits: &[u8]) -> Option<u32>
     Some(n)
 }
 
-/// The number with one digit more.
+/// The number with one digit more. It is made in 64 bits, which hold ten times any number of 32 and a digit.
 fn with_digit(n: u32, byte: u8) -> Option<u32>
     ensures { result ≡ with_digit n byte }
 {
