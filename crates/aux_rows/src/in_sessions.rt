@@ -1,7 +1,10 @@
-//! That a session answers each reference and each definition of graphs as the search of the whole graph does.
+//! That a session answers each reference and each definition of graphs as the search of the whole graph does, in each
+//! order of their files.
 use crate::answers::searched;
+use crate::callers::without_flag;
 use crate::counts::Tally;
 use crate::graphs::{committing, reply};
+use crate::orders::{in_order, order_count};
 use crate::sessions::written;
 use aux_graph_text::{TextFault, files_of};
 use graph_nodes::FileGraph;
@@ -21,23 +24,21 @@ struct Asked {
 }
 
 impl Asked {
-    /// Adds a query for a node, and the reply that an answer stands for.
+    /// Adds a query for a node, and its reply.
     fn ask(
         &mut self,
         alloc: Global,
         word: &str,
         at: NodeAt,
-        answer: &str,
-    ) -> Result<(), TextFault> {
+        reply: &str,
+    ) -> Result<(), AllocError> {
         let (file, node) = (at.file, at.node);
         let line = format!(in alloc;
             "{{\"do\":\"{word}\",\"path\":\"f{file}.sg.json\",\"node\":{node}}}\n"
         )?;
         self.input.extend_from_slice(line.as_bytes())?;
-        self.replies
-            .push_str(reply(alloc, answer, false)?.as_str())?;
-        self.replies.push('\n')?;
-        Ok(())
+        self.replies.push_str(reply)?;
+        Ok(self.replies.push('\n')?)
     }
 }
 
@@ -78,30 +79,52 @@ fn referring(
 fn ask_references(alloc: Global, asked: &mut Asked) -> Result<(), TextFault> {
     for place in 0..asked.answers.len() {
         if let Some((at, answer)) = asked.answers.get(place) {
-            let (at, answer) = (*at, String::from_str(alloc, answer.as_str())?);
-            asked.ask(alloc, "define", at, answer.as_str())?;
+            let (at, reply) = (*at, reply(alloc, answer.as_str(), false)?);
+            asked.ask(alloc, "define", at, reply.as_str())?;
         }
     }
     Ok(())
 }
 
-/// Adds the queries for the definitions of the files.
+/// Adds the queries for the definitions of the files, whose references the search answers without crowding.
 fn ask_definitions(alloc: Global, files: &[FileGraph], asked: &mut Asked) -> Result<(), TextFault> {
     for (file, graph) in (0u32..).zip(files) {
         for node in 0..graph.node_count() {
             if graph.node(node).kind.is_definition() {
                 let at = NodeAt { file, node };
                 let answer = referring(alloc, &asked.answers, at)?;
-                asked.ask(alloc, "references", at, answer.as_str())?;
+                let reply = reply(alloc, answer.as_str(), false)?;
+                asked.ask(alloc, "references", at, reply.as_str())?;
+                asked.ask(
+                    alloc,
+                    "callers",
+                    at,
+                    without_flag(alloc, reply.as_str())?.as_str(),
+                )?;
             }
         }
     }
     Ok(())
 }
 
-/// Asks each reference and each definition of the graphs in a session, and compares the replies with what the search
-/// of the whole graph tells.
+/// Asks each reference and each definition of the graphs, a definition by `references` and by `callers`, in each order of
+/// the files.
 pub fn ask_all<R: Threads + Wait + Sync>(
+    rt: &R,
+    alloc: Global,
+    name: &str,
+    text: &str,
+    tally: &mut Tally,
+) -> Result<(), TextFault> {
+    for order in 0..order_count(text) {
+        let text = in_order(alloc, text, order)?;
+        ask_session(rt, alloc, name, text.as_str(), tally)?;
+    }
+    Ok(())
+}
+
+/// Asks each of them in a session, and compares the replies with what the search of the whole graph tells.
+fn ask_session<R: Threads + Wait + Sync>(
     rt: &R,
     alloc: Global,
     name: &str,

@@ -6,6 +6,8 @@
 
 mod answers;
 mod asks;
+mod backward;
+mod callers;
 mod counts;
 mod documents;
 mod graphs;

@@ -18,7 +18,7 @@ const BOUNDS: [Bounds; 3] = [
 ];
 
 /// The text of the files in another order, told by a number.
-fn in_order(alloc: Global, text: &str, order: usize) -> Result<String, AllocError> {
+pub fn in_order(alloc: Global, text: &str, order: usize) -> Result<String, AllocError> {
     let mut parts = Vec::new(alloc);
     for part in text.split(" & ") {
         parts.push(part)?;
@@ -40,7 +40,7 @@ fn in_order(alloc: Global, text: &str, order: usize) -> Result<String, AllocErro
 }
 
 /// How many orders the files of a text have, for at most four of them.
-fn order_count(text: &str) -> usize {
+pub fn order_count(text: &str) -> usize {
     match text.split(" & ").count() {
         1 => 1,
         2 => 2,

@@ -1,5 +1,7 @@
 //! The rows of a file.
 use crate::asks::{ask_line, request_line};
+use crate::backward::{back_line, found_backward};
+use crate::callers::callers_line;
 use crate::counts::Tally;
 use crate::documents::{document_line, put_line};
 use crate::graphs::{Stored, command_line, graph_line};
@@ -101,7 +103,10 @@ fn run_line<R: Threads + Wait + Sync>(
         "ask" => ask_line(rt, alloc, name, rest, tally),
         "request" => request_line(alloc, name, rest, tally),
         "alike" => alike(alloc, name, rest, tally),
+        "backward" => found_backward(alloc, name, rest, tally),
+        "back" => back_line(alloc, name, rest, tally),
         "asked" => ask_all(rt, alloc, name, rest, tally),
+        "callers\\" => callers_line(rt, alloc, name, rest, tally),
         "command" => command_line(alloc, name, rest, tally),
         _ => take_line(alloc, row, line),
     }
