@@ -39,7 +39,7 @@ PROGRAM = Path(__file__).parent.parent / "crates/navd/out/navd"
 ABOVE = 1.15
 SECONDS = 1_800
 # How often each step is done.
-CHANGES, DEFINES, AGAIN, EDITS = 32, 512, 4, 32
+CHANGES, DEFINES, AGAIN, CALLED, EDITS = 32, 512, 4, 22, 32
 
 Session = list[dict]
 
@@ -60,6 +60,13 @@ class Project(NamedTuple):
 
     def definition(self, number: int) -> dict:
         return self.asked(number, places.definitions(self.texts[self.path(number)])[-1])
+
+    def function(self, number: int) -> dict:
+        """A function of a module's own level, of module after module from the last one back, which fewer others use: so not
+        many ways lead to most of them."""
+        found = places.definitions(self.texts[self.path(-1 - number)])
+        own = [place for place in found if place.column == len("def ")]
+        return self.asked(-1 - number, (own or found)[-1])
 
     def asked(self, number: int, place: places.Place) -> dict:
         return {"path": self.path(number), "line": place.line, "column": place.column}
@@ -99,6 +106,14 @@ def referred(project: Project) -> Session:
 
 def referred_again(project: Project) -> Session:
     return referred(project) + [{"do": "references", **project.definition(number + 1)} for number in range(AGAIN)]
+
+
+def called(project: Project) -> Session:
+    return committed(project) + [{"do": "callers", **project.function(0)}]
+
+
+def called_again(project: Project) -> Session:
+    return called(project) + [{"do": "callers", **project.function(number + 1)} for number in range(CALLED)]
 
 
 # -- sessions of `navd lsp`
@@ -158,6 +173,8 @@ STEPS = [
     Step("define", "run", defined, committed, lambda _: DEFINES, (64, 512), 1.5),
     Step("references, a file", "run", referred, committed, lambda files: files, (32, 128), 1.5),
     Step("references again", "run", referred_again, referred, lambda _: AGAIN, (32, 128), 3.0),
+    Step("callers, a file", "run", called, committed, lambda files: files, (64, 512), 1.5),
+    Step("callers again", "run", called_again, called, lambda _: CALLED, (64, 512), 3.0),
     Step("opened in an editor, a file", "lsp", open_documents, None, lambda files: files, (64, 512), 1.3),
     Step("changed there and asked", "lsp", edited, open_documents, lambda _: EDITS, (64, 512), 1.5),
     Step("references there, a file", "lsp", edited_and_referred, edited, lambda files: files, (32, 128), 1.5),

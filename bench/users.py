@@ -397,6 +397,8 @@ def crowded_names(folder):
     write("x = 1\n" * 8_193 + "x\ny\n", folder, "a.py")
     asks(folder, "define a.py:8194:1", 1, "", ["crowded", "8,192 paths"])
     asks(folder, "references a.py:2:1", 1, "", ["crowded", "8,192 paths"])
+    write("size = 1\nsize\n", folder, "b.py")
+    asks(folder, "references b.py:1:2", 0, "b.py:2:1\n")
     words = [sys.executable, "-B", os.path.join(TOP, "examples", "ask.py"), "--navd", PROGRAM, folder, "uses", "a.py"]
     out, said = ran(words, 1)
     wanted(out == "a.py:8194:1 x: crowded\na.py:8195:1 y: none\n", f"uses lists {out[-200:]!r}")
