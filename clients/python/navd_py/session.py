@@ -15,7 +15,7 @@ import shutil
 import socket
 import subprocess
 import threading
-from typing import IO, Any, Callable, Dict, Iterable, Iterator, List, Optional, Union, cast
+from typing import IO, Any, Callable, Dict, Iterable, Iterator, List, Optional, Tuple, Union, cast
 
 Request = Dict[str, Any]
 Reply = Dict[str, Any]
@@ -242,6 +242,16 @@ class Session:
             except (OSError, ValueError):
                 pass  # why it ended is told where its reply is missing
             return self._reply()
+
+    def callers(self, path: str, at: Union[int, Tuple[int, int]]) -> Reply:
+        """Who refers to the definition at a node of a file, or at a line and a column, all from 0.
+
+        The reply has `rows`, or `error`: `crowded` only where what leads to the definition is crowded, while
+        `references` is so for any crowded name of the files. A navd that doesn't know the request answers
+        `bad_request` with the field `do`. Raises TooLong, and SessionEnded.
+        """
+        place = {"node": at} if isinstance(at, int) else {"line": at[0], "column": at[1]}
+        return self.request({"do": "callers", "path": path, **place})
 
     def pipeline(self, requests: Iterable[Request]) -> Iterator[Reply]:
         """The replies to many requests, in their order, each as soon as it is there.

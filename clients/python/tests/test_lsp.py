@@ -1,7 +1,9 @@
 """Tests of the language server, over pipes, with a stand-in for the translator and with navd, where there is one."""
 
+import ctypes
 import os
 import shutil
+import signal
 import tempfile
 import time
 import unittest
@@ -680,6 +682,17 @@ class Process(ServerTest):
         editor = Editor(server)
         editor.initialize([])
         server.process.terminate()
+        self.assertEqual(server.wait(), 1)
+        self.assertEqual(server.errors, b"")
+
+    @unittest.skipUnless(os.path.isdir("/proc/self/task"), "a thread can't be named here")
+    def test_a_signal_that_reaches_another_thread_ends_it(self) -> None:
+        server = ServerProcess(["--navd", "/nowhere/navd"])
+        Editor(server).initialize([])
+        process = server.process.pid
+        others = [int(thread) for thread in os.listdir(f"/proc/{process}/task") if int(thread) != process]
+        time.sleep(0.3)  # by then the main thread waits
+        self.assertEqual(ctypes.CDLL(None).tgkill(process, max(others), signal.SIGTERM), 0)
         self.assertEqual(server.wait(), 1)
         self.assertEqual(server.errors, b"")
 

@@ -47,6 +47,13 @@ class Requests(FakeProgram):
         with self.assertRaises(SessionEnded):
             session.request({"do": "pin"})
 
+    def test_who_calls_is_asked_by_a_node_or_a_place(self) -> None:
+        with self.session() as session:
+            by_node = {"do": "callers", "path": "a.py", "node": 7}
+            self.assertEqual(session.callers("a.py", 7), {"echo": by_node})
+            by_place = {"do": "callers", "path": "a.py", "line": 0, "column": 4}
+            self.assertEqual(session.callers("a.py", (0, 4)), {"echo": by_place})
+
     def test_half_of_a_pair_is_sent_as_an_escape(self) -> None:
         with self.session() as session:
             self.assertEqual(session.request({"text": "\ud800"}), {"echo": {"text": "\ud800"}})
@@ -213,6 +220,22 @@ class RealProgram(unittest.TestCase):
             replies = list(session.pipeline([question] * 5000))
             self.assertEqual(len(replies), 5000)
             self.assertEqual({tuple(reply["rows"][0]["span"]) for reply in replies}, {(0, 0, 0, 1)})
+
+    def test_callers_answers_where_references_is_crowded(self) -> None:
+        loop = "node = 1\nwhile node:\n    node = node.left\n    node = node.right\n"
+        with Session(NAVD) as session:
+            session.request({"do": "hello", "user": "operator"})
+            if session.callers("a.py", 0) == {"error": "bad_request", "field": "do"}:
+                self.skipTest("this navd doesn't know `callers`")
+            edits = [{"put": "list.py", "text": loop}, {"put": "main.py", "text": "size = 1\nsize\n"}]
+            self.assertEqual(session.request({"do": "commit", "edits": edits}), {"version": 1})
+            question = {"do": "references", "path": "main.py", "line": 0, "column": 1}
+            self.assertEqual(session.request(question), {"error": "crowded"})
+            reply = session.callers("main.py", (0, 1))
+            self.assertEqual([row["span"] for row in reply["rows"]], [[1, 0, 1, 4]])
+            self.assertEqual(list(reply), ["rows"])
+            self.assertEqual(session.callers("list.py", (0, 1)), {"error": "crowded"})
+            self.assertEqual(session.callers("main.py", (1, 0)), {"error": "no_definition"})
 
     def test_it_ends_by_itself_with_the_session(self) -> None:
         session = Session(NAVD)

@@ -5,7 +5,9 @@ from __future__ import annotations
 import argparse
 import os
 import signal
+import socket
 import sys
+import threading
 from typing import Optional, Sequence
 
 from ..words import add_common_words
@@ -34,6 +36,25 @@ def main(arguments: Optional[Sequence[str]] = None) -> int:
 
     signal.signal(signal.SIGTERM, lambda *_: sys.exit(1))  # what it started ends with it
     try:
-        return Server(options, lambda size: os.read(source, size), write).serve()
+        server = Server(options, lambda size: os.read(source, size), write)
+        _wake_by_signals(server)
+        return server.serve()
     except KeyboardInterrupt:
         return 1
+
+
+def _wake_by_signals(server: Server) -> None:
+    """Lets a signal end the wait for a message.
+
+    What Python does at a signal it does on the main thread, once that comes to its next step. A signal that reaches
+    another thread, or the main one just before it begins to wait, would change nothing until the editor says something.
+    """
+    woken, waker = socket.socketpair()
+    waker.setblocking(False)
+    signal.set_wakeup_fd(waker.fileno())
+
+    def wait(_open: socket.socket) -> None:
+        while woken.recv(1):
+            server.inbox.end()
+
+    threading.Thread(target=wait, args=(waker,), daemon=True).start()

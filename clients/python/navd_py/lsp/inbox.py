@@ -37,6 +37,10 @@ class Inbox:
         except queue.Empty:
             return None
 
+    def end(self) -> None:
+        """Puts the end behind the messages that wait."""
+        self._queue.put(End())
+
     def is_cancelled(self, identifier: Identifier) -> bool:
         """Whether a request is wanted no more."""
         with self._lock:
@@ -58,7 +62,7 @@ class Inbox:
         except (OSError, EditorGone):
             pass  # that is the end, too
         finally:
-            self._queue.put(End())
+            self.end()
 
     def _sort(self, item: Message) -> None:
         message = item.value
