@@ -11,7 +11,7 @@ import os
 import sys
 import time
 from dataclasses import dataclass
-from typing import Any, Dict, List, Optional, Sequence, TextIO, Tuple
+from typing import Any, Callable, Dict, List, Optional, Sequence, TextIO, Tuple
 
 from .keeper import Keeper, Refused
 from .project import Project, Translated, graph_path, source_path
@@ -54,15 +54,18 @@ class Point:
 class Progress:
     """Tells how far something is, on standard error, once it takes longer than a second."""
 
-    def __init__(self, what: str, stream: Optional[TextIO] = None) -> None:
+    def __init__(
+        self, what: str, stream: Optional[TextIO] = None, clock: Callable[[], float] = time.monotonic
+    ) -> None:
         self.what = what
         self.stream = stream if stream is not None else sys.stderr
-        self.started = time.monotonic()
-        self.told = 0.0
+        self.clock = clock
+        self.started = clock()
+        self.told = self.started - EVERY_SECONDS * 10
         self.width = 0
 
     def __call__(self, done: int, total: int) -> None:
-        now = time.monotonic()
+        now = self.clock()
         every = EVERY_SECONDS if self.stream.isatty() else 10 * EVERY_SECONDS
         if now - self.started < QUIET_SECONDS or now - self.told < every:
             return

@@ -3,12 +3,16 @@
 from __future__ import annotations
 
 import argparse
+import contextlib
 import os
+import select
 import signal
+import socket
 import subprocess
 import sys
+import threading
 import time
-from typing import Callable, Dict, List, Optional, Sequence, Set
+from typing import IO, Callable, Dict, Iterator, List, Optional, Sequence, Set
 
 from .keeper import NO_ROOM, Keeper, Refused
 from .project import Fault, Project, Translated, graph_path
@@ -19,12 +23,33 @@ from .words import add_common_words
 
 Say = Callable[[str], None]
 
-# So many seconds a started server may take up to where it listens.
-SECONDS_TO_LISTEN = 10.0
+# So many seconds a started server may take up to where it listens, and these words say on its standard error that it does.
+SECONDS_TO_LISTEN = 60.0
+LISTENING = b"navd: listening at "
 # So many seconds go by between attempts to connect anew: from, and up to.
 SHORTEST_PAUSE, LONGEST_PAUSE = 0.5, 30.0
 # While a folder is read, what was read is committed after so many seconds.
 BETWEEN_COMMITS = 2.0
+
+
+class _Said:
+    """What a server says on its standard error, which is written to that of this program."""
+
+    def __init__(self, errors: IO[bytes]) -> None:
+        self.is_told = threading.Event()  # whether it listens: it says so, or has ended
+        self.that_it_listens = False
+        threading.Thread(target=self._pass_on, args=(errors,), daemon=True).start()
+
+    def _pass_on(self, errors: IO[bytes]) -> None:
+        with errors:
+            for line in errors:
+                if line.startswith(LISTENING):
+                    self.that_it_listens = True
+                    self.is_told.set()
+                with contextlib.suppress(OSError, ValueError):
+                    sys.stderr.write(line.decode("utf-8", "replace"))
+                    sys.stderr.flush()
+        self.is_told.set()
 
 
 class OwnServer:
@@ -44,19 +69,19 @@ class OwnServer:
             raise NoProgram(f"port {self._port} is in use; without --start the server there is kept at the folder")
         try:
             alone = os.name == "posix"  # an interrupt at the terminal is for this program alone
-            self._process = subprocess.Popen(self._words, stdin=subprocess.DEVNULL, start_new_session=alone)
+            self._process = subprocess.Popen(
+                self._words, stdin=subprocess.DEVNULL, stderr=subprocess.PIPE, start_new_session=alone
+            )
         except OSError as error:
             raise NoProgram(f"{self._words[0]} can't be started: {error}") from None
-        until = time.monotonic() + SECONDS_TO_LISTEN
-        while time.monotonic() < until:
-            status = self._process.poll()
-            if status is not None:
-                raise NoProgram(f"{' '.join(self._words)} ended with status {status}")
-            if self._is_listened():
-                self._say(f"started {' '.join(self._words)}")
-                return
-            time.sleep(0.05)
-        raise NoProgram(f"{' '.join(self._words)} doesn't listen after {SECONDS_TO_LISTEN:.0f} seconds")
+        assert self._process.stderr
+        said = _Said(self._process.stderr)
+        if not said.is_told.wait(SECONDS_TO_LISTEN):
+            self.end()
+            raise NoProgram(f"{' '.join(self._words)} doesn't listen after {SECONDS_TO_LISTEN:.0f} seconds")
+        if not said.that_it_listens:
+            raise NoProgram(f"{' '.join(self._words)} ended with status {self._process.wait()}")
+        self._say(f"started {' '.join(self._words)}")
 
     def _is_listened(self) -> bool:
         try:
@@ -203,6 +228,29 @@ def arguments_of(words: Optional[Sequence[str]]) -> argparse.Namespace:
     return parser.parse_args(words)
 
 
+@contextlib.contextmanager
+def sleeper() -> Iterator[Callable[[float], None]]:
+    """Sleeps for so many seconds, and less where a signal comes.
+
+    What Python does at a signal it does between its steps: one that comes just before a wait of the system begins would
+    change nothing up to its end. Here the signal itself ends the wait."""
+    woken, waker = socket.socketpair()
+    with woken, waker:
+        woken.setblocking(False)
+        waker.setblocking(False)
+        before = signal.set_wakeup_fd(waker.fileno(), warn_on_full_buffer=False)
+        try:
+            yield lambda seconds: _sleep(woken, seconds)
+        finally:
+            signal.set_wakeup_fd(before)
+
+
+def _sleep(woken: socket.socket, seconds: float) -> None:
+    select.select([woken], [], [], seconds)
+    with contextlib.suppress(BlockingIOError):
+        woken.recv(4096)
+
+
 def main(words: Optional[Sequence[str]] = None) -> int:
     """Keeps navd at the folder up to an interrupt. The status: 0 then, 1 where navd can't be had at the start."""
     given = arguments_of(words)
@@ -240,10 +288,11 @@ def _keep(given: argparse.Namespace, server: Optional[OwnServer], say: Say) -> i
     project = Project(given.folder, roots=given.root, excludes=given.exclude, cache=not given.no_cache)
     mirror = Mirror(project, given.folder, keeper, given.prefix.strip("/"), say)
     try:
-        keep_up(mirror.load, say, time.sleep)
-        while not given.once:
-            time.sleep(given.every)
-            keep_up(mirror.follow, say, time.sleep)
+        with sleeper() as sleep:
+            keep_up(mirror.load, say, sleep)
+            while not given.once:
+                sleep(given.every)
+                keep_up(mirror.follow, say, sleep)
     finally:
         keeper.close()
     return 0

@@ -28,8 +28,10 @@ MOST_LINES = 1_000_000
 PIECE = 65_536
 # So many bytes of what navd says on standard error are kept, the last ones.
 KEPT_OF_ERRORS = 16_384
-# So many seconds a program may take to end, once its input has ended.
+# So many seconds a program may take to end, once its input has ended; one that was answering may be far from reading it.
 SECONDS_TO_END = 5.0
+# So many it may take where it has closed its output by itself: it is about to end, and its status tells why.
+SECONDS_FOR_STATUS = 60.0
 
 # What the statuses of `navd run` mean.
 STATUSES = {
@@ -130,23 +132,23 @@ class _Program:
         while view:
             view = view[self.sink.write(view) or 0 :]
 
-    def end(self) -> int:
+    def end(self, seconds: float) -> int:
         """Ends the program: its input ends first, and it is killed where it goes on. Returns its status."""
         try:
             self.sink.close()
         except OSError:
             pass
         try:
-            status = self.process.wait(SECONDS_TO_END)
+            status = self.process.wait(seconds)
         except subprocess.TimeoutExpired:
             self.process.kill()
             status = self.process.wait()
-        self.drain.join(SECONDS_TO_END)
+        self.drain.join(seconds)
         self.source.close()
         return status
 
-    def ended(self, what: str) -> SessionEnded:
-        status = self.end()
+    def ended(self, what: str, seconds: float) -> SessionEnded:
+        status = self.end(seconds)
         why = f"signal {-status}" if status < 0 else f"status {status}"
         meaning = f", {STATUSES[status]}" if status in STATUSES else ""
         errors = self.errors.decode("utf-8", "replace").strip()
@@ -157,7 +159,7 @@ class _Program:
             self.send(line_of({"do": "quit"}))  # it then ends even where another process holds its input open
         except (OSError, ValueError):
             pass
-        self.end()
+        self.end(SECONDS_TO_END)
 
     def stop(self) -> None:
         self.process.kill()
@@ -179,7 +181,7 @@ class _Connection:
     def send(self, data: bytes) -> None:
         self.socket.sendall(data)
 
-    def ended(self, what: str) -> SessionEnded:
+    def ended(self, what: str, _: float) -> SessionEnded:
         self.close()
         return SessionEnded(f"{what}: the connection to {self.place} ended")
 
@@ -303,21 +305,21 @@ class Session:
         except (OSError, ValueError):
             line = b""
         if not line.endswith(b"\n"):
-            raise self._ended("there is no reply")
+            raise self._ended("there is no reply", SECONDS_FOR_STATUS)
         try:
             reply = json.loads(line)
         except ValueError:
             reply = None
         if not isinstance(reply, dict):
-            raise self._ended("what was answered is no reply")
+            raise self._ended("what was answered is no reply", SECONDS_TO_END)
         return reply
 
     def _check(self) -> None:
         if self._end is not None:
             raise SessionEnded(f"nothing more is answered: {self._end}", self._end.status)
 
-    def _ended(self, what: str) -> SessionEnded:
-        self._end = self._other.ended(what)
+    def _ended(self, what: str, seconds: float) -> SessionEnded:
+        self._end = self._other.ended(what, seconds)
         return self._end
 
     def close(self) -> None:

@@ -2,6 +2,7 @@
 
 from __future__ import annotations
 
+import contextlib
 import itertools
 import os
 import queue
@@ -15,7 +16,8 @@ from navd_py.lsp.frames import Message, frame, read_messages
 from navd_py.lsp.server import Options, Server
 from navd_py.lsp.uris import uri_of
 
-SECONDS = 30.0
+from servers import SECONDS
+
 CLIENTS = os.path.dirname(os.path.dirname(os.path.abspath(__file__)))
 
 
@@ -47,7 +49,10 @@ class ServerThread:
             self.sink = -1
 
     def wait(self) -> Optional[int]:
+        """The server's status, once it has ended. Fails where it doesn't."""
         self.thread.join(SECONDS)
+        if self.thread.is_alive():
+            raise AssertionError(f"the server goes on {SECONDS:.0f} s after it was to end")
         return self.status
 
     def close(self) -> None:
@@ -75,7 +80,10 @@ class ServerProcess:
 
     def read(self, size: int) -> bytes:
         assert self.process.stdout
-        return self.process.stdout.read(size) or b""
+        try:
+            return self.process.stdout.read(size) or b""
+        except ValueError:  # it was closed
+            return b""
 
     def write(self, data: bytes) -> None:
         assert self.process.stdin
@@ -86,12 +94,23 @@ class ServerProcess:
         self.process.stdin.close()
 
     def wait(self) -> Optional[int]:
-        status = self.process.wait(SECONDS)
+        """The server's status, once it has ended, and all that it said is in `errors`. Fails where it doesn't."""
+        try:
+            status = self.process.wait(SECONDS)
+        except subprocess.TimeoutExpired:
+            raise AssertionError(f"the server goes on {SECONDS:.0f} s after it was to end") from None
         self.drain.join(SECONDS)
-        self.end_input()
-        assert self.process.stdout
-        self.process.stdout.close()
         return status
+
+    def close(self) -> None:
+        """Ends the server where it hasn't ended."""
+        self.process.kill()
+        self.process.wait()
+        assert self.process.stdin and self.process.stdout
+        with contextlib.suppress(OSError):
+            self.process.stdin.close()
+        self.drain.join(SECONDS)
+        self.process.stdout.close()
 
 
 def _write_all(sink: int, data: bytes) -> None:
@@ -113,6 +132,7 @@ class Editor:
         self.orphans: List[Dict[str, Any]] = []  # errors without an identifier
         self.news: "queue.Queue[None]" = queue.Queue()
         self.is_ended = False
+        self.writing = threading.Lock()  # the thread that reads answers requests of the server
         self.reader = threading.Thread(target=self._read, daemon=True)
         self.reader.start()
 
@@ -128,11 +148,11 @@ class Editor:
 
     def _sort(self, message: Dict[str, Any]) -> None:
         if "method" in message and "id" in message:
-            self.requests.append(message)
             if message["method"] in self.refused_methods:
                 self.send({"id": message["id"], "error": {"code": -32601, "message": "not here"}})
             else:
                 self.send({"id": message["id"], "result": None})
+            self.requests.append(message)  # who sees it there knows that the answer is on its way before what they send
         elif "method" in message:
             self.notifications.append(message)
         elif message.get("id") is None:
@@ -140,22 +160,25 @@ class Editor:
         else:
             self.answers[message["id"]] = message
 
-    def wait_for(self, what: Callable[[], Any], seconds: float = SECONDS) -> Any:
-        """What is found once something is; a failure where nothing is in time."""
-        until = time.monotonic() + seconds
+    def wait_for(self, name: str, what: Callable[[], Any]) -> Any:
+        """What is found once something is; a failure that tells its name where nothing is in time."""
+        until = time.monotonic() + SECONDS
         while True:
+            was_ended = self.is_ended
             found = what()
             if found:
                 return found
-            if time.monotonic() > until or self.is_ended and not what():
-                raise AssertionError(f"it doesn't come; told were {self.notifications} {self.orphans}")
+            if was_ended or time.monotonic() > until:
+                why = "the server has ended without it" if was_ended else f"it doesn't come in {SECONDS:.0f} s"
+                raise AssertionError(f"{name}: {why}; told were {self.notifications} {self.orphans}")
             try:
                 self.news.get(timeout=0.05)
             except queue.Empty:
                 pass
 
     def send(self, message: Dict[str, Any]) -> None:
-        self.server.write(frame({"jsonrpc": "2.0", **message}))
+        with self.writing:
+            self.server.write(frame({"jsonrpc": "2.0", **message}))
 
     def notify(self, method: str, params: Any) -> None:
         self.send({"method": method, "params": params})
@@ -168,7 +191,34 @@ class Editor:
 
     def answer(self, number: int) -> Dict[str, Any]:
         """The answer to a request that was sent."""
-        return self.wait_for(lambda: self.answers.get(number))
+        return self.wait_for(f"the answer to request {number}", lambda: self.answers.get(number))
+
+    def wait_for_message(self, part: str, method: str = "window/showMessage") -> str:
+        """The first message with this part, once it is there."""
+
+        def found() -> Optional[str]:
+            return next((message for message in self.messages(method) if part in message), None)
+
+        return str(self.wait_for(f"a {method} with {part!r}", found))
+
+    def wait_for_request(self, method: str) -> None:
+        """Waits up to where the server has asked for something, and has been answered."""
+        self.wait_for(f"the request {method}", lambda: any(one["method"] == method for one in self.requests))
+
+    def wait_for_definition(self, uri: str, line: int, character: int, places: List[str]) -> None:
+        """Asks again and again, up to where the definitions are these."""
+
+        def found() -> bool:
+            time.sleep(0.01)  # what the server does between messages it does where none waits
+            return self.definition(uri, line, character) == places
+
+        self.wait_for(f"the definition of {uri}:{line}:{character} at {places}", found)
+
+    def wait_for_diagnostics(self, uri: str) -> List[Dict[str, Any]]:
+        """The last diagnostics of a document, once there are some."""
+        found = self.wait_for(f"diagnostics of {uri}", lambda: self.diagnostics(uri))
+        assert isinstance(found, list)
+        return found
 
     def ask(self, method: str, params: Any) -> Any:
         """The result of a request."""

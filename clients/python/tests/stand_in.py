@@ -1,7 +1,7 @@
 """A stand-in for the translator in tests of what stands around it.
 
 Its Python has names of modules alone: what a module assigns, and its functions and classes, are defined for all files,
-and each other name refers to them. It can be asked to hold up at files, and to have faults at will.
+and each other name refers to them. It has faults at will.
 """
 
 from __future__ import annotations
@@ -9,7 +9,6 @@ from __future__ import annotations
 import ast
 import json
 import os
-import time
 from typing import Any, Callable, Dict, Iterable, Iterator, List, Optional, Sequence, Tuple
 
 from navd_py.project import Definition, Fault, Translated
@@ -17,8 +16,6 @@ from navd_py.project import Definition, Fault, Translated
 
 class StandIn:
     """As `navd_py.project.Project`."""
-
-    seconds_a_file = 0.0  # so long `translate_all` takes for each file
 
     def __init__(
         self, folder: str, *, roots: Sequence[str] = (), excludes: Sequence[str] = (), cache: bool = True
@@ -89,7 +86,6 @@ class StandIn:
         self, paths: Iterable[str], progress: Optional[Callable[[int, int], None]] = None
     ) -> Iterator[Translated]:
         for path in paths:
-            time.sleep(self.seconds_a_file)
             yield self.translated(path)
 
 

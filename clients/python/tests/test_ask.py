@@ -5,6 +5,7 @@ from __future__ import annotations
 import contextlib
 import io
 import json
+import math
 import os
 import shutil
 import subprocess
@@ -31,6 +32,9 @@ FILES = {
 class Asking(unittest.TestCase):
     def setUp(self) -> None:
         program()
+        quiet = mock.patch("navd_py.ask.QUIET_SECONDS", math.inf)  # however long it takes, no progress is told
+        quiet.start()
+        self.addCleanup(quiet.stop)
         self.folder = tempfile.mkdtemp()
         self.addCleanup(shutil.rmtree, self.folder, True)
         for path, text in FILES.items():
@@ -181,13 +185,15 @@ class Asking(unittest.TestCase):
 class Progressing(unittest.TestCase):
     def test_nothing_is_told_at_first(self) -> None:
         stream = io.StringIO()
-        progress = Progress("done", stream)
-        progress(1, 2)
+        times = iter([100.0, 100.9, 101.1, 102.9, 103.2])
+        progress = Progress("done", stream, lambda: next(times))
+        progress(1, 4)
         self.assertEqual(stream.getvalue(), "")
-        progress.started -= 2
-        progress(2, 2)
-        progress(2, 2)
-        self.assertEqual(stream.getvalue(), "done: 2 of 2\n")
+        progress(2, 4)
+        progress(3, 4)
+        self.assertEqual(stream.getvalue(), "done: 2 of 4\n")
+        progress(4, 4)
+        self.assertEqual(stream.getvalue(), "done: 2 of 4\ndone: 4 of 4\n")
 
 
 if __name__ == "__main__":

@@ -138,7 +138,8 @@ class Keeping(unittest.TestCase):
 
     def test_navd_ends_again_and_again(self) -> None:
         self.keeper.put("a.sg.json", graph("a"))
-        with mock.patch.object(Session, "request", autospec=True) as request:
+        minutes = mock.patch.object(keepers, "SECONDS_OF_ENDS", 86_400.0)  # however long the ends take here
+        with minutes, mock.patch.object(Session, "request", autospec=True) as request:
             request.side_effect = lambda session, _: (session.stop(), Session._reply(session))[1]
             for _ in range(3):
                 with self.assertRaises(Refused):

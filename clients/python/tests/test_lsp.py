@@ -1,16 +1,19 @@
 """Tests of the language server, over pipes, with a stand-in for the translator and with navd, where there is one."""
 
+import contextlib
 import ctypes
 import os
 import shutil
 import signal
 import tempfile
+import threading
 import time
 import unittest
-from typing import Any, Dict, List, Optional, Sequence, Set
+from typing import Any, Dict, Iterator, List, Optional, Sequence, Set
 from unittest import mock
 
 from navd_py.keeper import Keeper
+from navd_py.lsp.background import Loading
 from navd_py.lsp.documents import Document
 from navd_py.lsp.folder import Folder
 from navd_py.lsp.frames import BadFrame, Message, frame, read_messages
@@ -21,11 +24,37 @@ from navd_py.lsp.uris import path_of, uri_below, uri_of
 from navd_py.project import Definition
 from navd_py.session import Session
 
-from lsp_client import Editor, ServerProcess, ServerThread
+from lsp_client import Editor, ServerProcess, ServerThread, shown
+from servers import SECONDS
 from stand_in import StandIn
 
 NAVD = os.environ.get("NAVD") or shutil.which("navd")
 NEEDS_NAVD = unittest.skipUnless(NAVD, "there is no navd: the environment variable NAVD names one")
+
+
+@contextlib.contextmanager
+def held_reading() -> Iterator[threading.Event]:
+    """No folder is read on before the event is set. The server answers meanwhile."""
+    go_on = threading.Event()
+    step = Loading.step
+
+    def held(loading: Loading) -> bool:
+        if go_on.is_set():
+            return step(loading)
+        time.sleep(0.001)
+        return True
+
+    with mock.patch.object(Loading, "step", held):
+        try:
+            yield go_on
+        finally:
+            go_on.set()
+
+
+def knows_callers() -> bool:
+    with Session(NAVD) as session:
+        session.request({"do": "hello", "user": "operator"})
+        return session.callers("a.py", 0) != {"error": "bad_request", "field": "do"}
 
 
 def messages(data: bytes, piece: int = 7) -> List[Any]:
@@ -186,11 +215,11 @@ class Protocol(ServerTest):
         self.server.write(b"Content-Length: 2\r\n\r\n{]")
         for bad in (frame(3), frame([]), frame({"id": 1}), frame({"method": 1}), b"what\n\n"):
             self.server.write(bad)
-        editor.wait_for(lambda: len(editor.orphans) == 6)
+        editor.wait_for("six errors", lambda: len(editor.orphans) == 6)
         codes = [one["error"]["code"] for one in editor.orphans]
         self.assertEqual(codes, [-32700, -32600, -32600, -32600, -32600, -32700])
         self.server.write(frame({"id": {}, "method": "initialize"}) + frame({"id": 7, "result": 1}))
-        editor.wait_for(lambda: len(editor.orphans) == 7)
+        editor.wait_for("a seventh error", lambda: len(editor.orphans) == 7)
         editor.initialize([])
         self.assertEqual(editor.leave(), 0)
 
@@ -199,7 +228,7 @@ class Protocol(ServerTest):
         editor = self.start("/nowhere/navd")
         editor.initialize([self.folder])
         uri = editor.open(path)
-        editor.wait_for(lambda: any("/nowhere/navd" in one for one in editor.messages()))
+        editor.wait_for_message("/nowhere/navd")
         place = {"textDocument": {"uri": uri}, "position": {"line": 0, "character": 0}}
         error = editor.error("textDocument/definition", place)
         self.assertEqual(error["code"], -32803)
@@ -212,14 +241,21 @@ class Protocol(ServerTest):
         source, sink = os.pipe()
         os.close(source)
         data = [frame({"id": 1, "method": "initialize", "params": {}})]
+        is_over = threading.Event()
+
+        def read(size: int) -> bytes:
+            if data:
+                return data.pop()
+            is_over.wait(SECONDS)  # the input goes on, so it isn't its end that ends the server
+            return b""
 
         def write(message: bytes) -> None:
             os.write(sink, message)
 
-        server = Server(
-            Options(program="/nowhere/navd"), lambda size: data.pop() if data else time.sleep(5) or b"", write
-        )
-        self.assertEqual(server.serve(), 1)
+        start = time.monotonic()
+        self.assertEqual(Server(Options(program="/nowhere/navd"), read, write).serve(), 1)
+        self.assertLess(time.monotonic() - start, SECONDS)
+        is_over.set()
         os.close(sink)
 
     def test_a_disk_that_fails(self) -> None:
@@ -229,7 +265,7 @@ class Protocol(ServerTest):
         with failing, mock.patch("traceback.print_exception"):
             editor.initialize([self.folder])
             uri = editor.open(path)
-            editor.wait_for(lambda: any("not for you" in one for one in editor.messages("window/logMessage")))
+            editor.wait_for_message("not for you", "window/logMessage")
         symbols = editor.ask("textDocument/documentSymbol", {"textDocument": {"uri": uri}})
         self.assertEqual([one["name"] for one in symbols], ["x"])
         self.assertEqual(editor.leave(), 0)
@@ -331,13 +367,13 @@ class Questions(ServerTest):
         editor.change(uri, "x = 1\n\ny = (\nx, y\n")
         self.assertEqual(editor.definition(uri, 3, 0), ["main.py:0:0"])
         self.assertEqual(editor.definition(uri, 3, 3), [])
-        told = editor.wait_for(lambda: editor.diagnostics(uri))
+        told = editor.wait_for_diagnostics(uri)
         self.assertEqual((told[0]["severity"], told[0]["source"]), (1, "navd"))
         symbols = editor.ask("textDocument/documentSymbol", {"textDocument": {"uri": uri}})
         self.assertEqual([one["name"] for one in symbols], ["x"])
         editor.change(uri, "x = 1\n\ny = ()\nx, y\n", 3)
         self.assertEqual(editor.definition(uri, 3, 3), ["main.py:2:0"])
-        editor.wait_for(lambda: editor.diagnostics(uri) == [])
+        editor.wait_for("no more diagnostics", lambda: editor.diagnostics(uri) == [])
 
     def test_files_that_are_left_out(self) -> None:
         refused = self.write("refused.py", "# refuse me\n")
@@ -346,7 +382,7 @@ class Questions(ServerTest):
         with open(latin, "wb") as file:
             file.write(b"x = '\xff'\n")
         editor = self.begin()
-        told = [editor.wait_for(lambda: editor.diagnostics(uri_of(path))) for path in (refused, broken, latin)]
+        told = [editor.wait_for_diagnostics(uri_of(path)) for path in (refused, broken, latin)]
         self.assertEqual([one[0]["severity"] for one in told], [2, 1, 1])
         self.assertIn("left out", told[0][0]["message"])
         self.assertEqual(told[1][0]["range"]["start"]["line"], 1)
@@ -370,10 +406,9 @@ class Questions(ServerTest):
         uri = editor.open(main)
         place = {"textDocument": {"uri": uri}, "position": {"line": 2, "character": 0}}
         self.assertIn("8,192", editor.error("textDocument/definition", place)["message"])
-        has_callers = self.server.server.queries.has_callers()
         place = {"textDocument": {"uri": uri}, "position": {"line": 0, "character": 0}, "context": {}}
         answer = editor.answer(editor.begin("textDocument/references", place))
-        if has_callers:
+        if knows_callers():
             self.assertEqual(len(answer["result"]), 1)
         else:
             self.assertEqual(answer["error"]["code"], -32803)
@@ -440,7 +475,7 @@ class Questions(ServerTest):
         with room, mock.patch.object(Session, "request", request_within_room):
             editor = self.begin()
             editor.ask("workspace/symbol", {"query": "x"})
-            editor.wait_for(lambda: any("13 files of the workspace are left out" in one for one in editor.messages()))
+            editor.wait_for_message("13 files of the workspace are left out")
             uri = editor.open(last)
             self.assertEqual(editor.definition(uri, 1, 0), ["z.py:0:0"])
         self.assertEqual([one for one in editor.notifications if "publishDiagnostics" in one["method"]], [])
@@ -486,26 +521,28 @@ class Workspaces(ServerTest):
 
     def test_the_disk_is_followed(self) -> None:
         main = self.write("main.py", "x\n")
-        with mock.patch("navd_py.lsp.background.SHORTEST_PAUSE", 0.02):
+        # A look that takes long, on a machine that is busy, is no reason for a long pause here.
+        no_pause = mock.patch.multiple("navd_py.lsp.background", SHORTEST_PAUSE=0.02, SHARE_OF_LOOKS=1)
+        with no_pause:
             editor = self.start()
             editor.initialize([self.folder])
             uri = editor.open(main)
             self.assertEqual(editor.definition(uri, 0, 0), [])
             other = self.write("other.py", "x = 1\n")
-            editor.wait_for(lambda: editor.definition(uri, 0, 0) == ["other.py:0:0"])
+            editor.wait_for_definition(uri, 0, 0, ["other.py:0:0"])
             self.write("other.py", "\n\nx = 1\n")
-            editor.wait_for(lambda: editor.definition(uri, 0, 0) == ["other.py:2:0"])
+            editor.wait_for_definition(uri, 0, 0, ["other.py:2:0"])
             self.write("other.py", "\n(\n\nx = 1\n")
-            editor.wait_for(lambda: editor.definition(uri, 0, 0) == ["other.py:3:0"])
+            editor.wait_for_definition(uri, 0, 0, ["other.py:3:0"])
             os.remove(other)
-            editor.wait_for(lambda: editor.definition(uri, 0, 0) == [])
+            editor.wait_for_definition(uri, 0, 0, [])
 
     def test_the_editor_tells_of_the_disk(self) -> None:
         main = self.write("main.py", "x\n")
         editor = self.start()
         editor.initialize([self.folder], {"workspace": {"didChangeWatchedFiles": {"dynamicRegistration": True}}})
         uri = editor.open(main)
-        editor.wait_for(lambda: any(one["method"] == "client/registerCapability" for one in editor.requests))
+        editor.wait_for_request("client/registerCapability")
         self.assertEqual(editor.definition(uri, 0, 0), [])
         other = self.write("pkg/other.py", "x = 1\n")
 
@@ -513,20 +550,20 @@ class Workspaces(ServerTest):
             editor.notify("workspace/didChangeWatchedFiles", {"changes": [{"uri": uri_of(other), "type": kind}]})
 
         told(1)
-        editor.wait_for(lambda: editor.definition(uri, 0, 0) == ["other.py:0:0"])
+        editor.wait_for_definition(uri, 0, 0, ["other.py:0:0"])
         self.write("pkg/other.py", "\nx = 1\n")
         told(2)
-        editor.wait_for(lambda: editor.definition(uri, 0, 0) == ["other.py:1:0"])
+        editor.wait_for_definition(uri, 0, 0, ["other.py:1:0"])
         os.remove(other)
         told(3)
-        editor.wait_for(lambda: editor.definition(uri, 0, 0) == [])
+        editor.wait_for_definition(uri, 0, 0, [])
         self.write("pkg/other.py", "x = 1\n")
         told(1)
-        editor.wait_for(lambda: editor.definition(uri, 0, 0) == ["other.py:0:0"])
+        editor.wait_for_definition(uri, 0, 0, ["other.py:0:0"])
         shutil.rmtree(os.path.dirname(other))
         gone = {"uri": uri_of(os.path.dirname(other)), "type": 3}
         editor.notify("workspace/didChangeWatchedFiles", {"changes": [gone]})
-        editor.wait_for(lambda: editor.definition(uri, 0, 0) == [])
+        editor.wait_for_definition(uri, 0, 0, [])
 
     def test_a_document_that_is_no_file(self) -> None:
         main = self.write("main.py", "x\n")
@@ -555,7 +592,7 @@ class Workspaces(ServerTest):
         for number in range(30):
             self.write(f"m{number:02}.py", "pass\n")
         self.write("z.py", "x = 1\n")
-        with mock.patch.object(StandIn, "seconds_a_file", 0.02):
+        with held_reading() as go_on:
             editor = self.start()
             editor.initialize([self.folder], {"window": {"workDoneProgress": True}})
             uri = editor.open(main)
@@ -566,6 +603,9 @@ class Workspaces(ServerTest):
             editor.notify("$/cancelRequest", {"id": second})
             self.assertEqual(editor.answer(second)["error"]["code"], -32800)
             self.assertNotIn(first, editor.answers)
+            editor.wait_for_request("window/workDoneProgress/create")
+            editor.ask("textDocument/documentSymbol", place)  # by now the server knows that the bar is there
+            go_on.set()
             self.assertEqual(editor.definition(uri, 0, 0), ["z.py:0:0"])
             self.assertEqual(len(editor.answer(first)["result"]), 1)
         kinds = [one["params"]["value"]["kind"] for one in editor.notifications if one["method"] == "$/progress"]
@@ -577,24 +617,31 @@ class Workspaces(ServerTest):
             self.write(f"m{number:02}.py", "pass\n")
         self.write("z.py", "x = 1\n")
         imported = (Definition("x", "import", (0, 0, 0, 1), ""),)
-        with mock.patch.object(StandIn, "seconds_a_file", 0.02), mock.patch.object(Folder, "definitions_at") as at:
+        with held_reading() as go_on, mock.patch.object(Folder, "definitions_at") as at:
             at.side_effect = lambda path, line, column: imported if path == "a.py" else ()
             editor = self.start()
             editor.initialize([self.folder])
             uri = editor.open(main)
-            self.assertEqual(editor.definition(uri, 0, 0), ["z.py:0:0"])
+            place = {"textDocument": {"uri": uri}, "position": {"line": 0, "character": 0}}
+            asked = editor.begin("textDocument/definition", place)
+            editor.ask("textDocument/documentSymbol", place)
+            self.assertNotIn(asked, editor.answers)
+            go_on.set()
+            self.assertEqual(shown(editor.answer(asked)["result"]), ["z.py:0:0"])
             os.remove(os.path.join(self.folder, "z.py"))
             gone = {"uri": uri_of(os.path.join(self.folder, "z.py")), "type": 3}
             editor.notify("workspace/didChangeWatchedFiles", {"changes": [gone]})
-            editor.wait_for(lambda: editor.definition(uri, 0, 0) == ["a.py:0:0"])
+            editor.wait_for_definition(uri, 0, 0, ["a.py:0:0"])
 
     def test_progress_is_not_wanted(self) -> None:
         for number in range(20):
             self.write(f"m{number:02}.py", "pass\n")
-        with mock.patch.object(StandIn, "seconds_a_file", 0.01):
+        with held_reading() as go_on:
             editor = self.start()
             editor.refused_methods.append("window/workDoneProgress/create")
             editor.initialize([self.folder], {"window": {"workDoneProgress": True}})
+            editor.wait_for_request("window/workDoneProgress/create")
+            go_on.set()
             editor.ask("workspace/symbol", {"query": ""})
         self.assertEqual([one for one in editor.notifications if one["method"] == "$/progress"], [])
 
@@ -615,7 +662,9 @@ class Workspaces(ServerTest):
         uri = editor.open(main)
         self.assertEqual(editor.definition(uri, 1, 0), ["main.py:0:0"])
         fault = mock.patch.object(StandIn, "translated", side_effect=KeyError("fault"))
-        with fault, mock.patch("traceback.print_exception"):
+        # The change is translated for the question behind it, however long that takes to come.
+        typing = mock.patch("navd_py.lsp.server.SECONDS_OF_TYPING", 2 * SECONDS)
+        with fault, typing, mock.patch("traceback.print_exception"):
             editor.change(uri, "x = 2\nx\n")
             place = {"textDocument": {"uri": uri}, "position": {"line": 1, "character": 0}}
             self.assertEqual(editor.error("textDocument/definition", place)["code"], -32603)
@@ -653,7 +702,9 @@ class Box:
                 os.makedirs(os.path.dirname(os.path.join(folder, path)), exist_ok=True)
                 with open(os.path.join(folder, path), "w", encoding="utf-8") as file:
                     file.write(text)
-            editor = Editor(ServerProcess(["--navd", str(NAVD), "--no-cache"]))
+            server = ServerProcess(["--navd", str(NAVD), "--no-cache"])
+            self.addCleanup(server.close)
+            editor = Editor(server)
             nested = {"textDocument": {"documentSymbol": {"hierarchicalDocumentSymbolSupport": True}}}
             editor.initialize([folder], nested)
             main = editor.open(os.path.join(folder, "main.py"))
@@ -672,13 +723,37 @@ class Box:
             editor.change(main, "x = (\n" + self.FILES["main.py"])
             self.assertEqual(editor.definition(main, 6, 24), ["tools.py:11:8"])
             self.assertEqual(editor.references(tools, 11, 8), ["main.py:6:23"])
-            editor.wait_for(lambda: editor.diagnostics(main))
+            editor.wait_for_diagnostics(main)
             self.assertEqual(editor.leave(), 0)
 
 
+def wait_until_it_waits(process: int) -> None:
+    """Waits up to where the main thread of a process waits in the system, and hasn't run meanwhile (Linux, proc(5))."""
+
+    def look() -> Dict[str, str]:
+        with open(f"/proc/{process}/task/{process}/status", encoding="ascii") as file:
+            fields = dict(line.rstrip("\n").split(":\t", 1) for line in file if ":\t" in line)
+        return {name: fields[name] for name in ("State", "voluntary_ctxt_switches", "nonvoluntary_ctxt_switches")}
+
+    until = time.monotonic() + SECONDS
+    before = look()
+    while time.monotonic() < until:
+        time.sleep(0.1)
+        now = look()
+        if now == before and now["State"].startswith("S"):
+            return
+        before = now
+    raise AssertionError(f"the main thread never waits: {before}")
+
+
 class Process(ServerTest):
+    def started(self, *words: str) -> ServerProcess:
+        server = ServerProcess(["--navd", "/nowhere/navd", *words])
+        self.addCleanup(server.close)
+        return server
+
     def test_it_is_told_to_end(self) -> None:
-        server = ServerProcess(["--navd", "/nowhere/navd"])
+        server = self.started()
         editor = Editor(server)
         editor.initialize([])
         server.process.terminate()
@@ -687,20 +762,21 @@ class Process(ServerTest):
 
     @unittest.skipUnless(os.path.isdir("/proc/self/task"), "a thread can't be named here")
     def test_a_signal_that_reaches_another_thread_ends_it(self) -> None:
-        server = ServerProcess(["--navd", "/nowhere/navd"])
+        server = self.started()
         Editor(server).initialize([])
         process = server.process.pid
         others = [int(thread) for thread in os.listdir(f"/proc/{process}/task") if int(thread) != process]
-        time.sleep(0.3)  # by then the main thread waits
+        wait_until_it_waits(process)
         self.assertEqual(ctypes.CDLL(None).tgkill(process, max(others), signal.SIGTERM), 0)
         self.assertEqual(server.wait(), 1)
         self.assertEqual(server.errors, b"")
 
     def test_as_an_editor_starts_it(self) -> None:
-        editor = Editor(ServerProcess(["--navd", "/nowhere/navd", "--stdio"]))
+        server = self.started("--stdio")
+        editor = Editor(server)
         editor.initialize([])
         self.assertEqual(editor.leave(), 0)
-        self.assertEqual(editor.server.errors, b"")  # type: ignore[union-attr]
+        self.assertEqual(server.errors, b"")
 
 
 if __name__ == "__main__":

@@ -4,10 +4,11 @@ import contextlib
 import io
 import os
 import shutil
+import signal
 import socket
-import subprocess
 import sys
 import tempfile
+import threading
 import time
 import unittest
 from typing import Any, List
@@ -15,19 +16,16 @@ from unittest import mock
 
 from navd_py import serve
 from navd_py.keeper import Keeper, Refused
-from navd_py.serve import Mirror, OwnServer, keep_up
-from navd_py.session import NoConnection, NoProgram, Session
+from navd_py.serve import Mirror, OwnServer, keep_up, sleeper
+from navd_py.session import NoConnection, NoProgram, Session, SessionEnded
 from navd_py.watch import FolderWatch
 
+from servers import SECONDS, NavdServe, Process, dead_port, ports
 from stand_in import StandIn
 
 NAVD = os.environ.get("NAVD") or shutil.which("navd")
-
-
-def free_port() -> int:
-    with socket.socket() as taken:
-        taken.bind(("127.0.0.1", 0))
-        return int(taken.getsockname()[1])
+# What is said where a server that is started can't have its port: another one is to be tried.
+TAKEN = ("ended with status 8", "is in use")
 
 
 class InFolder(unittest.TestCase):
@@ -40,8 +38,9 @@ class InFolder(unittest.TestCase):
     def write(self, path: str, text: str) -> None:
         place = os.path.join(self.folder, path)
         os.makedirs(os.path.dirname(place), exist_ok=True)
-        with open(place, "w", encoding="utf-8") as file:
+        with open(place + ".new", "w", encoding="utf-8") as file:
             file.write(text)
+        os.replace(place + ".new", place)  # at once: nobody sees a part of it, and another file has another number
 
     def has_said(self, part: str) -> bool:
         return any(part in said for said in self.said)
@@ -86,6 +85,31 @@ class KeepingUp(unittest.TestCase):
         self.assertEqual(said[0], "one; again in 0.5 s")
 
 
+class Sleeping(unittest.TestCase):
+    def test_a_signal_that_came_before_ends_the_sleep(self) -> None:
+        """Nothing is waiting when the signal comes, as in the gap between a step of Python and the wait itself."""
+        seen: List[int] = []
+        before = signal.signal(signal.SIGTERM, lambda number, _: seen.append(number))
+        self.addCleanup(signal.signal, signal.SIGTERM, before)
+        start = time.monotonic()
+        with sleeper() as sleep:
+            signal.raise_signal(signal.SIGTERM)
+            sleep(10 * SECONDS)
+            another = threading.Thread(target=signal.pthread_kill, args=(threading.get_ident(), signal.SIGTERM))
+            another.start()
+            sleep(10 * SECONDS)
+            another.join()
+            sleep(0)
+        self.assertLess(time.monotonic() - start, 10 * SECONDS)
+        self.assertEqual(seen, [signal.SIGTERM] * 2)
+
+    def test_it_sleeps(self) -> None:
+        start = time.monotonic()
+        with sleeper() as sleep:
+            sleep(0.05)
+        self.assertGreaterEqual(time.monotonic() - start, 0.04)
+
+
 class Words(InFolder):
     def run_main(self, *words: str) -> "tuple[int, str]":
         errors = io.StringIO()
@@ -109,21 +133,25 @@ class Words(InFolder):
     def test_no_folder_and_no_server(self) -> None:
         status, told = self.run_main("/nowhere/at/all", "--port", "4711")
         self.assertEqual((status, told), (1, "navd-py: /nowhere/at/all is no folder\n"))
-        port = free_port()
-        status, told = self.run_main(self.folder, "--port", str(port))
-        self.assertEqual(status, 1)
-        self.assertIn(f"nobody answers at port {port}", told)
-        status, told = self.run_main(self.folder, "--port", str(port), "--start", "--navd", "/nowhere/navd")
+        with dead_port() as port:
+            status, told = self.run_main(self.folder, "--port", str(port))
+            self.assertEqual(status, 1)
+            self.assertIn(f"nobody answers at port {port}", told)
+            status, told = self.run_main(self.folder, "--port", str(port), "--start", "--navd", "/nowhere/navd")
         self.assertEqual(status, 1)
         self.assertIn("/nowhere/navd", told)
 
     @unittest.skipUnless(NAVD, "there is no navd: the environment variable NAVD names one")
     def test_once_with_a_server_of_its_own(self) -> None:
         self.write("a.py", "x = 1\nx\n")
-        with mock.patch("navd_py.serve.Project", StandIn):
-            words = [self.folder, "--port", str(free_port()), "--start", "--once", "--navd", str(NAVD)]
-            status, told = self.run_main(*words)
+        for port in ports():
+            with mock.patch("navd_py.serve.Project", StandIn):
+                words = [self.folder, "--port", str(port), "--start", "--once", "--navd", str(NAVD)]
+                status, told = self.run_main(*words)
+            if not any(part in told for part in TAKEN):
+                break
         self.assertEqual(status, 0, told)
+        self.assertIn(f"navd: listening at 127.0.0.1:{port}", told)
         self.assertIn("1 graphs committed, version 1", told)
 
 
@@ -131,29 +159,16 @@ class Words(InFolder):
 class Mirrors(InFolder):
     def setUp(self) -> None:
         super().setUp()
-        self.port = free_port()
-        self.servers: List["subprocess.Popen[bytes]"] = []
         self.start_server()
-        self.addCleanup(lambda: [self.stop_server(server) for server in self.servers])
         self.project = StandIn(self.folder)
         self.sessions: List[Session] = []
         self.keeper = Keeper(self.connect, is_shared=True, say=self.said.append)
         self.addCleanup(self.keeper.close)
 
     def start_server(self) -> None:
-        self.servers.append(subprocess.Popen([str(NAVD), "serve", str(self.port), "4", "100"]))
-        until = time.monotonic() + 20
-        while time.monotonic() < until:
-            with contextlib.suppress(NoConnection):
-                Session.connect(self.port).close()
-                return
-            time.sleep(0.02)
-        self.fail("navd serve doesn't listen")
-
-    @staticmethod
-    def stop_server(server: "subprocess.Popen[bytes]") -> None:
-        server.kill()
-        server.wait()
+        self.server = NavdServe(str(NAVD))
+        self.addCleanup(self.server.end)
+        self.port = self.server.port
 
     def connect(self) -> Session:
         self.sessions.append(Session.connect(self.port))
@@ -240,8 +255,8 @@ class Mirrors(InFolder):
     def test_another_server(self) -> None:
         self.write("main.py", "x = 1\nx\n")
         mirror = self.mirror()
-        self.stop_server(self.servers[-1])
-        with self.assertRaises(NoConnection):
+        self.server.end()
+        with dead_port() as self.port, self.assertRaises(NoConnection):
             mirror.follow()
         self.start_server()
         mirror.follow()
@@ -256,55 +271,61 @@ class Translator(InFolder):
         self.write("pkg/__init__.py", "")
         self.write("pkg/tools.py", "class Box:\n    def size(self):\n        return 1\n")
         self.write("main.py", "from pkg.tools import Box as B\nb = B()\nb.size()\n")
-        port = free_port()
-        words = [self.folder, "--port", str(port), "--start", "--navd", str(NAVD), "--no-cache", "--every", "0.1"]
-        clients = os.path.dirname(os.path.dirname(os.path.abspath(serve.__file__)))
-        keeper = subprocess.Popen(
-            [sys.executable, "-m", "navd_py", "serve", *words],
-            env={**os.environ, "PYTHONPATH": clients},
-            stderr=subprocess.PIPE,
-        )
-        self.addCleanup(keeper.wait)
-        self.addCleanup(keeper.kill)
-        assert keeper.stderr
-        self.addCleanup(keeper.stderr.close)
-
-        def read_up_to(part: str) -> None:
-            for line in keeper.stderr or ():
-                if part in line.decode():
-                    return
-            self.fail(f"it never says {part!r}")
-
+        keeper, port = self.started()
         question = {"do": "define", "path": "main.py.sg.json", "line": 2, "column": 2}
-        read_up_to("3 graphs committed, version 1")
+        read = keeper.errors.wait_for("read 3 files in")
         with Session.connect(port) as session:
             session.request({"do": "hello", "user": "operator"})
             found = session.request(question)["rows"]
             self.assertEqual([(row["path"], row["span"]) for row in found], [("pkg/tools.py.sg.json", [1, 8, 1, 12])])
             self.write("pkg/tools.py", "# more\nclass Box:\n    def size(self):\n        return 1\n")
-            read_up_to("version 2")
+            keeper.errors.wait_for("1 files changed", read)
             session.request({"do": "pin"})
             self.assertEqual(session.request(question)["rows"][0]["span"], [2, 8, 2, 12])
-        keeper.terminate()
-        self.assertEqual(keeper.wait(20), 0)
-        with self.assertRaises(NoConnection):
-            Session.connect(port)
+            keeper.process.terminate()
+            self.assertEqual(keeper.status(), 0)
+            with self.assertRaises(SessionEnded):  # the server has ended with what started it
+                session.request({"do": "pin"})
+
+    def started(self) -> "tuple[Process, int]":
+        """A `navd-py serve` with a server of its own, and the port that this has got."""
+        clients = os.path.dirname(os.path.dirname(os.path.abspath(serve.__file__)))
+        for port in ports():
+            words = [self.folder, "--port", str(port), "--start", "--navd", str(NAVD), "--no-cache", "--every", "0.1"]
+            keeper = Process([sys.executable, "-m", "navd_py", "serve", *words], {"PYTHONPATH": clients})
+            self.addCleanup(keeper.end)
+            if keeper.errors.find("navd: listening at ") is not None:
+                return keeper, port
+            said = "\n".join(keeper.errors.seen)
+            self.assertTrue(any(part in said for part in TAKEN), said)
+        raise AssertionError("not reached")
 
 
 @unittest.skipUnless(NAVD, "there is no navd: the environment variable NAVD names one")
 class OwnServers(unittest.TestCase):
     def test_it_is_started_and_ended(self) -> None:
-        port, said = free_port(), []  # type: ignore[var-annotated]
-        server = OwnServer(NAVD, port, 2, 10, said.append)
-        self.addCleanup(server.end)
-        server.ensure()
-        server.ensure()
-        self.assertEqual(len(said), 1)
-        with Session.connect(port) as session:
-            self.assertEqual(session.request({"do": "hello", "user": "operator"}), {"version": 0})
-        server.end()
-        with self.assertRaises(NoConnection):
-            Session.connect(port)
+        said: List[str] = []
+        with contextlib.redirect_stderr(io.StringIO()):
+            server, port = self.started(said)
+            server.ensure()
+            self.assertEqual(len(said), 1)
+            with Session.connect(port) as session:
+                self.assertEqual(session.request({"do": "hello", "user": "operator"}), {"version": 0})
+                server.end()
+                with self.assertRaises(SessionEnded):
+                    session.request({"do": "pin"})
+
+    def started(self, said: List[str]) -> "tuple[OwnServer, int]":
+        for port in ports():
+            server = OwnServer(NAVD, port, 2, 10, said.append)
+            self.addCleanup(server.end)
+            try:
+                server.ensure()
+                return server, port
+            except NoProgram as failure:
+                if not any(part in str(failure) for part in TAKEN):
+                    raise
+        raise AssertionError("not reached")
 
     def test_a_port_in_use(self) -> None:
         with socket.socket() as taken:
@@ -317,9 +338,10 @@ class OwnServers(unittest.TestCase):
                 server.ensure()
 
     def test_words_that_navd_refuses(self) -> None:
-        server = OwnServer(NAVD, free_port(), 99, 10, lambda _: None)
-        with self.assertRaisesRegex(NoProgram, "status 2"):
-            server.ensure()
+        with dead_port() as port, contextlib.redirect_stderr(io.StringIO()) as told:
+            with self.assertRaisesRegex(NoProgram, "status 2"):
+                OwnServer(NAVD, port, 99, 10, lambda _: None).ensure()
+        self.assertIn("usage", told.getvalue())
 
 
 if __name__ == "__main__":

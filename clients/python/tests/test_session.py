@@ -14,6 +14,8 @@ from unittest import mock
 from navd_py import session as sessions
 from navd_py.session import NoConnection, NoProgram, Session, SessionEnded, TooLong, find_program
 
+from servers import SECONDS
+
 HERE = os.path.dirname(os.path.abspath(__file__))
 NAVD = os.environ.get("NAVD") or shutil.which("navd")
 
@@ -240,7 +242,9 @@ class RealProgram(unittest.TestCase):
     def test_it_ends_by_itself_with_the_session(self) -> None:
         session = Session(NAVD)
         session.request({"do": "hello", "user": "operator"})
-        session.close()
+        with mock.patch.object(sessions, "SECONDS_TO_END", SECONDS):  # however long it takes, nobody kills it
+            session.close()
+        self.assertEqual(session._other.process.returncode, 0)
         session.close()
 
 

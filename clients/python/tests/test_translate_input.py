@@ -5,7 +5,7 @@ from __future__ import annotations
 import os
 import unittest
 
-from marked import Marked
+from marked import Marked, program
 
 from navd_py.keeper import Keeper
 from navd_py.project import Project, graph_path
@@ -133,7 +133,8 @@ class Input(Marked):
         project = Project(self.folder, cache=False)
         result = project.translated("m.py")
         self.assertIsNone(result.fault)
-        keeper = Keeper(lambda: Session())
+        name = program()
+        keeper = Keeper(lambda: Session(name))
         self.addCleanup(keeper.close)
         keeper.put(graph_path("m.py"), result.source)
         keeper.commit()
