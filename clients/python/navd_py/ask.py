@@ -11,8 +11,9 @@ import os
 import sys
 import time
 from dataclasses import dataclass
-from typing import Any, Callable, Dict, List, Optional, Sequence, TextIO, Tuple
+from typing import Any, Callable, Dict, List, Optional, Sequence, Set, TextIO, Tuple
 
+from . import by_name
 from .keeper import Keeper, Refused
 from .project import Project, Translated, graph_path, source_path
 from .session import NoProgram, Reply, Request, Session
@@ -172,6 +173,23 @@ class Folder:
                 found.append(self.shown(point.path, line, span[1]))
         return found[:1]
 
+    def files(self) -> by_name.Files:
+        """The graphs of the files, to look for names in them."""
+        paths = [graph_path(path) for path in self.results]
+        return by_name.Files(paths, self.keeper.source, self.keeper.ask)
+
+    def definition_at(self, point: Point) -> Optional[by_name.Node]:
+        """The definition that navd means at a point, where there is one."""
+        at = self.request("define", point)
+        return self.files().definition_at(at["path"], at["line"], at["column"])
+
+    def by_name(self, wanted: Set[by_name.Node]) -> by_name.Found:
+        """Who refers to these definitions, of which navd doesn't tell it by itself."""
+        progress = Progress("places asked")
+        found = by_name.references(self.files(), wanted, progress)
+        progress.end()
+        return found
+
     def is_able(self, do: str) -> bool:
         """Whether this navd answers such requests."""
         reply = self.keeper.ask([{"do": do, "path": graph_path("none"), "node": 0}])[0]
@@ -182,14 +200,17 @@ def text_of(place: Dict[str, Any]) -> str:
     return f"{place['path']}:{place['line']}:{place['column']}: {place['text']}"
 
 
-def told(places: Sequence[Dict[str, Any]], limited: bool, as_json: bool) -> int:
-    """Writes places, and whether there may be more."""
+def told(places: Sequence[Dict[str, Any]], limited: bool, as_json: bool, note: str = "") -> int:
+    """Writes places, whether there may be more, and how they were found where that isn't plain."""
+    if note:
+        print(f"navd-py: {note}", file=sys.stderr)
     if as_json:
-        print(json.dumps({"limit": limited, "places": list(places)}, ensure_ascii=False))
+        whole: Dict[str, Any] = {"limit": limited, "places": list(places)}
+        print(json.dumps({**whole, "note": note} if note else whole, ensure_ascii=False))
     else:
         for place in places:
             print(text_of(place))
-    if limited:
+    if limited and not note:
         print("navd-py: there may be more: some paths are longer than navd follows", file=sys.stderr)
     if not places and not as_json:
         print("navd-py: none found in the folder", file=sys.stderr)
@@ -208,31 +229,29 @@ def references(folder: Folder, point: Point, as_json: bool) -> int:
     """Who refers to the definition at a point, or to the definitions of the name there."""
     do = "callers" if folder.is_able("callers") else "references"
     first = folder.keeper.ask([folder.request(do, point)])[0]
-    replies = [first]
+    asked: List[Tuple[Optional[by_name.Node], Reply]] = [(None, first)]
+    if first.get("error") == "crowded":
+        asked = [(folder.definition_at(point), first)]
     if first.get("error") == "no_definition":
         meant = folder.keeper.ask([folder.request("define", point)])[0]
         if meant.get("error") == "no_reference":
             return told([], False, as_json)
         refuse_errors(folder, point.path, meant)
-        replies = folder.keeper.ask([{"do": do, "path": row["path"], "node": row["node"]} for row in meant["rows"]])
-    rows: Dict[Tuple[str, int], Dict[str, Any]] = {}
-    for reply in replies:
-        if reply.get("error") == "crowded":
-            raise Unanswerable(crowded(do))
-        refuse_errors(folder, point.path, reply)
-        rows.update(((row["path"], row["node"]), row) for row in reply["rows"])
-    limited = any(reply.get("limit") for reply in replies)
+        nodes = [(row["path"], row["node"]) for row in meant["rows"]]
+        asked = list(zip(nodes, folder.keeper.ask([{"do": do, "path": path, "node": node} for path, node in nodes])))
+    rows: Dict[by_name.Node, Dict[str, Any]] = {}
+    crowded = {node for node, reply in asked if reply.get("error") == "crowded" and node is not None}
+    for node, reply in asked:
+        if node not in crowded:
+            refuse_errors(folder, point.path, reply)
+            rows.update(((row["path"], row["node"]), row) for row in reply["rows"])
+    limited, note = any(reply.get("limit") for _, reply in asked), ""
+    if crowded:
+        found = folder.by_name(crowded)
+        rows.update(((row["path"], row["node"]), row) for row in found.rows)
+        limited, note = limited or not found.is_whole, found.told()
     places = [folder.place(row) for row in rows.values()]
-    return told(sorted(places, key=lambda place: (place["path"], place["line"], place["column"])), limited, as_json)
-
-
-def crowded(do: str) -> str:
-    if do == "callers":
-        return "too many paths lead to this definition, so navd doesn't list who refers to it"
-    return (
-        "somewhere in the folder a name has too many paths, and this navd, which looks at all names to find references,"
-        " lists none; `check` tells which"
-    )
+    return told(sorted(places, key=lambda one: (one["path"], one["line"], one["column"])), limited, as_json, note)
 
 
 def refuse_errors(folder: Folder, path: str, reply: Reply) -> None:

@@ -116,6 +116,10 @@ class Keeper:
         """Lets a user see the files at a prefix, in this session and those after it."""
         self._views[user] = prefix
 
+    def source(self, path: str) -> Optional[bytes]:
+        """The graph that navd is to have at a path, or None."""
+        return self._wanted.get(path)
+
     @property
     def paths(self) -> Iterable[str]:
         """The paths of the graphs that navd is to have."""

@@ -31,9 +31,12 @@ def ports() -> Iterator[int]:
     starts a server there goes on to the next one where it can't listen."""
     while True:
         port = random.randrange(10_000, max(first_dynamic(), 12_000))
-        with contextlib.suppress(OSError), socket.socket() as taken:
-            taken.bind(("127.0.0.1", port))
-            yield port
+        try:
+            with socket.socket() as taken:
+                taken.bind(("127.0.0.1", port))
+        except OSError:
+            continue
+        yield port
 
 
 @contextlib.contextmanager

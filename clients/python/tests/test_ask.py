@@ -77,6 +77,27 @@ class Asking(unittest.TestCase):
         self.assertIn("callers", asked)
         self.assertNotIn("references", asked)
 
+    def test_references_where_too_many_ways_lead(self) -> None:
+        """With a navd that tells of no definition who refers to it."""
+        ask = Keeper.ask
+
+        def ask_crowded(keeper: Keeper, requests: Sequence[Any], user: str = "operator") -> List[Any]:
+            replies = ask(keeper, requests, user)
+            told = zip((request["do"] for request in requests), replies)
+            return [{"error": "crowded"} if "rows" in one and do in ("callers", "references") else one for do, one in told]
+
+        with mock.patch.object(Keeper, "ask", ask_crowded):
+            status, lines, errors = self.ask("references", "pkg/tools.py:2:9")
+            self.assertEqual((status, lines), (0, ["main.py:3:3: b.size()"]))
+            self.assertIn("each place where size stands was asked: 1 places", errors)
+            status, lines, errors = self.ask("references", "pkg/tools.py:1:7")
+            self.assertEqual((status, len(lines)), (0, 4))
+            self.assertIn("Box, Case", errors)
+            with mock.patch("navd_py.by_name.MOST_PLACES", 1):
+                found = self.json("references", "main.py:2:6")
+        self.assertEqual((len(found["places"]), found["limit"]), (1, True))
+        self.assertIn("there may be more references", found["note"])
+
     def test_uses_of_a_file_that_navd_refuses(self) -> None:
         with mock.patch.object(Keeper, "commit", lambda keeper: keeper.refused.update({"main.py.sg.json": "why"}) or 0):
             status, lines, errors = self.ask("uses", "main.py")

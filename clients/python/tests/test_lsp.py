@@ -17,6 +17,7 @@ from navd_py.lsp.background import Loading
 from navd_py.lsp.documents import Document
 from navd_py.lsp.folder import Folder
 from navd_py.lsp.frames import BadFrame, Message, frame, read_messages
+from navd_py.lsp.inbox import Inbox
 from navd_py.lsp.places import character_of, column_of, word_at
 from navd_py.lsp.protocol import InvalidParams
 from navd_py.lsp.server import Options, Server
@@ -49,12 +50,6 @@ def held_reading() -> Iterator[threading.Event]:
             yield go_on
         finally:
             go_on.set()
-
-
-def knows_callers() -> bool:
-    with Session(NAVD) as session:
-        session.request({"do": "hello", "user": "operator"})
-        return session.callers("a.py", 0) != {"error": "bad_request", "field": "do"}
 
 
 def messages(data: bytes, piece: int = 7) -> List[Any]:
@@ -407,12 +402,7 @@ class Questions(ServerTest):
         place = {"textDocument": {"uri": uri}, "position": {"line": 2, "character": 0}}
         self.assertIn("8,192", editor.error("textDocument/definition", place)["message"])
         place = {"textDocument": {"uri": uri}, "position": {"line": 0, "character": 0}, "context": {}}
-        answer = editor.answer(editor.begin("textDocument/references", place))
-        if knows_callers():
-            self.assertEqual(len(answer["result"]), 1)
-        else:
-            self.assertEqual(answer["error"]["code"], -32803)
-            self.assertIn("somewhere in the project", answer["error"]["message"])
+        self.assertEqual(shown(editor.ask("textDocument/references", place)), ["main.py:1:0"])
 
     def test_callers_are_asked_where_navd_has_them(self) -> None:
         """With a navd that answers `callers`, as far as the server sees: they are `references` without a flag."""
@@ -443,15 +433,57 @@ class Questions(ServerTest):
 
         def crowd_one(keeper: Keeper, requests: Sequence[Any], user: str = "operator") -> List[Any]:
             replies = ask(keeper, requests, user)
-            is_crowded = requests[0]["do"] == "references" and requests[0]["path"] == "0/other.py.sg.json"
+            is_asked = requests[0]["do"] in ("callers", "references")
+            is_crowded = is_asked and requests[0]["path"] == "0/other.py.sg.json"
             return [{"error": "crowded"}] if is_crowded else replies
 
         with mock.patch.object(Keeper, "ask", crowd_one):
             editor = self.begin()
             uri = editor.open(main)
-            self.server.server.queries._has_callers = False
             self.assertEqual(editor.references(uri, 1, 0), ["main.py:1:0"])
-        self.assertIn("some references are missing", editor.messages()[0])
+            self.assertEqual(editor.messages(), [])
+            self.assertIn("each place where x stands", editor.messages("window/logMessage")[0])
+            with mock.patch("navd_py.by_name.MOST_PLACES", 0):
+                self.assertEqual(editor.references(uri, 1, 0), ["main.py:1:0"])
+        self.assertIn("some references may be missing", editor.messages()[0])
+
+    def test_references_to_what_is_crowded(self) -> None:
+        main = self.write("main.py", "crowd = 1\ncrowd\ncrowded\n")
+        self.write("other.py", "crowd\n")
+        editor = self.begin()
+        uri = editor.open(main)
+        self.assertEqual(editor.references(uri, 0, 0), ["main.py:1:0", "other.py:0:0"])
+        told = editor.messages("window/logMessage")
+        self.assertEqual(len(told), 1, told)
+        self.assertIn("each place where crowd stands was asked: 2 places", told[0])
+        self.assertEqual(editor.messages(), [])
+
+    def test_references_by_name_are_cancelled(self) -> None:
+        main = self.write("main.py", "crowd = 1\n" + "crowd\n" * 200 + "crowded\n")
+        editor = self.begin()
+        uri = editor.open(main)
+        self.assertEqual(editor.definition(uri, 0, 0), ["main.py:0:0"])
+        place = {"textDocument": {"uri": uri}, "position": {"line": 0, "character": 0}, "context": {}}
+        asked: List[int] = []
+        ask, is_cancelled = Keeper.ask, threading.Event()
+
+        def ask_slowly(keeper: Keeper, requests: Sequence[Any], user: str = "operator") -> List[Any]:
+            if len(requests) > 1:
+                asked.append(len(requests))
+                is_cancelled.wait(SECONDS)
+            return ask(keeper, requests, user)
+
+        inner = Inbox._cancel
+
+        def cancel(inbox: Inbox, params: Any) -> None:
+            inner(inbox, params)
+            is_cancelled.set()
+
+        with mock.patch.object(Keeper, "ask", ask_slowly), mock.patch.object(Inbox, "_cancel", cancel):
+            number = editor.begin("textDocument/references", place)
+            editor.notify("$/cancelRequest", {"id": number})
+            self.assertEqual(editor.answer(number)["error"]["code"], -32800)
+        self.assertLessEqual(len(asked), 1)
 
     def test_more_files_than_navd_takes(self) -> None:
         """With a navd that takes 20 files, as far as the server sees."""

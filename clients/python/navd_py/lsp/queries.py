@@ -6,6 +6,7 @@ import re
 import unicodedata
 from typing import Any, Callable, Dict, List, Optional, Sequence, Set, Tuple
 
+from .. import by_name
 from ..keeper import Refused
 from ..project import Definition
 from ..session import NoConnection, NoProgram, Reply
@@ -20,11 +21,6 @@ Place = Tuple[str, Tuple[int, int, int, int]]
 MOST_HIGHLIGHTS = 2_000
 
 CROWDED_DEFINITION = "too many paths lead from this name to definitions (more than 8,192), so navd lists none of them"
-CROWDED_CALLERS = "too many paths lead to this definition (more than 8,192), so navd doesn't list who refers to it"
-CROWDED_PROJECT = (
-    "somewhere in the project a name has too many paths (more than 8,192); this navd looks at all names to find "
-    "references, so it lists none"
-)
 
 # The kinds of `DocumentHighlight`.
 READ, WRITE = 2, 3
@@ -33,9 +29,10 @@ READ, WRITE = 2, 3
 class Queries:
     """Answers questions over a workspace. `check` is called between steps, and raises where no answer is wanted."""
 
-    def __init__(self, workspace: Workspace, warn: Callable[[str], None]) -> None:
+    def __init__(self, workspace: Workspace, warn: Callable[[str], None], log: Callable[[str], None]) -> None:
         self.workspace = workspace
         self.warn = warn
+        self.log = log
         self._has_callers: Optional[bool] = None
 
     def definition(self, name: Name, is_read: bool = True) -> List[Dict[str, Any]]:
@@ -55,25 +52,45 @@ class Queries:
         folder = name.folder
         asked = "callers" if self.has_callers() else "references"
         meant = self._ask(folder, [_at("define", name)])[0]
-        questions = [{"do": asked, "path": row["path"], "node": row["node"]} for row in meant.get("rows", ())]
-        questions.append(_at(asked, name))
+        nodes = [(row["path"], row["node"]) for row in meant.get("rows", ())]
+        questions = [{"do": asked, "path": path, "node": node} for path, node in nodes]
+        questions.append({**_at(asked, name), "column": name.end})  # at the start of a file stands its module, too
         found: Set[Place] = set()
-        is_crowded = False
-        for question in questions:
+        crowded: Set[by_name.Node] = set()
+        for number, question in enumerate(questions):
             check()
             reply = self._ask(folder, [question])[0]
-            is_crowded = is_crowded or reply.get("error") == "crowded"
             found.update(_places(folder, reply))
+            if reply.get("error") == "crowded":
+                crowded.add(nodes[number] if number < len(nodes) else self._node_at(name, check))
+        if crowded:
+            found.update(self._by_name(folder, crowded, check))
         if with_declarations:
             found.update(_places(folder, meant))
             found.update(place for place, _ in self._own(name))
-        if is_crowded:
-            message = CROWDED_CALLERS if asked == "callers" else CROWDED_PROJECT
-            if not found:
-                raise ResponseError(REQUEST_FAILED, message)
-            self.warn(f"some references are missing: {message}")
         check()
         return [self.workspace.location(folder, *place) for place in sorted(found)]
+
+    def _node_at(self, name: Name, check: Callable[[], None]) -> by_name.Node:
+        """The definition that navd means at a name."""
+        place = name.folder.place_in_navd(name.path)
+        found = self._files(name.folder, check).definition_at(place, name.line, name.end)
+        if found is None:
+            raise ResponseError(REQUEST_FAILED, CROWDED_DEFINITION)
+        return found
+
+    def _by_name(self, folder: Folder, wanted: Set[by_name.Node], check: Callable[[], None]) -> List[Place]:
+        """Who refers to these definitions, of which navd doesn't tell it by itself. How it is found is logged, and it is
+        shown where some may be missing."""
+        found = by_name.references(self._files(folder, check), wanted)
+        self.log(found.told())
+        if not found.is_whole:
+            self.warn(f"some references may be missing: {found.told()}")
+        return _places(folder, {"rows": found.rows})
+
+    def _files(self, folder: Folder, check: Callable[[], None]) -> by_name.Files:
+        paths = [folder.place_in_navd(path) for path in sorted(folder.states)]
+        return by_name.Files(paths, folder.keeper.source, lambda questions: self._ask(folder, questions), check)
 
     def highlights(self, name: Name, check: Callable[[], None]) -> List[Dict[str, Any]]:
         """The places of a document at which its name means what it means at one place: `DocumentHighlight`s."""

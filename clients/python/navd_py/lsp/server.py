@@ -51,7 +51,11 @@ class Server:
         self.inbox = Inbox(read, self.client)
         self.keeper = Keeper(self._open_session, say=self._tell_of_navd)
         self.workspace = Workspace(self.keeper, self._project_of, UTF16)
-        self.queries = Queries(self.workspace, lambda message: self.client.show(protocol.WARNING, message))
+        self.queries = Queries(
+            self.workspace,
+            lambda message: self.client.show(protocol.WARNING, message),
+            lambda message: self.client.log(protocol.INFO, message),
+        )
         self.symbols = WorkspaceSymbols(self.workspace)
         self.diagnostics = Diagnostics(self.workspace, self.client)
         self.capabilities: Dict[str, Any] = {}
