@@ -1,6 +1,7 @@
 """Names the construct of a Python text for which navd refuses a line, as Python's own tokens and tree tell it.
 
 It looks for the forms that navd doesn't read, and is no part of the server. Lines count from 0, as navd tells them.
+`ask.py` beside it has it told of files that are refused; by itself it is no command.
 """
 
 import ast
@@ -191,3 +192,7 @@ def parameter_forms(node: ast.arguments) -> Iterator[Found]:
     for parameter in [*node.posonlyargs, *node.args, *node.kwonlyargs, node.vararg, node.kwarg]:
         if parameter is not None and parameter.annotation is not None:
             yield parameter.lineno - 1, parameter.col_offset, "annotation of a parameter"
+
+
+if __name__ == "__main__":
+    raise SystemExit("constructs.py is a part of ask.py, and no command by itself")

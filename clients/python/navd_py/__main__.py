@@ -6,12 +6,15 @@ import importlib
 import sys
 from typing import List, Optional
 
+from . import __version__
+
 # Each command with the module that carries it out, by its `main`.
 COMMANDS = {"ask": "navd_py.ask", "lsp": "navd_py.lsp", "serve": "navd_py.serve"}
 
 USAGE = """usage: navd-py ask FOLDER define|references|uses|check ..
        navd-py lsp ..
        navd-py serve FOLDER --port PORT ..
+       navd-py --version
 Each command tells more with --help."""
 
 
@@ -20,6 +23,9 @@ def main(words: Optional[List[str]] = None) -> int:
     given = sys.argv[1:] if words is None else words
     if given and given[0] in ("-h", "--help"):
         print(USAGE)
+        return 0
+    if given == ["--version"]:
+        print(f"navd-py {__version__}")
         return 0
     if not given or given[0] not in COMMANDS:
         print(USAGE, file=sys.stderr)

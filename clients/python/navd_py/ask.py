@@ -99,6 +99,11 @@ class Folder:
     def load(self) -> None:
         """Translates the files and commits their graphs."""
         paths = self.project.scan()
+        unread = self.project.walker.unread
+        if not paths:
+            reason = unread.get(".", "it has no Python files, or none that isn't left out")
+            raise Unanswerable(f"nothing can be asked of {self.project.folder}: {reason}")
+        self.left_out.extend(unread.items())
         progress = Progress("translated")
         for result in self.project.translate_all(paths, progress):
             self.results[result.path] = result
@@ -377,7 +382,8 @@ def parser() -> argparse.ArgumentParser:
 def answer(given: argparse.Namespace) -> int:
     """Answers the question; raises Unanswerable, Refused and NoProgram."""
     if not os.path.isdir(given.folder):
-        raise Unanswerable(f"there is no folder {given.folder}")
+        what = "is no folder" if os.path.exists(given.folder) else "isn't there"
+        raise Unanswerable(f"{given.folder} {what}")
     if given.place is None and given.question != "check":
         form = "PATH" if given.question == "uses" else "PATH:LINE:COLUMN"
         raise Unanswerable(f"`{given.question}` needs a place: {form}")

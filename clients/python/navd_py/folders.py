@@ -4,7 +4,7 @@ from __future__ import annotations
 
 import os
 import re
-from typing import Iterable, Iterator, List, Pattern, Sequence, Tuple
+from typing import Dict, Iterable, Iterator, List, Pattern, Sequence, Tuple
 
 # Folders that hold no text of the project's own.
 JUNK = frozenset(
@@ -89,6 +89,7 @@ class Walker:
         self.folder = folder
         self.excludes = Excludes(excludes)
         self.ignored = Excludes(ignored_folders(folder))
+        self.unread: Dict[str, str] = {}  # the folders that couldn't be read the last time, with the reasons
 
     def is_left_out(self, path: str) -> bool:
         """Whether a file at this path is none of the project's, by its name and the names of its folders."""
@@ -106,8 +107,13 @@ class Walker:
         # The mark of a virtual environment, whatever its name.
         return os.path.exists(os.path.join(self.folder, path, "pyvenv.cfg"))
 
+    def _note(self, error: OSError) -> None:
+        place = os.path.relpath(error.filename or self.folder, self.folder).replace(os.sep, "/")
+        self.unread[place] = f"the folder can't be read: {error.strerror}"
+
     def files(self) -> Iterator[str]:
-        for place, folders, names in os.walk(self.folder):
+        self.unread = {}
+        for place, folders, names in os.walk(self.folder, onerror=self._note):
             inner = os.path.relpath(place, self.folder).replace(os.sep, "/")
             prefix = "" if inner == "." else inner + "/"
             folders[:] = [name for name in folders if not self._folder_out(prefix + name, name)]

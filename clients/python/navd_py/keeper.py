@@ -164,9 +164,9 @@ class Keeper:
             except SessionEnded as end:
                 self.close()
                 self._ends.append(time.monotonic())
-                self._say(str(end))
                 if is_last:
-                    raise Refused(str(end)) from None
+                    raise Refused(f"another session, too: {end}") from None
+                self._say(str(end))
         raise AssertionError("not reached")
 
     def _connect(self) -> None:

@@ -165,6 +165,7 @@ class Mirror:
     def _tell_left_out(self) -> None:
         """Tells of each file that is left out, or is taken again, where that is news."""
         left_out = {path: f"line {fault.line + 1}: {fault.message}" for path, fault in self._faults.items()}
+        left_out.update(self._project.walker.unread)
         for path in self._known:
             reason = self._keeper.refused.get(self._place(path))
             if reason is not None:

@@ -118,6 +118,7 @@ class _Program:
         assert self.process.stdin and self.process.stdout and self.process.stderr
         self.sink = self.process.stdin
         self.source = io.BufferedReader(cast(io.RawIOBase, self.process.stdout), PIECE)
+        self.program = program
         self.errors = b""
         self.drain = threading.Thread(target=self._keep_errors, args=(self.process.stderr,), daemon=True)
         self.drain.start()
@@ -152,7 +153,7 @@ class _Program:
         why = f"signal {-status}" if status < 0 else f"status {status}"
         meaning = f", {STATUSES[status]}" if status in STATUSES else ""
         errors = self.errors.decode("utf-8", "replace").strip()
-        return SessionEnded(f"{what}: navd ended with {why}{meaning}", status, errors)
+        return SessionEnded(f"{what}: {self.program} ended with {why}{meaning}", status, errors)
 
     def close(self) -> None:
         try:
@@ -227,6 +228,11 @@ class Session:
 
     def __exit__(self, *_: object) -> None:
         self.close()
+
+    @property
+    def process(self) -> Optional[int]:
+        """The number of the process of a `navd run` that is started here; None of a connection."""
+        return self._other.process.pid if isinstance(self._other, _Program) else None
 
     @property
     def alive(self) -> bool:

@@ -3,12 +3,15 @@
 from __future__ import annotations
 
 import contextlib
+import math
 import os
 import random
 import socket
 import subprocess
 import threading
+import unittest
 from typing import IO, Dict, Iterator, List, Optional, Sequence
+from unittest import mock
 
 # So many seconds tests wait for what has to come, and then fail. A machine may be slow, and nothing else depends on it.
 SECONDS = 300.0
@@ -16,6 +19,13 @@ SECONDS = 300.0
 NO_PORT = 8
 # Ports that the system may give to any connection begin here, where it doesn't say otherwise (RFC 6335, section 6).
 FIRST_DYNAMIC = 49_152
+
+
+def patient(test: unittest.TestCase) -> None:
+    """In this test nothing is cut, however long it takes."""
+    unbounded = mock.patch("navd_py.by_name.MOST_SECONDS", math.inf)
+    unbounded.start()
+    test.addCleanup(unbounded.stop)
 
 
 def first_dynamic() -> int:

@@ -11,6 +11,7 @@ import json
 import os
 from typing import Any, Callable, Dict, Iterable, Iterator, List, Optional, Sequence, Tuple
 
+from navd_py.folders import Walker
 from navd_py.project import Definition, Fault, Translated
 
 
@@ -21,6 +22,7 @@ class StandIn:
         self, folder: str, *, roots: Sequence[str] = (), excludes: Sequence[str] = (), cache: bool = True
     ) -> None:
         self.folder = folder
+        self.walker = Walker(folder, excludes)
         self.texts: Dict[str, Optional[str]] = {}
 
     def scan(self) -> List[str]:

@@ -16,6 +16,7 @@ from typing import Any, Dict, List, Sequence, Tuple
 from unittest import mock
 
 from marked import program
+from servers import patient
 
 from navd_py.__main__ import main
 from navd_py.ask import Progress
@@ -35,6 +36,7 @@ class Asking(unittest.TestCase):
         quiet = mock.patch("navd_py.ask.QUIET_SECONDS", math.inf)  # however long it takes, no progress is told
         quiet.start()
         self.addCleanup(quiet.stop)
+        patient(self)
         self.folder = tempfile.mkdtemp()
         self.addCleanup(shutil.rmtree, self.folder, True)
         for path, text in FILES.items():
@@ -182,8 +184,48 @@ class Asking(unittest.TestCase):
                 self.assertIn(part, errors)
 
     def test_a_folder_that_is_none(self) -> None:
-        self.folder = os.path.join(self.folder, "none")
-        self.assertEqual(self.ask("check")[0], 2)
+        top = self.folder
+        self.folder = os.path.join(top, "none")
+        status, _, errors = self.ask("check")
+        self.assertEqual((status, errors), (2, f"navd-py: {self.folder} isn't there\n"))
+        self.folder = os.path.join(top, "main.py")
+        status, _, errors = self.ask("check")
+        self.assertEqual((status, errors), (2, f"navd-py: {self.folder} is no folder\n"))
+
+    def test_a_folder_without_files(self) -> None:
+        self.folder = tempfile.mkdtemp()
+        self.addCleanup(shutil.rmtree, self.folder, True)
+        status, lines, errors = self.ask("check")
+        self.assertEqual((status, lines), (2, []))
+        self.assertIn("it has no Python files", errors)
+
+    def test_folders_that_can_not_be_read(self) -> None:
+        scan = os.scandir
+
+        def scan_but(place: str) -> Any:
+            if place in without_rights:
+                raise PermissionError(13, "Permission denied", place)
+            return scan(place)
+
+        without_rights = [os.path.join(self.folder, "pkg")]
+        with mock.patch.object(os, "scandir", scan_but):
+            status, _, errors = self.ask("check")
+            self.assertEqual(status, 0)
+            self.assertIn("left out pkg: the folder can't be read: Permission denied", errors)
+            without_rights.append(self.folder)
+            status, _, errors = self.ask("check")
+        self.assertEqual(status, 2)
+        self.assertIn("the folder can't be read: Permission denied", errors)
+
+    def test_another_program_in_place_of_navd(self) -> None:
+        other = os.path.join(self.folder, "other")
+        with open(other, "w", encoding="utf-8") as file:
+            file.write("#!/bin/sh\necho no navd >&2\n")
+        os.chmod(other, 0o700)
+        status, lines, errors = self.ask("define", "main.py:3:3", "--navd", other)
+        self.assertEqual((status, lines), (2, []))
+        self.assertIn(f"another session, too: there is no reply: {other} ended with status 0", errors)
+        self.assertIn("no navd", errors)
 
     def test_as_a_program(self) -> None:
         words = [sys.executable, "-m", "navd_py", "ask", self.folder, "define", "main.py:3:3", "--no-cache"]

@@ -8,6 +8,7 @@ from typing import Any, Dict, List, Sequence, Set, Tuple
 from unittest import mock
 
 from marked import Marked, program
+from servers import patient
 
 from navd_py import by_name
 from navd_py.by_name import Files, Found, Node, references
@@ -28,6 +29,10 @@ BOX, SIZE = ("pkg/tools.py", 0, 6), ("pkg/tools.py", 1, 8)
 
 class Translated(Marked):
     """The graphs of some files."""
+
+    def setUp(self) -> None:
+        super().setUp()
+        patient(self)
 
     def graphs(self, files: Dict[str, str]) -> Dict[str, bytes]:
         for path, text in files.items():
@@ -57,12 +62,13 @@ class StandInForNavd(Translated):
     def found(self, files: Dict[str, str], place: Tuple[str, int, int], check: Any = lambda: None) -> Found:
         graphs = self.graphs(files)
         node = self.node_at(graphs, place)
+        nodes = {path: graph_nodes(source) for path, source in graphs.items()}
 
         def ask(questions: Sequence[Dict[str, Any]]) -> List[Dict[str, Any]]:
             self.sizes.append(len(questions))
             for question in questions:
                 self.assertEqual(question["do"], "define")
-                span = span_of(graph_nodes(graphs[question["path"]])[question["node"]])
+                span = span_of(nodes[question["path"]][question["node"]])
                 assert span is not None
                 self.asked.append((source_path(question["path"]), span[0], span[1]))
             return [self.reply or {"rows": [{"path": node[0], "node": node[1]}], "limit": False}] * len(questions)

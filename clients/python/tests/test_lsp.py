@@ -26,7 +26,7 @@ from navd_py.project import Definition
 from navd_py.session import Session
 
 from lsp_client import Editor, ServerProcess, ServerThread, shown
-from servers import SECONDS
+from servers import SECONDS, patient
 from stand_in import StandIn
 
 NAVD = os.environ.get("NAVD") or shutil.which("navd")
@@ -157,6 +157,7 @@ class ServerTest(unittest.TestCase):
         patched = mock.patch("navd_py.lsp.server.Project", StandIn)
         patched.start()
         self.addCleanup(patched.stop)
+        patient(self)
 
     def write(self, path: str, text: str) -> str:
         place = os.path.join(self.folder, path)

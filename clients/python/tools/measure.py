@@ -162,7 +162,8 @@ class Answers:
     def __init__(self, folder: str, program: Optional[str]) -> None:
         started = time.monotonic()
         self.project = Project(folder)
-        self.keeper = Keeper(lambda: Session(program))
+        self.processes: List[int] = []  # the numbers of navd's processes, the last one goes on
+        self.keeper = Keeper(lambda: self.opened(program))
         paths = self.project.scan()
         self.size = 0
         self.refused: List[Tuple[str, str]] = []
@@ -177,6 +178,11 @@ class Answers:
         self.keeper.commit()
         self.committing = time.monotonic() - started
         self.refused.extend((source_path(path), reason) for path, reason in self.keeper.refused.items())
+
+    def opened(self, program: Optional[str]) -> Session:
+        session = Session(program)
+        self.processes.append(session.process or 0)
+        return session
 
     def define(self, names: List[Name]) -> List[Dict[str, object]]:
         return self.keeper.ask([self.request(name) for name in names])
