@@ -123,8 +123,8 @@ def _ask(files: Files, piece: Sequence[Tuple[Node, Any]], wanted: Set[Node], fou
 
 
 def _places(files: Files, wanted: Set[Node], found: Found, until: float) -> List[Tuple[Node, Any]]:
-    """The places to ask, at most `MOST_PLACES`: those of the definitions' own names first, and of these the ones in their
-    own files."""
+    """The places to ask, at most `MOST_PLACES`: those of the definitions' own names first, of these the ones in their own
+    files."""
     places: List[Tuple[Node, Any]] = []
     modules, plain = _symbols(files, wanted)
     names = sorted(plain.union(module.rpartition(".")[2] for module in modules))
@@ -153,7 +153,7 @@ def _places(files: Files, wanted: Set[Node], found: Found, until: float) -> List
 
 
 def _symbols(files: Files, wanted: Set[Node]) -> Tuple[Set[str], Set[str]]:
-    """The symbols of these definitions: those of modules, which are dotted names, and the others, which are plain ones."""
+    """The symbols of these definitions: those of modules, which are dotted names, and the others, plain ones."""
     modules: Set[str] = set()
     plain: Set[str] = set()
     for path, number in wanted:
@@ -175,14 +175,13 @@ def _graphs_with(files: Files, paths: Sequence[str], names: Set[str]) -> Iterato
 
 def _references_to(nodes: Sequence[Dict[str, Any]], names: Set[str]) -> Dict[int, Any]:
     """The references by one of these names, with their spans."""
-    return {
-        number: node.get("span") for number, node in enumerate(nodes) if node.get("reference") and node["symbol"] in names
-    }
+    found = ((number, node) for number, node in enumerate(nodes) if node.get("reference") and node["symbol"] in names)
+    return {number: node.get("span") for number, node in found}
 
 
 def _other_names(graph: Dict[str, Any], references: Dict[int, Any], modules: Set[str]) -> Iterator[str]:
-    """The names that imports give to what is imported at one of these references, or to one of these modules: a pop that
-    is no definition leads straight there."""
+    """The names that imports give to what is imported at one of these references, or to one of these modules: a pop
+    that is no definition leads straight there."""
     nodes = graph["nodes"]
     for source, sink, _ in graph["edges"]:
         if not isinstance(source, int) or nodes[source]["kind"] != "pop" or nodes[source].get("definition"):

@@ -8,97 +8,24 @@ import os
 import select
 import signal
 import socket
-import subprocess
 import sys
-import threading
 import time
-from typing import IO, Callable, Dict, Iterator, List, Optional, Sequence, Set
+from typing import Callable, Dict, Iterator, List, Optional, Sequence, Set
 
 from .keeper import NO_ROOM, Keeper, Refused
+from .own_server import OwnServer
 from .project import Fault, Project, Translated, graph_path
-from .session import NoConnection, NoProgram, Session, find_program
+from .session import NoConnection, NoProgram, Session
 from .stale import LastGraphs
 from .watch import FolderWatch
 from .words import add_common_words
 
 Say = Callable[[str], None]
 
-# So many seconds a started server may take up to where it listens, and these words say on its standard error that it does.
-SECONDS_TO_LISTEN = 60.0
-LISTENING = b"navd: listening at "
 # So many seconds go by between attempts to connect anew: from, and up to.
 SHORTEST_PAUSE, LONGEST_PAUSE = 0.5, 30.0
 # While a folder is read, what was read is committed after so many seconds.
 BETWEEN_COMMITS = 2.0
-
-
-class _Said:
-    """What a server says on its standard error, which is written to that of this program."""
-
-    def __init__(self, errors: IO[bytes]) -> None:
-        self.is_told = threading.Event()  # whether it listens: it says so, or has ended
-        self.that_it_listens = False
-        threading.Thread(target=self._pass_on, args=(errors,), daemon=True).start()
-
-    def _pass_on(self, errors: IO[bytes]) -> None:
-        with errors:
-            for line in errors:
-                if line.startswith(LISTENING):
-                    self.that_it_listens = True
-                    self.is_told.set()
-                with contextlib.suppress(OSError, ValueError):
-                    sys.stderr.write(line.decode("utf-8", "replace"))
-                    sys.stderr.flush()
-        self.is_told.set()
-
-
-class OwnServer:
-    """A `navd serve` that is started here, and ends with this program."""
-
-    def __init__(self, program: Optional[str], port: int, doors: int, connections: int, say: Say) -> None:
-        self._words = [find_program(program), "serve", str(port), str(doors), str(connections)]
-        self._port = port
-        self._say = say
-        self._process: Optional["subprocess.Popen[bytes]"] = None
-
-    def ensure(self) -> None:
-        """Starts the server where it doesn't run, and waits until it listens. Raises NoProgram."""
-        if self._process is not None and self._process.poll() is None:
-            return
-        if self._is_listened():
-            raise NoProgram(f"port {self._port} is in use; without --start the server there is kept at the folder")
-        try:
-            alone = os.name == "posix"  # an interrupt at the terminal is for this program alone
-            self._process = subprocess.Popen(
-                self._words, stdin=subprocess.DEVNULL, stderr=subprocess.PIPE, start_new_session=alone
-            )
-        except OSError as error:
-            raise NoProgram(f"{self._words[0]} can't be started: {error}") from None
-        assert self._process.stderr
-        said = _Said(self._process.stderr)
-        if not said.is_told.wait(SECONDS_TO_LISTEN):
-            self.end()
-            raise NoProgram(f"{' '.join(self._words)} doesn't listen after {SECONDS_TO_LISTEN:.0f} seconds")
-        if not said.that_it_listens:
-            raise NoProgram(f"{' '.join(self._words)} ended with status {self._process.wait()}")
-        self._say(f"started {' '.join(self._words)}")
-
-    def _is_listened(self) -> bool:
-        try:
-            Session.connect(self._port).close()
-            return True
-        except NoConnection:
-            return False
-
-    def end(self) -> None:
-        """Ends the server."""
-        if self._process is not None and self._process.poll() is None:
-            self._process.terminate()
-            try:
-                self._process.wait(5)
-            except subprocess.TimeoutExpired:
-                self._process.kill()
-                self._process.wait()
 
 
 class Mirror:

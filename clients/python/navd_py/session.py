@@ -28,7 +28,7 @@ MOST_LINES = 1_000_000
 PIECE = 65_536
 # So many bytes of what navd says on standard error are kept, the last ones.
 KEPT_OF_ERRORS = 16_384
-# So many seconds a program may take to end, once its input has ended; one that was answering may be far from reading it.
+# So many seconds a program may take to end, once its input has ended; it may be far from reading that.
 SECONDS_TO_END = 5.0
 # So many it may take where it has closed its output by itself: it is about to end, and its status tells why.
 SECONDS_FOR_STATUS = 60.0

@@ -78,8 +78,8 @@ class Lines:
             self._news.notify_all()
 
     def find(self, part: str, start: int = 0) -> Optional[int]:
-        """The number of the first line from `start` on that has this part, once it is there; None where the process ends
-        without it. Fails where neither comes."""
+        """The number of the first line from `start` on that has this part, once it is there; None where the process
+        ends without it. Fails where neither comes."""
         with self._news:
             if not self._news.wait_for(lambda: self._is_ended or self._place(part, start) is not None, SECONDS):
                 raise AssertionError(f"in {SECONDS:.0f} s it neither says {part!r} nor ends; it said {self.seen}")

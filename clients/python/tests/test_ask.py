@@ -85,8 +85,8 @@ class Asking(unittest.TestCase):
 
         def ask_crowded(keeper: Keeper, requests: Sequence[Any], user: str = "operator") -> List[Any]:
             replies = ask(keeper, requests, user)
-            told = zip((request["do"] for request in requests), replies)
-            return [{"error": "crowded"} if "rows" in one and do in ("callers", "references") else one for do, one in told]
+            refused = [request["do"] in ("callers", "references") for request in requests]
+            return [{"error": "crowded"} if no and "rows" in one else one for no, one in zip(refused, replies)]
 
         with mock.patch.object(Keeper, "ask", ask_crowded):
             status, lines, errors = self.ask("references", "pkg/tools.py:2:9")

@@ -761,7 +761,7 @@ class Box:
 
 
 def wait_until_it_waits(process: int) -> None:
-    """Waits up to where the main thread of a process waits in the system, and hasn't run meanwhile (Linux, proc(5))."""
+    """Waits up to where the main thread of a process waits in the system, and hasn't run meanwhile: Linux, proc(5)."""
 
     def look() -> Dict[str, str]:
         with open(f"/proc/{process}/task/{process}/status", encoding="ascii") as file:

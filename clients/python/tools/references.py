@@ -1,12 +1,13 @@
 #!/usr/bin/env python3
 """Counts how who refers to a definition is found, for definitions of a folder drawn by a seed.
 
-    python3 tools/references.py FOLDER [--count N] [--jedi N] [--seed S] [--only PREFIX] [--navd PROGRAM]
+    python3 tools/references.py FOLDER [--crowd] [--count N] [--jedi N] [--seed S] [--only PREFIX] [--navd PROGRAM]
 
 FOLDER is a folder of packages, such as a copy of some of `site-packages`. Of each drawn class, function, method or
 attribute navd is asked for its `callers`; then it is looked for by name, as the client does where that is crowded, also
 where it isn't, and both are compared. Of the first so many (--jedi) jedi is asked, too, and its places are compared with
-those that the client gives. No search by name is cut for its time here. Columns of jedi are taken as they are, so a line with text past ASCII may differ. Each time is
+those that the client gives. With --crowd a graph is committed besides in which a name has more than 8,192 paths, so that
+`callers` is refused of each definition to which as many ways lead. No search by name is cut for its time here. Columns of jedi are taken as they are, so a line with text past ASCII may differ. Each time is
 the middle one and the longest, in milliseconds of the processors' time of this program and of navd together, which Linux
 tells in steps of ten for navd.
 jedi has to be installed where it is asked; it is no part of this package.
@@ -16,6 +17,7 @@ from __future__ import annotations
 
 import argparse
 import collections
+import json
 import math
 import os
 import statistics
@@ -28,6 +30,19 @@ from measure import Answers, Where, drawn_definitions, jedi_references, rows_of,
 
 from navd_py import by_name  # noqa: E402
 from navd_py.project import Definition, graph_path  # noqa: E402
+
+
+def crowd() -> bytes:
+    """A graph file with a reference that leads to 91 others, and each of them to 91 definitions."""
+    nodes: List[Dict[str, Any]] = [{"kind": "push", "symbol": "crowd 1", "reference": True}]
+    edges: List[List[Any]] = [[0, "root", 0]]
+    for number in range(1, 182, 2):
+        nodes += [{"kind": "pop", "symbol": "crowd 1"}, {"kind": "push", "symbol": "crowd 2"}]
+        edges += [["root", number, 0], [number, number + 1, 0], [number + 1, "root", 0]]
+    for number in range(183, 274):
+        nodes.append({"kind": "pop", "symbol": "crowd 2", "definition": True})
+        edges.append(["root", number, 0])
+    return json.dumps({"nodes": nodes, "edges": edges}).encode()
 
 
 class Times:
@@ -113,6 +128,7 @@ def main() -> None:
     parser.add_argument("folder")
     parser.add_argument("--count", type=int, default=100, help="so many definitions (100)")
     parser.add_argument("--jedi", type=int, default=0, help="ask jedi of so many of them (0)")
+    parser.add_argument("--crowd", action="store_true", help="let a name be crowded")
     parser.add_argument("--seed", type=int, default=1)
     parser.add_argument("--only", default="", help="of files whose paths begin so")
     parser.add_argument("--show", action="store_true", help="show the places that jedi or navd alone gives")
@@ -122,6 +138,8 @@ def main() -> None:
     folder = os.path.realpath(given.folder)
     answers = Answers(folder, given.navd)
     print(f"{len(answers.project.scan())} files, {answers.size} bytes of graphs, {len(answers.refused)} left out")
+    if given.crowd:
+        answers.keeper.put("crowd.sg.json", crowd())
     compared = Compared(answers)
     drawn: List[Tuple[str, Definition]] = drawn_definitions(answers, given.only, given.count, given.seed)
     for number, (path, definition) in enumerate(drawn):

@@ -80,8 +80,8 @@ class Queries:
         return found
 
     def _by_name(self, folder: Folder, wanted: Set[by_name.Node], check: Callable[[], None]) -> List[Place]:
-        """Who refers to these definitions, of which navd doesn't tell it by itself. How it is found is logged, and it is
-        shown where some may be missing."""
+        """Who refers to these definitions, of which navd doesn't tell it by itself. How it is found is logged, and
+        where some may be missing it is shown."""
         found = by_name.references(self._files(folder, check), wanted)
         self.log(found.told())
         if not found.is_whole:
