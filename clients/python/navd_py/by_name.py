@@ -123,8 +123,8 @@ def _ask(files: Files, piece: Sequence[Tuple[Node, Any]], wanted: Set[Node], fou
 
 
 def _places(files: Files, wanted: Set[Node], found: Found, until: float) -> List[Tuple[Node, Any]]:
-    """The places to ask, at most `MOST_PLACES`: those of the definitions' own names first, of these the ones in their own
-    files."""
+    """The places to ask, at most `MOST_PLACES`: those of the definitions' own names first, of these the ones in their
+    own files."""
     places: List[Tuple[Node, Any]] = []
     modules, plain = _symbols(files, wanted)
     names = sorted(plain.union(module.rpartition(".")[2] for module in modules))

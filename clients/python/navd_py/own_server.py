@@ -11,6 +11,8 @@ from typing import IO, Callable, Optional
 
 from .session import NoConnection, NoProgram, Session, find_program
 
+Say = Callable[[str], None]
+
 # So many seconds a started server may take up to where it listens; these words on its standard error say that it does.
 SECONDS_TO_LISTEN = 60.0
 LISTENING = b"navd: listening at "
@@ -39,7 +41,7 @@ class _Said:
 class OwnServer:
     """A `navd serve` that is started here, and ends with this program."""
 
-    def __init__(self, program: Optional[str], port: int, doors: int, connections: int, say: Callable[[str], None]) -> None:
+    def __init__(self, program: Optional[str], port: int, doors: int, connections: int, say: Say) -> None:
         self._words = [find_program(program), "serve", str(port), str(doors), str(connections)]
         self._port = port
         self._say = say

@@ -5,12 +5,13 @@
 
 FOLDER is a folder of packages, such as a copy of some of `site-packages`. Of each drawn class, function, method or
 attribute navd is asked for its `callers`; then it is looked for by name, as the client does where that is crowded, also
-where it isn't, and both are compared. Of the first so many (--jedi) jedi is asked, too, and its places are compared with
-those that the client gives. With --crowd a graph is committed besides in which a name has more than 8,192 paths, so that
-`callers` is refused of each definition to which as many ways lead. No search by name is cut for its time here. Columns of jedi are taken as they are, so a line with text past ASCII may differ. Each time is
-the middle one and the longest, in milliseconds of the processors' time of this program and of navd together, which Linux
-tells in steps of ten for navd.
-jedi has to be installed where it is asked; it is no part of this package.
+where it isn't, and both are compared. No search by name is cut for its time here. With --crowd a graph is committed
+besides in which a name has more than 8,192 paths, so that `callers` is refused of each definition to which as many ways
+lead. Of the first so many definitions (--jedi) jedi is asked, too, and its places are compared with those that the client
+gives; columns of jedi are taken as they are, so a line with text past ASCII may differ.
+
+Each time is the middle one and the longest, in milliseconds of the processors' time of this program and of navd together,
+which Linux tells in steps of ten for navd. jedi has to be installed where it is asked; it is no part of this package.
 """
 
 from __future__ import annotations
@@ -67,14 +68,15 @@ class Times:
     def tell(self) -> None:
         for name, all_of_them in self.seconds.items():
             middle, longest = statistics.median(all_of_them) * 1000, max(all_of_them) * 1000
-            print(f"{name:30} {len(all_of_them):4} times, {middle:10.1f} ms the middle one, {longest:10.1f} the longest")
+            print(f"{name:30} {len(all_of_them):4} times, {middle:10.1f} ms the middle, {longest:10.1f} the longest")
 
 
 class Compared:
     """What is counted, of definition after definition."""
 
-    def __init__(self, answers: Answers) -> None:
+    def __init__(self, answers: Answers, show: bool) -> None:
         self.answers = answers
+        self.show = show
         self.times = Times(answers.processes[-1])
         self.counts: Counter[str] = collections.Counter()
         paths = [graph_path(path) for path in answers.project.scan()]
@@ -95,18 +97,20 @@ class Compared:
         places = set(rows_of({"rows": found.rows}))
         self.counts[f"callers: {'crowded' if is_crowded else 'answered'}"] += 1
         self.counts["places asked"] += found.asked
-        print(f"{'crowded' if is_crowded else 'answered'}: {path}:{line + 1}: {found.told()}", file=sys.stderr, flush=True)
+        if self.show:
+            what = "crowded" if is_crowded else "answered"
+            print(f"{what}: {path}:{line + 1}:{column + 1} {definition.name}: {found.told()}", flush=True)
         if is_crowded:
             self.counts["by name, where crowded: " + ("whole" if found.is_whole else "cut or undecided")] += 1
             return places
         told = set(rows_of(reply))
         self.counts["by name, where not: " + ("the same" if places == told else "others")] += 1
         if places != told:
-            where = f"{path}:{line + 1}:{column + 1} {definition.name}"
-            print(f"{where}: {len(told - places)} places by `callers` alone, {len(places - told)} by name alone; {found.told()}")
+            print(f"{path}:{line + 1}:{column + 1} {definition.name}: {found.told()}")
+            print(f"    {len(told - places)} places by `callers` alone, {len(places - told)} by name alone")
         return told
 
-    def beside_jedi(self, folder: str, path: str, definition: Definition, own: Set[Where], show: bool) -> None:
+    def beside_jedi(self, folder: str, path: str, definition: Definition, own: Set[Where]) -> None:
         line, column = definition.span[:2]
         text = (self.answers.project.text(path) or "").split("\n")[line]
         character = len(text.encode()[:column].decode("utf-8", "replace"))
@@ -119,7 +123,7 @@ class Compared:
         self.counts["places of jedi alone"] += len(told - own)
         self.counts["places of navd alone"] += len(own - told)
         for who, places in (("jedi", told - own), ("navd", own - told)):
-            for place in sorted(places) if show else ():
+            for place in sorted(places) if self.show else ():
                 print(f"{who} alone: {shown(place)} refers to {path}:{line + 1}:{column + 1} {definition.name}")
 
 
@@ -131,7 +135,7 @@ def main() -> None:
     parser.add_argument("--crowd", action="store_true", help="let a name be crowded")
     parser.add_argument("--seed", type=int, default=1)
     parser.add_argument("--only", default="", help="of files whose paths begin so")
-    parser.add_argument("--show", action="store_true", help="show the places that jedi or navd alone gives")
+    parser.add_argument("--show", action="store_true", help="show each definition, and places of one side alone")
     parser.add_argument("--navd", help="the program; else the environment variable NAVD, else from PATH")
     given = parser.parse_args()
     by_name.MOST_SECONDS = math.inf
@@ -140,12 +144,12 @@ def main() -> None:
     print(f"{len(answers.project.scan())} files, {answers.size} bytes of graphs, {len(answers.refused)} left out")
     if given.crowd:
         answers.keeper.put("crowd.sg.json", crowd())
-    compared = Compared(answers)
+    compared = Compared(answers, given.show)
     drawn: List[Tuple[str, Definition]] = drawn_definitions(answers, given.only, given.count, given.seed)
     for number, (path, definition) in enumerate(drawn):
         own = compared.places(path, definition)
         if own is not None and number < given.jedi:
-            compared.beside_jedi(folder, path, definition, own, given.show)
+            compared.beside_jedi(folder, path, definition, own)
     for name, count in sorted(compared.counts.items()):
         print(f"{name:45} {count:6}")
     compared.times.tell()
