@@ -15,9 +15,13 @@ from typing import Any, Callable, Dict, Iterator, List, Optional, Sequence, Set,
 
 from .session import Reply, Request
 from .translate.graph import graph_nodes, span_of
+from .translate.state import BODY, MEMBER, OWN
 
 # Where the definition of a module stands.
 MODULE = (0, 0, 0, 0)
+
+# The precedences by which names that are bound are members; those of their values are others.
+DEFINED = frozenset((MEMBER, BODY, OWN))
 
 # A node: the path under which navd has its file's graph, and its number.
 Node = Tuple[str, int]
@@ -180,15 +184,23 @@ def _references_to(nodes: Sequence[Dict[str, Any]], names: Set[str]) -> Dict[int
 
 
 def _other_names(graph: Dict[str, Any], references: Dict[int, Any], modules: Set[str]) -> Iterator[str]:
-    """The names that imports give to what is imported at one of these references, or to one of these modules: a pop
-    that is no definition leads straight there."""
+    """The names that imports give to what is imported at one of these references, or to one of these modules.
+
+    Such a name is popped by a node that is no definition and leads straight there, as one of what an assignment has as
+    its value is, too. But that is entered from no reference, and as a member by a value's precedence alone."""
     nodes = graph["nodes"]
+    given: Set[int] = set()
     for source, sink, _ in graph["edges"]:
-        if not isinstance(source, int) or nodes[source]["kind"] != "pop" or nodes[source].get("definition"):
-            continue
-        if sink in references or isinstance(sink, int) and _pushes(nodes[sink], modules):
-            yield nodes[source]["symbol"]
+        if isinstance(source, int) and nodes[source]["kind"] == "pop" and not nodes[source].get("definition"):
+            if sink in references or _pushes(nodes, sink, modules):
+                given.add(source)
+    for source, sink, precedence in graph["edges"] if given else ():
+        if sink in given and nodes[sink]["symbol"].isidentifier():
+            if precedence in DEFINED or isinstance(source, int) and nodes[source].get("reference"):
+                yield nodes[sink]["symbol"]
 
 
-def _pushes(node: Dict[str, Any], symbols: Set[str]) -> bool:
-    return node["kind"] == "push" and not node.get("reference") and node["symbol"] in symbols
+def _pushes(nodes: Sequence[Dict[str, Any]], number: Any, symbols: Set[str]) -> bool:
+    if not symbols or not isinstance(number, int):
+        return False
+    return nodes[number]["kind"] == "push" and not nodes[number].get("reference") and nodes[number]["symbol"] in symbols

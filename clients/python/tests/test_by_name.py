@@ -98,6 +98,19 @@ class StandInForNavd(Translated):
     def test_a_value_is_no_other_name(self) -> None:
         found = self.found({"a.py": "def f(): pass\ng = f\nh = g\ng()\n"}, ("a.py", 0, 4))
         self.assertEqual(found.names, ["f"])
+        more = "import a\ng = a.f\nclass A:\n    h = a.f\n    def m(self):\n        self.i = a.f\n        return a.f\n"
+        more += "def each():\n    yield a.f\n    return [a.f], {1: a.f}, self.f\ndef last(x=a.f): return x.f, x\n"
+        found = self.found({"a.py": "def f(): pass\n", "b.py": more}, ("a.py", 0, 4))
+        self.assertEqual(found.names, ["f"])
+
+    def test_names_of_imports_anywhere(self) -> None:
+        files = {
+            "a.py": "def f(): pass\n",
+            "b.py": "try:\n    from a import f as g\nexcept ImportError:\n    g = None\n",
+            "c.py": "class A:\n    from a import f as h\ndef call():\n    from a import f as i\n    i()\n",
+            "d.py": "import a as m\nfrom a import f as j\ndef call(): return j, m.f\n",
+        }
+        self.assertEqual(sorted(self.found(files, ("a.py", 0, 4)).names), ["f", "g", "h", "i", "j"])
 
     def test_so_many_places(self) -> None:
         text = "x = 1\n" + "x\n" * 200
