@@ -6,6 +6,8 @@ PREFIX ?= /usr/local
 DESTDIR ?=
 # In an unpacked archive the program stands beside this file.
 PROGRAM ?= $(if $(wildcard navd),navd,crates/navd/out/navd)
+# The second program, where `many` has built it; it is installed and packed only then.
+MANY ?= $(firstword $(wildcard navmany crates/navmany/out/navmany))
 
 # The newest version and its date, as CHANGELOG.md tells them.
 VERSION := $(shell sed -n 's/^.. \([0-9][^ ]*\) (.*)$$/\1/p' CHANGELOG.md | head -n 1)
@@ -17,11 +19,11 @@ ZSH_COMPLETION = $(SHARE)/zsh/site-functions/_navd
 FISH_COMPLETION = $(SHARE)/fish/vendor_completions.d/navd.fish
 UNIT = $(SHARE)/systemd/user/navd.service
 INSTALLED = $(PREFIX)/bin/navd $(SHARE)/man/man1/navd.1 $(SHARE)/man/man5/navd-protocol.5 \
-    $(BASH_COMPLETION) $(ZSH_COMPLETION) $(FISH_COMPLETION) $(UNIT)
+    $(if $(MANY),$(PREFIX)/bin/navmany $(SHARE)/man/man1/navmany.1) $(BASH_COMPLETION) $(ZSH_COMPLETION) $(FISH_COMPLETION) $(UNIT)
 
 ARCHIVE = navd-$(VERSION)-$(shell uname -s -m | tr 'A-Z ' 'a-z-')
 
-.PHONY: kit example build test statuses users costs install uninstall dist
+.PHONY: kit example build many test statuses users costs install uninstall dist
 
 kit:
 	@command -v rt > /dev/null || { echo "the kit's command rt isn't on the PATH; README.md says what it is, under Get it"; exit 1; }
@@ -40,6 +42,12 @@ JOBS ?= $(shell nproc)
 build: kit
 	cd crates/navd && rt all check --jobs $(JOBS)
 	cd crates/navd && rt run -- run < stdin
+
+# The same for the second program, which serves many clients on one thread, as crates/navmany/out/navmany; it is run with
+# words that are no such words, by which it ends with status 2.
+many: kit
+	cd crates/navmany && rt all check --jobs $(JOBS)
+	cd crates/navmany && { rt run -- 0 1 1; [ $$? -eq 2 ]; }
 
 test: kit
 	rt ci
@@ -67,6 +75,10 @@ install: $(PROGRAM)
 	install -m 755 $(PROGRAM) "$(DESTDIR)$(PREFIX)/bin/navd"
 	sed 's/@VERSION@/$(VERSION)/; s/@DATE@/$(DATE)/' share/man/navd.1 > "$(DESTDIR)$(SHARE)/man/man1/navd.1"
 	sed 's/@VERSION@/$(VERSION)/; s/@DATE@/$(DATE)/' share/man/navd-protocol.5 > "$(DESTDIR)$(SHARE)/man/man5/navd-protocol.5"
+	if [ -n "$(MANY)" ]; then \
+	    install -m 755 "$(MANY)" "$(DESTDIR)$(PREFIX)/bin/navmany" && \
+	    sed 's/@VERSION@/$(VERSION)/; s/@DATE@/$(DATE)/' share/man/navmany.1 > "$(DESTDIR)$(SHARE)/man/man1/navmany.1" && \
+	    chmod 644 "$(DESTDIR)$(SHARE)/man/man1/navmany.1"; fi
 	install -m 644 share/completions/navd.bash "$(DESTDIR)$(BASH_COMPLETION)"
 	install -m 644 share/completions/_navd "$(DESTDIR)$(ZSH_COMPLETION)"
 	install -m 644 share/completions/navd.fish "$(DESTDIR)$(FISH_COMPLETION)"
@@ -74,13 +86,14 @@ install: $(PROGRAM)
 	chmod 644 "$(DESTDIR)$(SHARE)/man/man1/navd.1" "$(DESTDIR)$(SHARE)/man/man5/navd-protocol.5" "$(DESTDIR)$(UNIT)"
 
 uninstall:
-	rm -f $(foreach file,$(INSTALLED),"$(DESTDIR)$(file)")
+	rm -f $(foreach file,$(INSTALLED) $(PREFIX)/bin/navmany $(SHARE)/man/man1/navmany.1,"$(DESTDIR)$(file)")
 
 # Leaves out/navd-VERSION-SYSTEM.tar.gz: the program with what `install` needs, the documents, the examples and the client.
 dist: $(PROGRAM)
 	rm -rf "out/$(ARCHIVE)"
 	install -d "out/$(ARCHIVE)"
 	install -m 755 $(PROGRAM) "out/$(ARCHIVE)/navd"
+	if [ -n "$(MANY)" ]; then install -m 755 "$(MANY)" "out/$(ARCHIVE)/navmany"; fi
 	cp -R Makefile README.md CHANGELOG.md docs examples share clients "out/$(ARCHIVE)"
 	find "out/$(ARCHIVE)" -name __pycache__ -prune -exec rm -rf {} +
 	tar -C out -czf "out/$(ARCHIVE).tar.gz" "$(ARCHIVE)"

@@ -1,7 +1,8 @@
 #!/usr/bin/env python3
-"""Runs the built `navd serve` with clients that behave well and badly, and prints one table.
+"""Runs the built `navd serve`, or `navmany`, with clients that behave well and badly, and prints one table.
 
-usage: bench/clients.py [PROGRAM]     (crates/navd/out/navd, as `make build` leaves it)
+usage: bench/clients.py [PROGRAM]     (crates/navd/out/navd, as `make build` leaves it, or a program named navmany, which
+has a seat for each door and as many connections as all doors together)
 
 Each row is one run of the server: what its clients do, the status with which it ends, and what has to be answered. A row
 that goes otherwise or doesn't end is marked, and the script ends with 1.
@@ -24,10 +25,11 @@ QUIT = b'{"do":"quit"}\n'
 COMMIT = b'{"do":"commit","edits":[{"put":"a.py","text":"x = 1\\nx"}]}\n'
 DEFINE = b'{"do":"define","path":"a.py","line":1,"column":0}\n'
 ROWS = b'{"limit":false,"rows":[{"node":3,"path":"a.py","span":[0,0,0,1]}]}\n'
+MANY = os.path.basename(PROGRAM) == "navmany"
 # What standard error tells, each a line that begins so.
-LISTENS = b"navd: listening at 127.0.0.1:%d, doors: %d"
-CANT_LISTEN = b"navd: can't listen at 127.0.0.1:%d: "
-SERVED = b"navd: each door has had its connections"
+LISTENS = b"navmany: listening at 127.0.0.1:%d" if MANY else b"navd: listening at 127.0.0.1:%d, doors: %d"
+CANT_LISTEN = b"navmany: can't listen at 127.0.0.1:%d: " if MANY else b"navd: can't listen at 127.0.0.1:%d: "
+SERVED = b"navmany: all connections were served" if MANY else b"navd: each door has had its connections"
 
 
 def version(number):
@@ -41,12 +43,15 @@ def free_port():
 
 
 class Server:
-    """A `navd serve` with so many doors, each for so many connections."""
+    """A `navd serve` with so many doors, each for so many connections, or a `navmany` with as many seats."""
 
     def __init__(self, doors, connections, port=None):
         self.port = port or free_port()
         self.doors = doors
-        words = [PROGRAM, "serve", str(self.port), str(doors), str(connections)]
+        if MANY:
+            words = [PROGRAM, str(self.port), str(doors * connections), str(doors)]
+        else:
+            words = [PROGRAM, "serve", str(self.port), str(doors), str(connections)]
         self.process = subprocess.Popen(words, stdin=subprocess.DEVNULL, stdout=subprocess.PIPE, stderr=subprocess.PIPE)
 
     def client(self):
@@ -96,7 +101,8 @@ def ends(server, status, *told):
     """The server ends with that status. On standard error it told where it listens, then what these pieces begin or end
     lines of, and then that it served all."""
     ended, wrote, said = server.ended()
-    wanted = [LISTENS % (server.port, server.doors), *told, SERVED] if status == 0 else told
+    listens = LISTENS % (server.port if MANY else (server.port, server.doors))
+    wanted = [listens, *told, SERVED] if status == 0 else told
     lines = said.splitlines()
     fits = len(lines) == len(wanted) and all(
         line.startswith(piece) or line.endswith(piece) for line, piece in zip(lines, wanted)

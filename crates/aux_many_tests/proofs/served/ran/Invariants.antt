@@ -1,0 +1,5 @@
+use Rattle.aux_many_tests.proofs.served.ran.Given as goal
+
+-- the ledger of the blank
+abbrev pub ghosts-status_on : goal.ghosts-status_on
+ghosts-status_on g a = record { name = a.blank.name; parts = a.blank.parts }
