@@ -24,7 +24,9 @@ without_deny p rules = record rules { denied = without_pair p rules.denied }
 
 -- a prefix reaches the path equal to it and every path that begins with it and `/`; the empty one reaches all
 unfoldable pub reaches : List ℕ → List ℕ → Bool
-reaches prefix path = bytes_eq prefix (codes "") || bytes_eq prefix path || starts_with nat_eq path (prefix ++ codes "/")
+reaches prefix path =
+    bytes_eq prefix (codes "") || bytes_eq prefix path
+    || starts_with nat_eq path (prefix ++ codes "/")
 
 -- whether the pair is that user's and its prefix reaches the path
 unfoldable pub speaks_of : List ℕ → List ℕ → Pair → Bool
@@ -38,7 +40,8 @@ is_longer p q = nat_lt (length q.prefix) (length p.prefix)
 unfoldable pub is_granted : Rules → List ℕ → List ℕ → Bool
 is_granted rules user path =
     let denies = filter (speaks_of user path) rules.denied in
-    list_any (λ grant. list_all (is_longer grant) denies) (filter (speaks_of user path) rules.granted)
+    list_any (λ grant. list_all (is_longer grant) denies)
+    (filter (speaks_of user path) rules.granted)
 
 -- whether the user may see a file at the path; the user `operator` sees every file
 unfoldable pub covers : Rules → List ℕ → List ℕ → Bool

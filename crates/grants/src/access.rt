@@ -71,7 +71,10 @@ impl Grants {
     /// Takes the user's grant of the prefix away; `Absent` exactly where there is none, and then
     /// nothing has changed. It takes no memory.
     pub fn remove(&mut self, user: &str, prefix: &str) -> Result<(), GrantFault>
-        ensures answer { MatchResult result (λ _. has_pair (pair user.now prefix.now) self.old.granted ≡ true) (λ e. (e ≡ GrantFault.Absent) × (has_pair (pair user.now prefix.now) self.old.granted ≡ false)) }
+        ensures answer { MatchResult result
+            (λ _. has_pair (pair user.now prefix.now) self.old.granted ≡ true)
+            (λ e. (e ≡ GrantFault.Absent)
+            × (has_pair (pair user.now prefix.now) self.old.granted ≡ false)) }
         ensures ok { OnOk result (self.new ≡ without_grant (pair user.now prefix.now) self.old) }
         ensures err { OnErr result (self.new ≡ self.old) }
     {
@@ -94,7 +97,10 @@ impl Grants {
     /// Takes the user's deny of the prefix away; `Absent` exactly where there is none, and then
     /// nothing has changed. It takes no memory.
     pub fn undeny(&mut self, user: &str, prefix: &str) -> Result<(), GrantFault>
-        ensures answer { MatchResult result (λ _. has_pair (pair user.now prefix.now) self.old.denied ≡ true) (λ e. (e ≡ GrantFault.Absent) × (has_pair (pair user.now prefix.now) self.old.denied ≡ false)) }
+        ensures answer { MatchResult result
+            (λ _. has_pair (pair user.now prefix.now) self.old.denied ≡ true)
+            (λ e. (e ≡ GrantFault.Absent)
+            × (has_pair (pair user.now prefix.now) self.old.denied ≡ false)) }
         ensures ok { OnOk result (self.new ≡ without_deny (pair user.now prefix.now) self.old) }
         ensures err { OnErr result (self.new ≡ self.old) }
     {
@@ -131,9 +137,11 @@ impl Grants {
     }
 }
 
-// Whether the longest prefix that reaches the path and has a rule is granted and not denied.
+/// Whether the longest prefix that reaches the path and has a rule is granted and not denied. Lengths are tried from
+/// the path's down to 0, so the first rule that is met decides.
 fn is_granted(granted: &RuleSet, denied: &RuleSet, user: &[u8], path: &[u8]) -> bool
-    ensures { result ≡ is_granted (record { granted = granted.now; denied = denied.now }) user.now path.now }
+    ensures { result ≡ is_granted
+        (record { granted = granted.now; denied = denied.now }) user.now path.now }
 {
     let mut end = path.len();
     while end > 0 {
@@ -145,7 +153,8 @@ fn is_granted(granted: &RuleSet, denied: &RuleSet, user: &[u8], path: &[u8]) -> 
     verdict_at(granted, denied, user, path, 0).unwrap_or(false)
 }
 
-// What a rule for so much of the path says, where there is one.
+/// What a rule for the first `end` bytes of the path says, where there is one. The denies are asked first, since a
+/// deny outweighs a grant of the same prefix.
 #[tactic(auto, unfolding(crate::specs::Steps::verdict_at))]
 fn verdict_at(
     granted: &RuleSet,
@@ -155,7 +164,8 @@ fn verdict_at(
     end: usize,
 ) -> Option<bool>
     requires { end ≤ length path.now }
-    ensures { result ≡ verdict_at (record { granted = granted.now; denied = denied.now }) user.now path.now end }
+    ensures { result ≡ verdict_at
+        (record { granted = granted.now; denied = denied.now }) user.now path.now end }
 {
     if !is_cut(path, end) {
         None
@@ -168,7 +178,7 @@ fn verdict_at(
     }
 }
 
-// Whether so much of the path is a prefix that reaches it.
+/// Whether the first `end` bytes of the path are a prefix that reaches it: none, all, or those before a `/`.
 #[tactic(auto, unfolding(crate::specs::Steps::is_cut))]
 fn is_cut(path: &[u8], end: usize) -> bool
     ensures { result ≡ is_cut path.now end }

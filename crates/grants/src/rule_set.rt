@@ -49,6 +49,7 @@ impl RuleSet {
         match self.find(user, prefix) {
             Ok(_) => Ok(()),
             Err(i) => {
+                // The rule is made before the set is touched, so that a refusal leaves it as it was.
                 let rule = Rule::of(alloc, user, prefix)?;
                 Ok(self.rules.insert(i, rule)?)
             }
@@ -81,7 +82,7 @@ impl RuleSet {
         Ok(RuleSet { rules })
     }
 
-    // Where the rule is, or where it would go.
+    /// Where the rule is, or where it would go so that the order stays.
     fn find(&self, user: &str, prefix: &str) -> Result<usize, usize>
         ensures found { IfOk result (IsAt (beside (pair user.now prefix.now)) self.now) }
         ensures absent { IfErr result (IsGapFor (beside (pair user.now prefix.now)) self.now) }
@@ -89,7 +90,8 @@ impl RuleSet {
         self.place(user.as_bytes(), prefix.as_bytes())
     }
 
-    // The same for bytes, by halving.
+    /// The same for bytes, of which any part of a path is a slice. By halving, so it takes a number of comparisons that
+    /// follows the logarithm of the number of rules.
     fn place(&self, user: &[u8], prefix: &[u8]) -> Result<usize, usize>
         ensures found { IfOk result (IsAt (beside (pair user.now prefix.now)) self.now) }
         ensures absent { IfErr result (IsGapFor (beside (pair user.now prefix.now)) self.now) }

@@ -7,7 +7,8 @@ use Rattle.graph_json.specs.declared.fault.GraphTextFault.TheVariants.{BadJson, 
 
 -- first the one, and then what follows from its value; the first fault ends it
 infixl 10 ◌>>=◌
-abbrev pub ◌>>=◌ : {A B : Type 0} → Result A GraphTextFault → (A → Result B GraphTextFault) → Result B GraphTextFault
+abbrev pub ◌>>=◌ : {A B : Type 0} → Result A GraphTextFault → (A → Result B GraphTextFault)
+    → Result B GraphTextFault
 (Ok x) >>= f = f x
 (Err e) >>= f = Err e
 
@@ -17,7 +18,8 @@ unless None x = Ok x
 unless (Some fault) x = Err fault
 
 -- all the values, or the fault of the first place that has none
-unfoldable pub collected : {A : Type 0} → (ℕ → GraphTextFault) → List (Option A) → Result (List A) GraphTextFault
+unfoldable pub collected : {A : Type 0} → (ℕ → GraphTextFault) → List (Option A)
+    → Result (List A) GraphTextFault
 collected fault os = unless (option_map fault (position is_none os)) (filter_map (λ o. o) os)
 
 -- the fault that a call answered is that of the definition; want of memory is free, and never a fault of the graph
@@ -30,6 +32,7 @@ Fails (SameName n) defined = defined ≡ Err (SameName n)
 Fails (UnknownName part) defined = defined ≡ Err (UnknownName part)
 
 -- a call answered what is defined, its value seen by the view
-abbrev pub TextGives : {X Y : Type 0} → (X → Y) → Result X GraphTextFault → Result Y GraphTextFault → Type 0
+abbrev pub TextGives : {X Y : Type 0} → (X → Y) → Result X GraphTextFault → Result Y GraphTextFault
+    → Type 0
 TextGives view (Ok x) defined = defined ≡ Ok (view x)
 TextGives view (Err e) defined = Fails e defined

@@ -58,15 +58,21 @@ number_of names name = unwrap_or (first_called names name) 0
 
 -- a node, among nodes of these names
 abbrev pub named_node : List (Option (List ℕ)) → Data → Option Node
-named_node names d = option_and_then (λ own. node_in true (option_map (number_of names) (name_in (codes "scope") d)) d) (name_in (codes "name") d)
+named_node names d =
+    option_and_then
+    (λ own. node_in true (option_map (number_of names) (name_in (codes "scope") d)) d)
+    (name_in (codes "name") d)
 
 -- the place of that text: a name, or what files share
 abbrev pub place_called : List (Option (List ℕ)) → List ℕ → Option Place
-place_called names text = option_or (shared_place (codes "@root") (codes "@jump") text) (only_if (is_name text) (At (number_of names text)))
+place_called names text =
+    option_or (shared_place (codes "@root") (codes "@jump") text)
+    (only_if (is_name text) (At (number_of names text)))
 
 -- the end at that place of an edge's array
 abbrev pub named_place_at : List (Option (List ℕ)) → ℕ → Data → Option Place
-named_place_at names i d = option_and_then (λ end. option_and_then (place_called names) (as_str end)) (at i d)
+named_place_at names i d =
+    option_and_then (λ end. option_and_then (place_called names) (as_str end)) (at i d)
 
 -- an edge, among nodes of these names
 abbrev pub named_edge : List (Option (List ℕ)) → Data → Option Edge

@@ -56,15 +56,22 @@ kind_in kind scope d =
 -- whether a node of this kind may have a member of this name, beside `kind` and `span`
 abbrev pub takes : NodeKind → List ℕ → Bool
 takes (Scope exported) name = bytes_eq name (codes "exported")
-takes (Push symbol reference) name = bytes_eq name (codes "symbol") || bytes_eq name (codes "reference")
-takes (PushScoped symbol scope reference) name = bytes_eq name (codes "symbol") || bytes_eq name (codes "scope") || bytes_eq name (codes "reference")
-takes (Pop symbol definition) name = bytes_eq name (codes "symbol") || bytes_eq name (codes "definition")
-takes (PopScoped symbol definition) name = bytes_eq name (codes "symbol") || bytes_eq name (codes "definition")
+takes (Push symbol reference) name =
+    bytes_eq name (codes "symbol") || bytes_eq name (codes "reference")
+takes (PushScoped symbol scope reference) name =
+    bytes_eq name (codes "symbol") || bytes_eq name (codes "scope")
+    || bytes_eq name (codes "reference")
+takes (Pop symbol definition) name =
+    bytes_eq name (codes "symbol") || bytes_eq name (codes "definition")
+takes (PopScoped symbol definition) name =
+    bytes_eq name (codes "symbol") || bytes_eq name (codes "definition")
 takes Drops name = false
 
 -- whether a node may have a member of this name; `name` is one where nodes have names
 abbrev pub may_have : Bool → NodeKind → List ℕ → Bool
-may_have named kind name = bytes_eq name (codes "kind") || bytes_eq name (codes "span") || (named && bytes_eq name (codes "name")) || takes kind name
+may_have named kind name =
+    bytes_eq name (codes "kind") || bytes_eq name (codes "span")
+    || (named && bytes_eq name (codes "name")) || takes kind name
 
 -- a node: an object of its kind's members and no others
 unfoldable pub node_in : Bool → Option ℕ → Data → Option Node

@@ -36,7 +36,8 @@ has_items n d = option_map_or (λ ds. items_len ds == n) (as_array d) false
 
 -- whether a span's end isn't before its start
 abbrev pub is_forward : Span → Bool
-is_forward s = nat_lt s.from_line s.to_line || (s.from_line == s.to_line && nat_le s.from_column s.to_column)
+is_forward s =
+    nat_lt s.from_line s.to_line || (s.from_line == s.to_line && nat_le s.from_column s.to_column)
 
 -- a span: an array of the line and column of its start and of its end, which isn't before the start
 unfoldable pub span_of : Data → Option Span

@@ -19,11 +19,13 @@ use Rattle.graph_json.specs.Top.{top_of}
 
 -- a place that has a text: the root or jump
 abbrev pub shared_place : List ℕ → List ℕ → List ℕ → Option Place
-shared_place root jump text = if bytes_eq text root then Some Root else only_if (bytes_eq text jump) Jump
+shared_place root jump text =
+    if bytes_eq text root then Some Root else only_if (bytes_eq text jump) Jump
 
 -- an edge's end: a position, `root` or `jump`
 abbrev pub place_of : Data → Option Place
-place_of d = option_map_or (shared_place (codes "root") (codes "jump")) (as_str d) (option_map At (u32_of d))
+place_of d =
+    option_map_or (shared_place (codes "root") (codes "jump")) (as_str d) (option_map At (u32_of d))
 
 -- the position that the member `scope` is
 abbrev pub scope_at : Data → Option ℕ

@@ -19,7 +19,9 @@ use Rattle.graph_json.specs.Printed.{name_text, kind_text, scope_of}
 
 -- the lines and columns of a span are numbers of 32 bits
 abbrev pub SpanFits : Span → Type 0
-SpanFits s = (s.from_line < 2 ^ 32) × (s.from_column < 2 ^ 32) × (s.to_line < 2 ^ 32) × (s.to_column < 2 ^ 32)
+SpanFits s =
+    (s.from_line < 2 ^ 32) × (s.from_column < 2 ^ 32) × (s.to_line < 2 ^ 32)
+    × (s.to_column < 2 ^ 32)
 
 -- so are the position of the scope that a node attaches, and the numbers of its span, where it has them
 abbrev pub NodeFits : Node → Type 0
@@ -38,7 +40,8 @@ EdgeFits e = PlaceFits e.source × PlaceFits e.sink × (e.precedence < 2 ^ 16)
 -- ---- a step of printing
 
 -- where it went well, these tokens were added, and nothing before them changed
-pub record Adds {E : Type 0} (r : Result (Unit {0}) E) (old new : Written) (ts : List Token) : Type 0 where
+pub record Adds {E : Type 0} (r : Result (Unit {0}) E) (old new : Written)
+    (ts : List Token) : Type 0 where
   pub ok : OnOk r (new.tokens ≡ old.tokens ++ ts)
   pub before : new.before ≡ old.before
 
@@ -57,4 +60,5 @@ abbrev pub front_tokens : Bool → ℕ → NodeKind → List Token
 front_tokens named n kind =
     flag_tokens (codes "definition") (is_definition_kind kind)
     ++ (flag_tokens (codes "exported") (is_exported_kind kind)
-    ++ (token.key (codes "kind") ∷ token.string (kind_text kind) ∷ value_tokens (codes "name") (only_if named (string (name_text n)))))
+    ++ (token.key (codes "kind") ∷ token.string (kind_text kind)
+    ∷ value_tokens (codes "name") (only_if named (string (name_text n)))))

@@ -50,7 +50,9 @@ place_json named (At n) = position_json named n
 
 -- a span: the line and column of its start, then those of its end
 abbrev pub span_json : Span → Json
-span_json s = array (item (number_json s.from_line) (item (number_json s.from_column) (item (number_json s.to_line) (item (number_json s.to_column) no_items))))
+span_json s =
+    array (item (number_json s.from_line) (item (number_json s.from_column)
+    (item (number_json s.to_line) (item (number_json s.to_column) no_items))))
 
 -- the word for a node's kind
 abbrev pub kind_text : NodeKind → List ℕ
@@ -100,7 +102,9 @@ nodes_json named n (node ∷ rest) = item (node_json named n node) (nodes_json n
 
 -- an edge: its source, its sink and its precedence
 abbrev pub edge_json : Bool → Edge → Json
-edge_json named e = array (item (place_json named e.source) (item (place_json named e.sink) (item (number_json e.precedence) no_items)))
+edge_json named e =
+    array (item (place_json named e.source) (item (place_json named e.sink)
+    (item (number_json e.precedence) no_items)))
 
 -- the edges, in their order
 abbrev pub edges_json : Bool → List Edge → Items
@@ -128,4 +132,5 @@ named_text g = text_of true g
 
 -- no span ends before its start
 abbrev pub HasForwardSpans : List Node → Type 0
-HasForwardSpans nodes = AllByRecursion (λ (node : Node). IfSome node.span (λ s. IsTrue (is_forward s))) nodes
+HasForwardSpans nodes =
+    AllByRecursion (λ (node : Node). IfSome node.span (λ s. IsTrue (is_forward s))) nodes

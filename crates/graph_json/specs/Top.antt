@@ -15,7 +15,9 @@ use Rattle.graph_json.specs.Collect.{unless}
 
 -- whether a graph file may have a member of this name; `format` is one in format 2
 abbrev pub may_stand : Bool → List ℕ → Bool
-may_stand named name = bytes_eq name (codes "nodes") || bytes_eq name (codes "edges") || (named && bytes_eq name (codes "format"))
+may_stand named name =
+    bytes_eq name (codes "nodes") || bytes_eq name (codes "edges")
+    || (named && bytes_eq name (codes "format"))
 
 -- the values of the nodes and of the edges, in an object of these members and no others
 unfoldable pub lists_in : Bool → Data → Option (List Data × List Data)

@@ -10,7 +10,7 @@ use graph_nodes::{Edge, Place};
 use json_values::{u16_of, u32_of};
 use serde_json::Value;
 
-// The place that files share and that has this text.
+/// The place that files share and that has this text: the formats differ in these words alone.
 pub(crate) fn shared(text: &str, root: &str, jump: &str) -> Option<Place>
     ensures { result ≡ shared_place root.now jump.now text.now }
 {
@@ -23,7 +23,7 @@ pub(crate) fn shared(text: &str, root: &str, jump: &str) -> Option<Place>
     }
 }
 
-// An edge of that value between these places.
+/// An edge of that value between these places, which each format reads in its own way.
 #[tactic(auto, unfolding(crate::specs::Edges::edge_in))]
 pub(crate) fn edge_between(v: &Value, source: Option<Place>, sink: Option<Place>) -> Option<Edge>
     ensures { result ≡ edge_in source sink (view v.now) }
@@ -57,7 +57,7 @@ fn plain_place_at(v: &Value, i: usize) -> Option<Place>
     plain_place(v.get(i)?)
 }
 
-// An edge of format 1.
+/// An edge of format 1.
 pub(crate) fn plain_edge(v: &Value) -> Option<Edge>
     ensures { result ≡ edge_of (view v.now) }
 {

@@ -5,7 +5,7 @@ ghost use Rattle.graph_json.specs.Printed.{kind_text, symbol_of};
 
 use graph_nodes::NodeKind;
 
-// The word for a node's kind.
+/// The word for a node's kind, as graph files have it.
 pub(crate) fn word(kind: &NodeKind) -> &'static str
     ensures { result.now ≡ kind_text kind.now }
 {
@@ -32,7 +32,7 @@ pub(crate) fn is_exported(kind: &NodeKind) -> bool
     }
 }
 
-// The symbol of a node that has one.
+/// The symbol of a node that has one. Its bytes are tested for UTF-8 once more, since a name keeps them as bytes.
 pub(crate) fn symbol(kind: &NodeKind) -> Option<&str>
     ensures { option_copied result ≡ symbol_of kind.now }
 {

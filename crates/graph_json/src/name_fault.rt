@@ -19,7 +19,7 @@ fn lacks_end(names: &Names, edge: &Value) -> bool
     names.lacks(item_name(edge, 0)) || names.lacks(item_name(edge, 1))
 }
 
-// The first node whose name an earlier node has.
+/// The first node whose name an earlier node has.
 fn first_repeat(names: &Names, nodes: &[Value]) -> Option<usize>
     ensures value { result ≡ position
         (λ p. named.is_repeat names.now p.0 (named.name_in (codes "name") (view p.1)))
@@ -32,7 +32,7 @@ fn first_repeat(names: &Names, nodes: &[Value]) -> Option<usize>
         .position(|(n, node)| names.repeats(n, node))
 }
 
-// The first node with a scope that no node has as its name.
+/// The first node with a scope that no node has as its name; it may be the name of a later one.
 fn first_unknown_scope(names: &Names, nodes: &[Value]) -> Option<usize>
     ensures value { result ≡ position (λ v. named.has_unknown_scope names.now (view v)) nodes.now }
     ensures bound { IfSome result (λ n. n < length nodes.now) }
@@ -40,7 +40,7 @@ fn first_unknown_scope(names: &Names, nodes: &[Value]) -> Option<usize>
     nodes.iter().position(|node| lacks_scope(names, node))
 }
 
-// The first edge with an end that no node has as its name.
+/// The first edge with an end that no node has as its name.
 fn first_unknown_end(names: &Names, edges: &[Value]) -> Option<usize>
     ensures value { result ≡ position (λ v. named.has_unknown_end names.now (view v)) edges.now }
     ensures bound { IfSome result (λ e. e < length edges.now) }
@@ -48,7 +48,8 @@ fn first_unknown_end(names: &Names, edges: &[Value]) -> Option<usize>
     edges.iter().position(|edge| lacks_end(names, edge))
 }
 
-// The first fault of the names.
+/// The first fault of the names: a name that stands twice, then a node's, then an edge's. In that order, since a name is
+/// unknown or known only among names that are told apart.
 pub(crate) fn name_fault(names: &Names, nodes: &[Value], edges: &[Value]) -> Option<GraphTextFault>
     requires names { names.now ≡ named.names_of (map view nodes.now) }
     requires nodes { length nodes.now < 2 ^ 32 }

@@ -28,7 +28,7 @@ fn scope_number(v: &Value, names: &Names) -> Option<u32>
     }
 }
 
-// A node of format 2, among nodes of these names.
+/// A node of format 2, among nodes of these names.
 fn node_among(alloc: Global, v: &Value, names: &Names) -> Result<Option<Node>, AllocError>
     ensures { IfOk result (λ n. n ≡ named_node names.now (view v.now)) }
 {
@@ -54,7 +54,7 @@ fn place_among(v: &Value, i: usize, names: &Names) -> Option<Place>
     place_of_text(v.get(i)?.as_str()?, names)
 }
 
-// An edge of format 2, among nodes of these names.
+/// An edge of format 2, among nodes of these names.
 fn edge_among(v: &Value, names: &Names) -> Option<Edge>
     ensures { result ≡ named_edge names.now (view v.now) }
 {
@@ -108,7 +108,7 @@ fn is_format_2(v: &Value) -> bool
     }
 }
 
-// The values of the nodes and of the edges.
+/// The values of the nodes and of the edges, in a value that says it is in format 2.
 fn lists_of(v: &Value) -> Option<(&[Value], &[Value])>
     requires { HasShortLists (view v.now) }
     ensures lists { option_map (λ p. (map view p.0.now, map view p.1.now)) result
@@ -118,7 +118,8 @@ fn lists_of(v: &Value) -> Option<(&[Value], &[Value])>
     if is_format_2(v) { lists(v, true) } else { None }
 }
 
-// The nodes and edges of a value in format 2.
+/// The nodes and edges of a value in format 2, or its first fault: those of shape, in the order of format 1, and then
+/// those of names.
 #[tactic(auto, unfolding(crate::specs::Named::named_parts))]
 pub(crate) fn named_graph(
     alloc: Global,
@@ -134,6 +135,7 @@ pub(crate) fn named_graph(
     let names = Names::of(alloc, nodes)?;
     let found_nodes = named_nodes(alloc, nodes, &names)?;
     let found_edges = named_edges(alloc, edges, &names)?;
+    // Behind the shapes, which come first, so the nodes and edges are made before it is known whether they serve.
     match name_fault(&names, nodes, edges) {
         Some(fault) => Err(fault),
         None => Ok((found_nodes, found_edges)),

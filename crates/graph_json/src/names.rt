@@ -10,10 +10,10 @@ use serde_json::Value;
 use std::alloc::Global;
 use std::marker::Model;
 
-// How long a name may be, in bytes.
+/// How long a name may be, in bytes.
 const MAX_NAME: usize = 256;
 
-// Whether the text may be a name.
+/// Whether the text may be a name: 1 to 256 bytes, the first of them no `@`, with which the shared places begin.
 pub(crate) fn may_be_name(text: &str) -> bool
     ensures { result ≡ is_name text.now }
 {
@@ -30,14 +30,14 @@ fn name(v: &Value) -> Option<&str>
     if may_be_name(text) { Some(text) } else { None }
 }
 
-// The name that a member is.
+/// The name that a member is. It lies in the value and isn't copied.
 pub(crate) fn member_name<'a>(v: &'a Value, member: &str) -> Option<&'a str>
     ensures { option_copied result ≡ name_in member.now (view v.now) }
 {
     name(v.get(member)?)
 }
 
-// The name at that place of an array.
+/// The name at that place of an array, likewise.
 pub(crate) fn item_name(v: &Value, i: usize) -> Option<&str>
     ensures { option_copied result ≡ name_at i (view v.now) }
 {
@@ -65,7 +65,7 @@ impl<'a> Model for Names<'a> {
 }
 
 impl<'a> Names<'a> {
-    // The names of these nodes.
+    /// The names of these nodes, found by a hash table; the one error is want of memory.
     pub(crate) fn of(alloc: Global, nodes: &'a [Value]) -> Result<Names<'a>, GraphTextFault>
         requires { length nodes.now < 2 ^ 32 }
         ensures ok { IfOk result (λ n. n ≡ names_of (map view nodes.now)) }
@@ -75,21 +75,21 @@ impl<'a> Names<'a> {
         Ok(Names { nodes, firsts })
     }
 
-    // The first node of that name.
+    /// The first node of that name.
     fn first(&self, name: &str) -> Option<u32>
         ensures { result ≡ first_called self.now name.now }
     {
         self.firsts.get(name).copied()
     }
 
-    // The position that a name stands for, 0 where no node has it.
+    /// The position that a name stands for, 0 where no node has it: that is told as a fault once all shapes are right.
     pub(crate) fn number(&self, name: &str) -> u32
         ensures { result ≡ number_of self.now name.now }
     {
         self.first(name).unwrap_or(0)
     }
 
-    // Whether there is a name and no node has it.
+    /// Whether there is a name and no node has it.
     pub(crate) fn lacks(&self, name: Option<&str>) -> bool
         ensures { result ≡ is_unknown self.now (option_copied name.entry) }
     {
@@ -99,7 +99,7 @@ impl<'a> Names<'a> {
         }
     }
 
-    // Whether an earlier node has the name of the node at that position.
+    /// Whether an earlier node has the name of the node at that position: then the name stands for that one.
     pub(crate) fn repeats(&self, n: usize, node: &Value) -> bool
         ensures { result ≡ is_repeat self.now n (name_in (codes "name") (view node.now)) }
     {
@@ -110,7 +110,7 @@ impl<'a> Names<'a> {
     }
 }
 
-// For each name of a node, the first node that has it.
+/// For each name of a node, the first node that has it.
 fn number_all<'a>(
     alloc: Global,
     nodes: &'a [Value],
@@ -124,6 +124,7 @@ fn number_all<'a>(
         let Some(own) = member_name(node, "name") else {
             continue;
         };
+        // The first node keeps the name: `insert` would put a later one in its place.
         if firsts.get(own).is_none() {
             firsts.insert(own, i as u32)?;
         }

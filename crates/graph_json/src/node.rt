@@ -114,6 +114,7 @@ fn kind(
     }
 }
 
+/// Whether a node of this kind may have a member of this name, beside `kind`, `span` and `name`.
 fn is_of_kind(kind: &NodeKind, name: &str) -> bool
     ensures { result ≡ takes kind.now name.now }
 {
@@ -129,7 +130,7 @@ fn is_of_kind(kind: &NodeKind, name: &str) -> bool
     }
 }
 
-// The members of a node of this kind; `name` is one where nodes have names.
+/// The members of a node of this kind; `name` is one where nodes have names.
 #[derive(Clone, Copy)]
 struct NodeForm<'a> {
     named: bool,
@@ -155,7 +156,7 @@ fn has_only_members(v: &Value, named: bool, kind: &NodeKind) -> bool
     has_only(v, &NodeForm { named, kind })
 }
 
-// A node of that value, where its member `scope` names `attached`.
+/// A node of that value, where its member `scope` names `attached`.
 #[tactic(auto, unfolding(crate::specs::Nodes::node_in))]
 pub(crate) fn node(
     alloc: Global,
@@ -174,6 +175,7 @@ pub(crate) fn node(
     let Some(kind) = kind(alloc, v, text, attached)? else {
         return Ok(None);
     };
+    // Which members may stand hangs on the kind, so this comes last.
     if has_only_members(v, named, &kind) {
         Ok(Some(Node { kind, span }))
     } else {
@@ -187,7 +189,7 @@ fn scope_position(v: &Value) -> Option<u32>
     u32_of(v.get("scope")?)
 }
 
-// A node of format 1.
+/// A node of format 1.
 pub(crate) fn plain_node(alloc: Global, v: &Value) -> Result<Option<Node>, AllocError>
     ensures { IfOk result (λ n. n ≡ node_of (view v.now)) }
 {

@@ -7,7 +7,7 @@ use graph_nodes::Span;
 use json_values::u32_of;
 use serde_json::Value;
 
-// The truth value of that member, false where it is left out.
+/// The truth value of that member, false where it is left out; None where it is another value.
 pub(crate) fn flag(v: &Value, name: &str) -> Option<bool>
     ensures { result ≡ flag_in name.now (view v.now) }
 {
@@ -17,7 +17,7 @@ pub(crate) fn flag(v: &Value, name: &str) -> Option<bool>
     }
 }
 
-// Whether the value is an array of so many items.
+/// Whether the value is an array of so many items.
 #[tactic(auto, using(crate::proofs::Lengths::lengths))]
 pub(crate) fn is_array_of(v: &Value, count: usize) -> bool
     ensures { result ≡ has_items count (view v.now) }
@@ -28,7 +28,7 @@ pub(crate) fn is_array_of(v: &Value, count: usize) -> bool
     }
 }
 
-// The number at that place of an array.
+/// The number at that place of an array.
 fn whole_at(v: &Value, i: usize) -> Option<u32>
     ensures { result ≡ u32_at i (view v.now) }
 {
@@ -66,7 +66,7 @@ fn span(v: &Value) -> Option<Span>
     }
 }
 
-// The span of a node, which may be left out.
+/// The span of a node, which may be left out: lines from 0, columns in bytes from 0.
 pub(crate) fn node_span(v: &Value) -> Option<Option<Span>>
     ensures { result ≡ optional_span (get (codes "span") (view v.now)) }
 {

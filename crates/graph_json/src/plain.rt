@@ -12,9 +12,12 @@ use graph_nodes::{Edge, Node};
 use serde_json::Value;
 use std::alloc::Global;
 
+/// The nodes, up to the first that has a wrong form. Positions fit 32 bits, since an array has no more items than its
+/// text has bytes.
 fn plain_nodes(alloc: Global, values: &[Value]) -> Result<Vec<Node>, GraphTextFault>
     requires { length values.now < 2 ^ 32 }
-    ensures gives { TextGives (λ v. v.items) result (collected bad_node (map node_of (map view values.now))) }
+    ensures gives { TextGives (λ v. v.items) result
+        (collected bad_node (map node_of (map view values.now))) }
     ensures short { IfOk result (λ v. vec_len v < 2 ^ 32) }
 {
     let mut nodes = Vec::new(alloc);
@@ -27,9 +30,11 @@ fn plain_nodes(alloc: Global, values: &[Value]) -> Result<Vec<Node>, GraphTextFa
     Ok(nodes)
 }
 
+/// The edges, likewise.
 fn plain_edges(alloc: Global, values: &[Value]) -> Result<Vec<Edge>, GraphTextFault>
     requires { length values.now < 2 ^ 32 }
-    ensures gives { TextGives (λ v. v.items) result (collected bad_edge (map edge_of (map view values.now))) }
+    ensures gives { TextGives (λ v. v.items) result
+        (collected bad_edge (map edge_of (map view values.now))) }
     ensures short { IfOk result (λ v. vec_len v < 2 ^ 32) }
 {
     let mut edges = Vec::new(alloc);
@@ -42,7 +47,8 @@ fn plain_edges(alloc: Global, values: &[Value]) -> Result<Vec<Edge>, GraphTextFa
     Ok(edges)
 }
 
-// The nodes and edges of a value in format 1.
+/// The nodes and edges of a value in format 1, or its first fault: the top's, then the first node's, then the first
+/// edge's.
 #[tactic(auto, unfolding(crate::specs::Plain::plain_parts, crate::specs::Top::lists_in))]
 pub(crate) fn plain_graph(
     alloc: Global,

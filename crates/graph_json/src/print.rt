@@ -12,7 +12,7 @@ use graph_nodes::{Edge, Node, NodeKind, Place, Span};
 use json::Writer;
 use std::alloc::{AllocError, Global};
 
-// A truth value's member, only where it is true.
+/// A truth value's member, only where it is true: where it is left out it is read as false.
 fn put_flag(out: &mut Writer, name: &str, flag: bool) -> Result<(), AllocError>
     ensures { Adds result out.old out.new (flag_tokens name.now flag) }
 {
@@ -23,7 +23,7 @@ fn put_flag(out: &mut Writer, name: &str, flag: bool) -> Result<(), AllocError>
     out.boolean(true)
 }
 
-// The name of the node at that position.
+/// The name of the node at that position: `n` and the position in decimal, which no reader takes for a shared place.
 fn put_name(alloc: Global, out: &mut Writer, n: u32) -> Result<(), AllocError>
     ensures { Adds result out.old out.new (token.string (name_text n) ∷ []) }
 {
@@ -125,7 +125,7 @@ fn put_own_name(alloc: Global, out: &mut Writer, named: bool, n: u32) -> Result<
     put_name(alloc, out, n)
 }
 
-// What stands before the member `reference`.
+/// What stands before the member `reference`, in the order of the names' bytes, as all members do.
 fn put_front(
     alloc: Global,
     out: &mut Writer,
@@ -142,7 +142,7 @@ fn put_front(
     put_own_name(alloc, out, named, n)
 }
 
-// The node at position n, in format 2 where it is named.
+/// The node at position n, in format 2 where it is named.
 #[tactic(auto, using(crate::proofs::Tokens::nodes))]
 pub(crate) fn put_node(
     alloc: Global,
@@ -163,7 +163,7 @@ pub(crate) fn put_node(
     out.end_object()
 }
 
-// The edge, in format 2 where it is named.
+/// The edge, in format 2 where it is named.
 pub(crate) fn put_edge(
     alloc: Global,
     out: &mut Writer,

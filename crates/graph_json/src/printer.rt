@@ -37,7 +37,7 @@ pub fn print_named(alloc: Global, graph: &FileGraph) -> Result<Vec<u8>, AllocErr
     text(alloc, true, graph)
 }
 
-// The items of the array of nodes, with its end.
+/// The items of the array of nodes, with its end.
 fn put_nodes(
     alloc: Global,
     out: &mut Writer,
@@ -54,7 +54,7 @@ fn put_nodes(
     out.end_array()
 }
 
-// The items of the array of edges, with its end.
+/// The items of the array of edges, with its end.
 fn put_edges(
     alloc: Global,
     out: &mut Writer,
@@ -82,6 +82,7 @@ fn put_graph(
     ensures edges { OnOk result (AllByRecursion EdgeFits graph.now.edges) }
     ensures checked { OnOk result (IsChecked graph.now) }
 {
+    // The members stand in the order of their names' bytes: edges, format, nodes.
     out.begin_object()?;
     out.key("edges")?;
     out.begin_array()?;
@@ -104,6 +105,7 @@ fn put_format(out: &mut Writer, named: bool) -> Result<(), AllocError>
     out.u64(2)
 }
 
+/// The text in format 2 where it is named, with what the proof of the round trip needs of the graph.
 fn text(alloc: Global, named: bool, graph: &FileGraph) -> Result<Vec<u8>, AllocError>
     ensures text { IfOk result (λ v. v.items ≡ text_of named graph.now) }
     ensures tokens { OnOk result

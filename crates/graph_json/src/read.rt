@@ -40,7 +40,7 @@ fn read(alloc: Global, bytes: &[u8]) -> Result<FileGraph, GraphTextFault>
     check(alloc, nodes, edges)
 }
 
-// The graph of these nodes and edges.
+/// The graph of these nodes and edges, whose faults come behind all those of the text.
 fn check(alloc: Global, nodes: Vec<Node>, edges: Vec<Edge>) -> Result<FileGraph, GraphTextFault>
     requires nodes { vec_len nodes < 2 ^ 32 }
     requires edges { vec_len edges < 2 ^ 32 }
@@ -53,7 +53,7 @@ fn check(alloc: Global, nodes: Vec<Node>, edges: Vec<Edge>) -> Result<FileGraph,
     }
 }
 
-// The nodes and edges of a value.
+/// The nodes and edges of a value: a member `format` alone tells the formats apart, whatever it holds.
 fn parts(alloc: Global, v: &Value) -> Result<(Vec<Node>, Vec<Edge>), GraphTextFault>
     requires { HasShortLists (view v.now) }
     ensures gives { TextGives (λ p. (p.0.items, p.1.items)) result (parts_of (view v.now)) }
@@ -65,7 +65,7 @@ fn parts(alloc: Global, v: &Value) -> Result<(Vec<Node>, Vec<Edge>), GraphTextFa
     }
 }
 
-// The value of the bytes, with how long its arrays may be.
+/// The value of the bytes. Each of its arrays has fewer than 2^32 items, since it has no more than its text has bytes.
 #[tactic(auto, using(crate::proofs::Parsing::texts))]
 fn value_of(alloc: Global, bytes: &[u8]) -> Result<Value, GraphTextFault>
     requires { length bytes.now < 2 ^ 32 }

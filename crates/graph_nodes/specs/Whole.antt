@@ -18,11 +18,14 @@ edge_of files file e = option_and_then (λ (g : Graph). slice_get g.edges e) (sl
 
 -- whether a path is cut at that place of the file
 abbrev pub is_cut_of : List Graph → ℕ → Place → Bool
-is_cut_of files file place = option_map_or (λ (g : Graph). is_cut g place) (slice_get files file) false
+is_cut_of files file place =
+    option_map_or (λ (g : Graph). is_cut g place) (slice_get files file) false
 
 -- whether the file has a reference, a definition at the position
 abbrev pub is_reference_of : List Graph → ℕ → ℕ → Bool
-is_reference_of files file n = option_map_or (λ (g : Graph). is_reference g.nodes n) (slice_get files file) false
+is_reference_of files file n =
+    option_map_or (λ (g : Graph). is_reference g.nodes n) (slice_get files file) false
 
 abbrev pub is_definition_of : List Graph → ℕ → ℕ → Bool
-is_definition_of files file n = option_map_or (λ (g : Graph). is_definition g.nodes n) (slice_get files file) false
+is_definition_of files file n =
+    option_map_or (λ (g : Graph). is_definition g.nodes n) (slice_get files file) false

@@ -14,6 +14,7 @@ pub fn first_fault(nodes: &[Node], edges: &[Edge]) -> Option<GraphFault>
     requires edges { length edges.now < 2 ^ 32 }
     ensures { result ≡ graph_fault nodes.now edges.now }
 {
+    // The numbers come first, so that no list that is too long is gone over.
     if nodes.len() > MAX_NODES {
         return Some(GraphFault::TooManyNodes(nodes.len() as u32));
     }

@@ -31,7 +31,8 @@ impl Model for FileGraph {
 
     ghost view = { λ g. record { nodes = g.nodes.items; edges = g.edges.items } };
 
-    ghost invariant = { λ g. IsIndexed g.nodes.items g.edges.items g.rows.starts.items g.rows.order.items g.marks.items };
+    ghost invariant = { λ g. IsIndexed g.nodes.items g.edges.items
+        g.rows.starts.items g.rows.order.items g.marks.items };
 }
 
 impl FileGraph {
@@ -49,7 +50,8 @@ impl FileGraph {
         ensures nodes { IfOk result (λ g. g.nodes ≡ nodes.items) }
         ensures edges { IfOk result (λ g. g.edges ≡ edges.items) }
         ensures ok { OnOk result (graph_fault nodes.items edges.items ≡ None) }
-        ensures err { IfErr result (λ e. e ≢ GraphFault.NoMemory → graph_fault nodes.items edges.items ≡ Some e) }
+        ensures err { IfErr result
+            (λ e. e ≢ GraphFault.NoMemory → graph_fault nodes.items edges.items ≡ Some e) }
     {
         if let Some(fault) = first_fault(nodes.as_slice(), edges.as_slice()) {
             return Err(fault);

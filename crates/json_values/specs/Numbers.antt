@@ -9,7 +9,9 @@ only_if test x = if test then Some x else None
 
 -- a whole number between these two, both included
 abbrev pub number_between : ℕ → ℕ → Data → Option ℕ
-number_between low high d = option_and_then (λ n. only_if (nat_le low n && nat_le n high) n) (option_and_then as_u64 (as_number d))
+number_between low high d =
+    option_and_then (λ n. only_if (nat_le low n && nat_le n high) n)
+    (option_and_then as_u64 (as_number d))
 
 -- a whole number of 32 bits
 abbrev pub u32_of : Data → Option ℕ

@@ -34,6 +34,7 @@ fn all_allowed<F: Form>(members: &Map<String, Value>, form: &F) -> bool
     all_keys(members, form)
 }
 
+/// The same of the map's keys, as std's contracts see them.
 fn all_keys<F: Form>(members: &Map<String, Value>, form: &F) -> bool
     ensures { result ≡ list_all (λ k. F.allows form.now (string_bytes k)) (keys members.now) }
 {
@@ -49,7 +50,8 @@ pub fn other_member<'a, F: Form>(v: &'a Value, form: &F) -> Option<&'a str>
 
 #[tactic(auto, using(crate::proofs::Members::members))]
 fn other_name<'a, F: Form>(members: &'a Map<String, Value>, form: &F) -> Option<&'a str>
-    ensures { option_map (λ name. name.now) result ≡ other_of (F.allows form.now) (members_view members.now.entries) }
+    ensures { option_map (λ name. name.now) result
+        ≡ other_of (F.allows form.now) (members_view members.now.entries) }
 {
     match other_key(members, form) {
         Some(name) => Some(name.as_str()),
@@ -57,8 +59,11 @@ fn other_name<'a, F: Form>(members: &'a Map<String, Value>, form: &F) -> Option<
     }
 }
 
+/// The same among the map's keys, as std's contracts see them. The map is in the order of its keys' bytes, so the first is
+/// the least.
 fn other_key<'a, F: Form>(members: &'a Map<String, Value>, form: &F) -> Option<&'a String>
-    ensures { option_map (λ k. k.now) result ≡ find (λ k. not (F.allows form.now (string_bytes k))) (keys members.now) }
+    ensures { option_map (λ k. k.now) result
+        ≡ find (λ k. not (F.allows form.now (string_bytes k))) (keys members.now) }
 {
     members.keys().find(|name| !form.may_have(name.as_str()))
 }

@@ -11,6 +11,7 @@ pub fn number(v: &Value, low: u32, high: u32) -> Option<u32>
     ensures is { result ≡ number_between low high (view v.now) }
     ensures within { IfSome result (λ n. (low ≤ n) × (n ≤ high)) }
 {
+    // serde_json gives no u64 for a number that is written with a fraction, an exponent or a minus sign.
     match v.as_u64() {
         Some(n) if low as u64 <= n && n <= high as u64 => Some(n as u32),
         _ => None,

@@ -19,7 +19,8 @@ has_tie order xs = list_any (λ x. is_eq (order x)) xs
 
 -- the list with this element: those that are less, the element, and those that are greater
 abbrev pub with_item : {X : Type 0} → (X → Ordering) → X → List X → List X
-with_item order item xs = filter (λ x. is_lt (order x)) xs ++ item ∷ filter (λ x. is_gt (order x)) xs
+with_item order item xs =
+    filter (λ x. is_lt (order x)) xs ++ item ∷ filter (λ x. is_gt (order x)) xs
 
 -- the list without what ties
 abbrev pub without_ties : {X : Type 0} → (X → Ordering) → List X → List X

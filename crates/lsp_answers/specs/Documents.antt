@@ -19,4 +19,5 @@ module_path path = if is_module path then Some path else None
 
 -- the path in the project of the document that a URI names, where it is inside
 abbrev pub path_under : List ℕ → List ℕ → Option (List ℕ)
-path_under root uri = option_and_then (λ path. option_and_then module_path (inside root path)) (decoded uri)
+path_under root uri =
+    option_and_then (λ path. option_and_then module_path (inside root path)) (decoded uri)

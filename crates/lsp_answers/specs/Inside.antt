@@ -10,7 +10,10 @@ use Rattle.nav_answers.specs.Replies.{graphs_in, number_of}
 
 -- the span of a node of the file with that path
 abbrev pub span_in : List GraphRow → List ℕ → ℕ → Option Span
-span_in files path node = option_map_or (λ (file : ℕ). option_and_then (λ (n : Node). n.span) (node_of (graphs_in files) file node)) (number_of path files) None
+span_in files path node =
+    option_map_or
+    (λ (file : ℕ). option_and_then (λ (n : Node). n.span) (node_of (graphs_in files) file node))
+    (number_of path files) None
 
 -- the row of such a node
 abbrev pub row_in : List GraphRow → List ℕ → ℕ → Row

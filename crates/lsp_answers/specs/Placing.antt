@@ -13,4 +13,5 @@ IsPlace root texts uri position place =
     MatchOption (path_under root uri) (place ≡ None) (λ path.
     MatchOption (texts path) (place ≡ None) (λ text.
     (column : Option ℕ) × IsBytesAt (line_at text position.line) position.character column
-    × (place ≡ option_map (λ (c : ℕ). record { path = path; line = position.line; column = c }) column)))
+    × (place ≡ option_map
+    (λ (c : ℕ). record { path = path; line = position.line; column = c }) column)))

@@ -28,7 +28,8 @@ usual = record { edges = 128; depth = 48 }
 
 -- A place that an editor names: nowhere, where the document isn't inside, no text of it was accepted or that has no such
 -- line; and else at a column in bytes.
-abbrev pub IsPlaced : List ℕ → Texts → List ℕ → Position → (List ℕ → At → Outcome → Type 0) → Outcome → Type 0
+abbrev pub IsPlaced : List ℕ → Texts → List ℕ → Position → (List ℕ → At → Outcome → Type 0)
+    → Outcome → Type 0
 IsPlaced root texts uri position IsTold outcome =
     MatchOption (path_under root uri) (outcome ≡ Null) (λ path.
     MatchOption (texts path) (outcome ≡ Null) (λ text.
@@ -52,14 +53,17 @@ outcome_of_fault ask.NoMemory = Null
 
 -- the definitions of the reference at a place, or why there are none
 abbrev pub AreDefinitions : List GraphRow → List ℕ → At → Result (List Row) AskFault → Type 0
-AreDefinitions files path at (Ok rows) = (answer : Answer) × (rows ≡ answer.rows) × IsDefineReply usual files path at (Ok answer)
+AreDefinitions files path at (Ok rows) =
+    (answer : Answer) × (rows ≡ answer.rows) × IsDefineReply usual files path at (Ok answer)
 AreDefinitions files path at (Err fault) = IsDefineReply usual files path at (Err fault)
 
 -- what an editor is told of them
-pub record TellsDefinitions (files : List GraphRow) (root : List ℕ) (texts : Texts) (path : List ℕ) (at : At) (outcome : Outcome) : Type 0 where
+pub record TellsDefinitions (files : List GraphRow) (root : List ℕ) (texts : Texts) (path : List ℕ)
+    (at : At) (outcome : Outcome) : Type 0 where
   pub found : Result (List Row) AskFault
   pub exact : AreDefinitions files path at found
-  pub told : MatchResult found (λ rows. outcome ≡ located root texts rows) (λ fault. outcome ≡ outcome_of_fault fault)
+  pub told : MatchResult found (λ rows. outcome ≡ located root texts rows)
+      (λ fault. outcome ≡ outcome_of_fault fault)
 
 -- the targets of `references` at a place: the definition there, and where there is none the definitions of the reference
 -- there
@@ -80,7 +84,8 @@ IsCrowdedOne files targets = IsOneCrowded usual files targets
 
 -- what an editor is told of the references of targets: with the targets where the declaration is asked for, each once
 -- in file order
-pub record IsUnion (files : List GraphRow) (root : List ℕ) (texts : Texts) (targets : List Row) (declaration : Bool) (outcome : Outcome) : Type 0 where
+pub record IsUnion (files : List GraphRow) (root : List ℕ) (texts : Texts) (targets : List Row)
+    (declaration : Bool) (outcome : Outcome) : Type 0 where
   pub all : List Row
   pub rows : List Row
   pub referred : ReferToAll files targets all
@@ -90,10 +95,13 @@ pub record IsUnion (files : List GraphRow) (root : List ℕ) (texts : Texts) (ta
 -- an editor is told of those, or is refused where the references of a target are crowded
 abbrev pub TellsTargets : List GraphRow → List ℕ → Texts → List Row → Bool → Outcome → Type 0
 TellsTargets files root texts targets declaration outcome =
-    IsUnion files root texts targets declaration outcome ⊎ (IsCrowdedOne files targets × (outcome ≡ Refused Crowded))
+    IsUnion files root texts targets declaration outcome
+    ⊎ (IsCrowdedOne files targets × (outcome ≡ Refused Crowded))
 
 -- what an editor is told of the references at a place: those of its targets, or why there are no targets
-pub record TellsReferences (files : List GraphRow) (root : List ℕ) (texts : Texts) (declaration : Bool) (path : List ℕ) (at : At) (outcome : Outcome) : Type 0 where
+pub record TellsReferences (files : List GraphRow) (root : List ℕ) (texts : Texts)
+    (declaration : Bool) (path : List ℕ) (at : At) (outcome : Outcome) : Type 0 where
   pub targets : Result (List Row) AskFault
   pub exact : AreTargets files path at targets
-  pub told : MatchResult targets (λ rows. TellsTargets files root texts rows declaration outcome) (λ fault. outcome ≡ outcome_of_fault fault)
+  pub told : MatchResult targets (λ rows. TellsTargets files root texts rows declaration outcome)
+      (λ fault. outcome ≡ outcome_of_fault fault)

@@ -22,7 +22,7 @@ pub fn path_under(alloc: Global, root: &[u8], uri: &str) -> Result<Option<PathTe
     }
 }
 
-// The path, where it is that of a module.
+/// The path, where it is that of a module. Its bytes come from a URI and may be any, also such as are no UTF-8.
 fn module_path(alloc: Global, path: &[u8]) -> Result<Option<PathText>, AllocError>
     ensures { IfOk result (λ found. found ≡ module_path path.now) }
 {
@@ -32,7 +32,7 @@ fn module_path(alloc: Global, path: &[u8]) -> Result<Option<PathText>, AllocErro
     }
 }
 
-// The text as a path, where it names a module.
+/// The text as a path, where it names a module: it is copied then alone.
 fn if_module(alloc: Global, text: &str) -> Result<Option<PathText>, AllocError>
     ensures { IfOk result (λ found. found ≡ if names_module text.now then Some text.now else None) }
 {
@@ -43,13 +43,14 @@ fn if_module(alloc: Global, text: &str) -> Result<Option<PathText>, AllocError>
     }
 }
 
+/// Whether the text is a path that a commit may put, of a document that is read as a module.
 fn names_module(text: &str) -> bool
     ensures { result ≡ names_module text.now }
 {
     is_path(text) && text.as_bytes().ends_with(b".py")
 }
 
-// Whether the text is a path as requests have them.
+/// Whether the text is a path as requests have them.
 #[tactic(auto, unfolding(nav_proto::specs::Texts::is_path))]
 fn is_path(text: &str) -> bool
     ensures { result ≡ is_path text.now }

@@ -60,7 +60,7 @@ pub fn place_of(
     }
 }
 
-// What `define` answers at the place, in the usual bounds.
+/// What `define` answers at the place, in the usual bounds: the protocol has no word for others.
 fn define_at(
     alloc: Global,
     view: &View,
@@ -69,7 +69,8 @@ fn define_at(
 ) -> Result<Answer, AskFault>
     requires index { IsIndexOfView index.now view.now }
     ensures { result ≢ Err ask.NoMemory
-        → IsDefineReply usual (graph_rows view.now) place.now.path (at.Point place.now.line place.now.column) result }
+        → IsDefineReply usual (graph_rows view.now)
+        place.now.path (at.Point place.now.line place.now.column) result }
 {
     define(
         alloc,
@@ -81,7 +82,8 @@ fn define_at(
     )
 }
 
-/// The definitions of the reference at the place, as rows.
+/// The definitions of the reference at the place, as rows. Whether a run was left out isn't told: the protocol has no
+/// word for it.
 pub(crate) fn definitions(
     alloc: Global,
     view: &View,
@@ -90,7 +92,8 @@ pub(crate) fn definitions(
 ) -> Result<Rows, AskFault>
     requires index { IsIndexOfView index.now view.now }
     ensures { result ≢ Err ask.NoMemory
-        → AreDefinitions (graph_rows view.now) place.now.path (at.Point place.now.line place.now.column) result }
+        → AreDefinitions (graph_rows view.now)
+        place.now.path (at.Point place.now.line place.now.column) result }
 {
     match define_at(alloc, view, index, place) {
         Ok(answer) => Ok(answer.rows),

@@ -39,7 +39,7 @@ fn row_at(alloc: Global, view: &View, path: &str, node: u32) -> Result<Row, Allo
     })
 }
 
-// The span of the node, where there is one.
+/// The span of the node, where there is one.
 fn span_at(view: &View, path: &str, node: u32) -> Option<Span>
     ensures { result ≡ span_in (graph_rows view.now) path.now node }
 {
@@ -49,23 +49,27 @@ fn span_at(view: &View, path: &str, node: u32) -> Option<Span>
     }
 }
 
-// The number of the file with the path; None where it isn't seen.
+/// The number of the file with the path, by halving; None where it isn't seen.
 fn number_of(view: &View, path: &str) -> Option<u32>
     ensures { result ≡ number_of path.now (graph_rows view.now) }
 {
+    // Called for its clause alone, that the rows stand in order: so a path has one number.
     let _count = view.row_count();
     view.find(path)
 }
 
-// The span of the node of the file.
+/// The span of the node of the file, given the graphs as the definition has them.
 fn span_of(view: &View, file: u32, node: u32) -> Option<Span>
-    ensures { result ≡ option_and_then (λ (n : Node). n.span) (node_of (graphs_in (graph_rows view.now)) file node) }
+    ensures { result ≡ option_and_then (λ (n : Node). n.span)
+        (node_of (graphs_in (graph_rows view.now)) file node) }
 {
     span_seen(view, file, node)
 }
 
+/// The same, given the graphs as the view holds them.
 fn span_seen(view: &View, file: u32, node: u32) -> Option<Span>
-    ensures { result ≡ option_and_then (λ (n : Node). n.span) (node_of (graphs_seen view.now) file node) }
+    ensures { result ≡ option_and_then (λ (n : Node). n.span)
+        (node_of (graphs_seen view.now) file node) }
 {
     let found = file_in(view, file)?;
     if node < found.node_count() {
@@ -75,7 +79,7 @@ fn span_seen(view: &View, file: u32, node: u32) -> Option<Span>
     }
 }
 
-// The file with that number; None where there is none.
+/// The file with that number; None where there is none.
 fn file_in(view: &View, file: u32) -> Option<&FilePaths>
     ensures { option_copied result ≡ slice_get (files_of view.now) file }
 {
@@ -86,7 +90,7 @@ fn file_in(view: &View, file: u32) -> Option<&FilePaths>
     }
 }
 
-// One row as rows; the one error is want of memory.
+/// One row as rows; the one error is want of memory.
 fn one_row(alloc: Global, row: Row) -> Result<Rows, AllocError>
     ensures { IfOk result (λ rows. rows ≡ row ∷ []) }
 {
@@ -101,7 +105,8 @@ fn one_row(alloc: Global, row: Row) -> Result<Rows, AllocError>
 fn targets(alloc: Global, view: &View, index: &RootIndex, place: &Place) -> Result<Rows, AskFault>
     requires index { IsIndexOfView index.now view.now }
     ensures { result ≢ Err ask.NoMemory
-        → AreTargets (graph_rows view.now) place.now.path (at.Point place.now.line place.now.column) result }
+        → AreTargets (graph_rows view.now)
+        place.now.path (at.Point place.now.line place.now.column) result }
 {
     let path = place.path.as_str();
     match definition_at(view, path, place.at()) {
@@ -110,7 +115,8 @@ fn targets(alloc: Global, view: &View, index: &RootIndex, place: &Place) -> Resu
     }
 }
 
-// The references of all the targets, in the usual bounds.
+/// The references of all the targets, in the usual bounds. All are asked about at once: each reference that is asked lists
+/// all its definitions anyway.
 fn refer_to_all<R: Threads + Sync, G: Gate + Sync>(
     rt: &R,
     alloc: Global,
@@ -120,7 +126,8 @@ fn refer_to_all<R: Threads + Sync, G: Gate + Sync>(
     targets: &[Row],
 ) -> Result<Rows, AskFault>
     requires index { IsIndexOfView index.now seen.old }
-    ensures reply { result ≢ Err ask.NoMemory → IsReferencesOfAnyReply usual (graph_rows seen.old) targets.now result }
+    ensures reply { result ≢ Err ask.NoMemory
+        → IsReferencesOfAnyReply usual (graph_rows seen.old) targets.now result }
     ensures same { seen.new ≡ seen.old }
 {
     references_of_any(rt, alloc, seen, index, gate, targets, Bounds::usual())
@@ -141,7 +148,8 @@ pub fn tell_references<R: Threads + Sync, G: Gate + Sync>(
     declaration: bool,
 ) -> Result<Outcome, AllocError>
     requires index { IsIndexOfView index.now seen.old }
-    ensures told { IfOk result (TellsReferences (graph_rows seen.old) root.now (texts_in texts.now) declaration
+    ensures told { IfOk result
+        (TellsReferences (graph_rows seen.old) root.now (texts_in texts.now) declaration
         place.now.path (at.Point place.now.line place.now.column)) }
     ensures same { seen.new ≡ seen.old }
 {
@@ -154,7 +162,7 @@ pub fn tell_references<R: Threads + Sync, G: Gate + Sync>(
     }
 }
 
-// The references of the targets as an editor is told of them, or why there are none. The one error is want of memory.
+/// The references of the targets as an editor is told of them, or why there are none. The one error is want of memory.
 fn tell_asked(
     alloc: Global,
     root: &[u8],
@@ -163,7 +171,8 @@ fn tell_asked(
     asked: Result<Rows, AskFault>,
     declaration: bool,
 ) -> Result<Outcome, AllocError>
-    ensures { (files : List GraphRow) → (asked ≢ Err ask.NoMemory → IsReferencesOfAnyReply usual files targets asked)
+    ensures { (files : List GraphRow)
+        → (asked ≢ Err ask.NoMemory → IsReferencesOfAnyReply usual files targets asked)
         → IfOk result (TellsTargets files root.now (texts_in texts.now) targets declaration) }
 {
     match asked {
@@ -183,13 +192,15 @@ fn tell_all(
     declaration: bool,
 ) -> Result<Outcome, AllocError>
     ensures { (files : List GraphRow) → ReferToAny usual files targets found
-        → IfOk result (λ outcome. IsUnion files root.now (texts_in texts.now) targets declaration outcome) }
+        → IfOk result
+        (λ outcome. IsUnion files root.now (texts_in texts.now) targets declaration outcome) }
 {
     let rows = in_order(with_targets(found, targets, declaration)?);
     located(alloc, root, texts, &rows)
 }
 
-// The references, and behind them the targets where the declaration is asked for.
+/// The references, and behind them the targets where the declaration is asked for. A target may be a reference too, so the
+/// rows have to be put in order.
 fn with_targets(found: Rows, targets: Rows, declaration: bool) -> Result<Vec<Row>, AllocError>
     ensures { IfOk result (λ rows. rows.items ≡ if declaration then found ++ targets else found) }
 {

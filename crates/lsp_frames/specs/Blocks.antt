@@ -65,7 +65,8 @@ number digits = fold (λ n digit. 10 * n + (digit - 48)) 0 digits
 -- the number of a value: one or more digits, with any spaces round them
 abbrev pub number_at_front : ℕ → List ℕ → Option ℕ
 number_at_front n value =
-    if nat_le 1 n && is_none (position is_no_space (drop n value)) then Some (number (take n value)) else None
+    if nat_le 1 n && is_none (position is_no_space (drop n value))
+    then Some (number (take n value)) else None
 
 -- a value without the spaces in front of it
 abbrev pub without_spaces : List ℕ → List ℕ
@@ -73,7 +74,8 @@ without_spaces value = drop (position_or_len is_no_space value) value
 
 -- the number that a value is
 abbrev pub length_of : List ℕ → Option ℕ
-length_of value = number_at_front (position_or_len is_no_digit (without_spaces value)) (without_spaces value)
+length_of value =
+    number_at_front (position_or_len is_no_digit (without_spaces value)) (without_spaces value)
 
 -- what stands behind a line's first colon, where that name stands before it
 abbrev pub value_behind : Option ℕ → List ℕ → Option (List ℕ)

@@ -68,4 +68,6 @@ frame_text body = codes "Content-Length: " ++ decimal (length body) ++ codes "\r
 
 -- what follows a whole frame doesn't change it
 abbrev pub FramesStay : Type 0
-FramesStay = (input more body rest : List ℕ) → cut input ≡ Frame body rest → cut (input ++ more) ≡ Frame body (rest ++ more)
+FramesStay =
+    (input more body rest : List ℕ) → cut input ≡ Frame body rest
+    → cut (input ++ more) ≡ Frame body (rest ++ more)

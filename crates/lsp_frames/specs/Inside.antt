@@ -54,7 +54,8 @@ pub record IsBodyAt (place : Place) (input : List ℕ) : Type 0 where
 pub record IsShortOf (wants : ℕ) (input : List ℕ) : Type 0 where
   pub few : length input < wants
   pub most : wants ≤ frame_max
-  pub short : (more : List ℕ) → length (input ++ more) < wants → is_short (cut (input ++ more)) ≡ true
+  pub short : (more : List ℕ) → length (input ++ more) < wants
+      → is_short (cut (input ++ more)) ≡ true
 
 -- what stands at the front of the input
 abbrev pub IsFront : Front → List ℕ → Type 0
@@ -65,7 +66,8 @@ IsFront front.Large input = cut input ≡ Large
 
 -- the body that stands at the place, or none
 abbrev pub body_at : Option Place → List ℕ → Option (List ℕ)
-body_at found input = option_map (λ (place : Place). take (place.to - place.from) (drop place.from input)) found
+body_at found input =
+    option_map (λ (place : Place). take (place.to - place.from) (drop place.from input)) found
 
 -- what stands behind it
 abbrev pub behind : Option Place → List ℕ → List ℕ
@@ -89,7 +91,8 @@ IsCutOff Broken mid = ⊥
 IsCutOff TooLong mid = ⊥
 
 -- the front is settled or the end was met
-pub record FindsFront (old mid : Reading) (left left' : Option (List ℕ)) (result : Result Front FrameError) : Type 0 where
+pub record FindsFront (old mid : Reading) (left left' : Option (List ℕ))
+    (result : Result Front FrameError) : Type 0 where
   pub finds : Finds old mid left left'
   pub found : MatchResult result
       (λ front. IsFront front mid.front × (is_short (cut mid.front) ≡ true → mid.ended ≡ true))
@@ -107,12 +110,15 @@ IsPlaceOf front.Large is_empty result = result ≡ Err TooLong
 abbrev pub IsWhy : FrameError → Reading → Type 0
 IsWhy ReadFault mid = (is_short (cut mid.front) ≡ true) × (mid.ended ≡ false)
 IsWhy NoMemory mid = Unit {0}
-IsWhy Broken mid = (body_of (cut mid.front) ≡ Err Broken) × (is_short (cut mid.front) ≡ true → mid.ended ≡ true)
+IsWhy Broken mid =
+    (body_of (cut mid.front) ≡ Err Broken) × (is_short (cut mid.front) ≡ true → mid.ended ≡ true)
 IsWhy TooLong mid = cut mid.front ≡ Large
 
 -- the first frame was looked for: the input ended, or its body stands there, or it is told why none was found
-pub record FindsFrame (old mid : Reading) (left left' : Option (List ℕ)) (result : Result (Option Place) FrameError) : Type 0 where
+pub record FindsFrame (old mid : Reading) (left left' : Option (List ℕ))
+    (result : Result (Option Place) FrameError) : Type 0 where
   pub finds : Finds old mid left left'
   pub found : MatchResult result
-      (λ found. MatchOption found ((mid.front ≡ []) × (mid.ended ≡ true)) (λ place. IsBodyAt place mid.front))
+      (λ found. MatchOption found ((mid.front ≡ []) × (mid.ended ≡ true))
+      (λ place. IsBodyAt place mid.front))
       (λ error. IsWhy error mid)

@@ -21,14 +21,16 @@ pub record AfterFrame (old new : Reading) (left left' next : Option (List ℕ)) 
   pub rest : ahead new left' ≡ option_map (λ text. rest_of (cut text)) (ahead old left)
   -- the frame was taken away, and no other byte
   pub kept : MatchOption next (prepend_known new.front left' ≡ prepend_known old.front left)
-      (λ body. (frame : List ℕ) × IsFrame body frame × (prepend_known (frame ++ new.front) left' ≡ prepend_known old.front left))
+      (λ body. (frame : List ℕ) × IsFrame body frame
+      × (prepend_known (frame ++ new.front) left' ≡ prepend_known old.front left))
   -- without a body, nothing is ahead
   pub none : next ≡ None → (new.front ≡ []) × IsTrue new.ended
   -- a source of which the reader met the end has nothing left
   pub at_end : (IsTrue old.ended → IsAtEnd left) → IsTrue new.ended → IsAtEnd left'
 
 -- After an error, where left became left':
-pub record AfterFrameError (old new : Reading) (left left' : Option (List ℕ)) (error : FrameError) : Type 0 where
+pub record AfterFrameError (old new : Reading) (left left' : Option (List ℕ))
+    (error : FrameError) : Type 0 where
   -- no byte is lost
   pub kept : prepend_known new.front left' ≡ prepend_known old.front left
   -- a source of which the reader met the end has nothing left
@@ -36,5 +38,6 @@ pub record AfterFrameError (old new : Reading) (left left' : Option (List ℕ)) 
   -- a fault comes only where what was taken is nothing or a beginning of a frame, and the end wasn't met
   pub fault : error ≡ ReadFault → (is_short (cut new.front) ≡ true) × (new.ended ≡ false)
   -- what is in front tells the other errors, a frame that isn't whole only at the end
-  pub broken : error ≡ Broken → (body_of (cut new.front) ≡ Err Broken) × (cut new.front ≡ Unfinished → IsTrue new.ended)
+  pub broken : error ≡ Broken
+      → (body_of (cut new.front) ≡ Err Broken) × (cut new.front ≡ Unfinished → IsTrue new.ended)
   pub too_long : error ≡ TooLong → cut new.front ≡ Large

@@ -40,7 +40,8 @@ pub(crate) fn front_of(bytes: &[u8]) -> Front
     }
 }
 
-// The same where the block has so many bytes.
+/// The same where the block has so many bytes. What the block states is told before its body is there, so that a body that
+/// is too long isn't waited for.
 #[tactic(auto, using(crate::proofs::Cuts::fronts))]
 fn behind_block(bytes: &[u8], block: usize) -> Front
     requires block { block_len bytes.now ≡ Some block }
@@ -58,7 +59,8 @@ fn behind_block(bytes: &[u8], block: usize) -> Front
     }
 }
 
-// How many bytes the block of header lines at the front has.
+/// How many bytes the block of header lines at the front has. The first empty line ends it, so lengths are tried from 0
+/// on; none above `BLOCK_MAX` is.
 fn block_len(bytes: &[u8]) -> Option<usize>
     ensures is { result ≡ block_len bytes.now }
     ensures within { IfSome result (λ n. (n ≤ length bytes.now) × (n ≤ BLOCK_MAX)) }
@@ -71,6 +73,7 @@ fn block_len(bytes: &[u8]) -> Option<usize>
     None
 }
 
+/// Whether the text ends with an empty line: alone, or behind the end of another.
 fn ends_block(text: &[u8]) -> bool
     ensures { result ≡ ends_block text.now }
 {

@@ -11,7 +11,7 @@ use crate::front::{Front, Place, front_of};
 use crate::reader::{CHUNK, FrameError};
 use nav_io::Source;
 
-// Lets go of the bytes before `start`.
+/// Lets go of the bytes before `start`, those of the frames that were answered.
 fn compact(held: &mut Vec<u8>, start: &mut usize)
     requires { start.old ≤ vec_len held.old }
     ensures items { held.new.items ≡ drop start.old held.old.items }
@@ -21,7 +21,7 @@ fn compact(held: &mut Vec<u8>, start: &mut usize)
     *start = 0;
 }
 
-// Takes one chunk of the source behind what is held, and answers its length.
+/// Takes one chunk of the source behind what is held, and answers its length, which is 0 at the end of input alone.
 fn take_chunk<S: Source>(
     held: &mut Vec<u8>,
     chunk: &mut [u8],
@@ -32,19 +32,22 @@ fn take_chunk<S: Source>(
         × (held.new.items ≡ held.old.items ++ taken)
         × (S.left source.old ≡ prepend_known taken (S.left source.new))) }
     ensures end { IfOk result (λ n. n ≡ 0 → IsAtEnd (S.left source.new)) }
-    ensures err { OnErr result ((held.new.items ≡ held.old.items) × (S.left source.new ≡ S.left source.old)) }
+    ensures err { OnErr result
+        ((held.new.items ≡ held.old.items) × (S.left source.new ≡ S.left source.old)) }
     ensures kind { result ≢ Err FrameError.Broken × result ≢ Err FrameError.TooLong }
 
     ensures count { S.faults source.old ≤ S.faults source.new }
-    ensures cause { result ≡ Err FrameError.ReadFault → HasRisen (S.faults source.old) (S.faults source.new) }
+    ensures cause { result ≡ Err FrameError.ReadFault
+        → HasRisen (S.faults source.old) (S.faults source.new) }
 {
+    // The room comes first: once the source has given bytes, a refusal would lose them.
     held.reserve(chunk.len())?;
     let n = source.read(chunk)?;
     held.extend_from_slice(&chunk[..n]).unwrap();
     Ok(n)
 }
 
-// Takes chunks until `n` bytes are held or the source is at its end, and answers whether it is.
+/// Takes chunks until `n` bytes are held or the source is at its end, and answers whether it is.
 fn fill_to<S: Source>(
     held: &mut Vec<u8>,
     chunk: &mut [u8],
@@ -61,7 +64,8 @@ fn fill_to<S: Source>(
     ensures kind { result ≢ Err FrameError.Broken × result ≢ Err FrameError.TooLong }
 
     ensures count { S.faults source.old ≤ S.faults source.new }
-    ensures cause { result ≡ Err FrameError.ReadFault → HasRisen (S.faults source.old) (S.faults source.new) }
+    ensures cause { result ≡ Err FrameError.ReadFault
+        → HasRisen (S.faults source.old) (S.faults source.new) }
 {
     while held.len() < n {
         if take_chunk(held, chunk, source)? == 0 {
@@ -71,7 +75,8 @@ fn fill_to<S: Source>(
     Ok(false)
 }
 
-// Takes what is wanting of the first frame, and answers what stands at the front.
+/// Takes what is wanting of the first frame, and answers what stands at the front. It asks for as many bytes as are known
+/// to be wanting, so a body that has come in part isn't looked at again for each chunk.
 fn fill<S: Source>(
     held: &mut Vec<u8>,
     ended: &mut bool,
@@ -89,7 +94,8 @@ fn fill<S: Source>(
     ensures kind { result ≢ Err FrameError.Broken × result ≢ Err FrameError.TooLong }
 
     ensures count { S.faults source.old ≤ S.faults source.new }
-    ensures cause { result ≡ Err FrameError.ReadFault → HasRisen (S.faults source.old) (S.faults source.new) }
+    ensures cause { result ≡ Err FrameError.ReadFault
+        → HasRisen (S.faults source.old) (S.faults source.new) }
 {
     while !*ended {
         match front_of(held) {
@@ -100,8 +106,8 @@ fn fill<S: Source>(
     Ok(front_of(held))
 }
 
-// Takes what is wanting of the first frame, and answers what stands at the front. Past the end of input the source
-// isn't asked.
+/// Takes what is wanting of the first frame, and answers what stands at the front. Past the end of input the source
+/// isn't asked.
 fn settle<S: Source>(
     held: &mut Vec<u8>,
     start: &mut usize,
@@ -116,11 +122,13 @@ fn settle<S: Source>(
         (record { front = drop start.old held.old.items; ended = ended.old })
         (record { front = drop start.new held.new.items; ended = ended.new })
         (S.left source.old) (S.left source.new) result }
-    ensures unread { is_settled (record { front = drop start.old held.old.items; ended = ended.old }) ≡ true
+    ensures unread { is_settled
+        (record { front = drop start.old held.old.items; ended = ended.old }) ≡ true
         → source.new ≡ source.old }
 
     ensures count { S.faults source.old ≤ S.faults source.new }
-    ensures cause { result ≡ Err FrameError.ReadFault → HasRisen (S.faults source.old) (S.faults source.new) }
+    ensures cause { result ≡ Err FrameError.ReadFault
+        → HasRisen (S.faults source.old) (S.faults source.new) }
 {
     let front = front_of(&held[*start..]);
     let Front::Short(_) = front else {
@@ -129,6 +137,7 @@ fn settle<S: Source>(
     if *ended {
         return Ok(front);
     }
+    // Only now, so that whole frames which came in one chunk are answered without a move.
     compact(held, start);
     fill(held, ended, chunk, source)
 }
@@ -149,17 +158,20 @@ pub(crate) fn find_frame<S: Source>(
         (record { front = drop start.old held.old.items; ended = ended.old })
         (record { front = drop start.new held.new.items; ended = ended.new })
         (S.left source.old) (S.left source.new) result }
-    ensures unread { is_settled (record { front = drop start.old held.old.items; ended = ended.old }) ≡ true
+    ensures unread { is_settled
+        (record { front = drop start.old held.old.items; ended = ended.old }) ≡ true
         → source.new ≡ source.old }
 
     ensures count { S.faults source.old ≤ S.faults source.new }
-    ensures cause { result ≡ Err FrameError.ReadFault → HasRisen (S.faults source.old) (S.faults source.new) }
+    ensures cause { result ≡ Err FrameError.ReadFault
+        → HasRisen (S.faults source.old) (S.faults source.new) }
 {
     let front = settle(held, start, ended, chunk, source)?;
     place_of(front, held.len() == *start)
 }
 
-// Where the body of what stands at the front is, or why there is none where the input ends with what is short.
+/// Where the body of what stands at the front is, or why there is none where the input ends with what is short: nothing is
+/// the end of a session, and a beginning of a frame is a broken one.
 fn place_of(front: Front, is_empty: bool) -> Result<Option<Place>, FrameError>
     ensures { IsPlaceOf front is_empty result }
 {
@@ -178,7 +190,8 @@ pub(crate) fn take_body<'a>(
     found: Option<Place>,
 ) -> Option<&'a [u8]>
     requires within { start.old ≤ length held.now }
-    requires place { IfSome found (λ place. (place.from ≤ place.to) × (place.to ≤ length (drop start.old held.now))) }
+    requires place { IfSome found
+        (λ place. (place.from ≤ place.to) × (place.to ≤ length (drop start.old held.now))) }
     ensures within { start.new ≤ length held.now }
     ensures body { option_copied result ≡ body_at found (drop start.old held.now) }
     ensures rest { drop start.new held.now ≡ behind found (drop start.old held.now) }

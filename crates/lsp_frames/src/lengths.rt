@@ -33,11 +33,12 @@ pub(crate) fn stated_length(block: &[u8]) -> Stated
     stated
 }
 
-// What is stated, and where the next line begins, with one byte more than the first `n`.
+/// What is stated, and where the next line begins, with one byte more than the first `n`.
 fn with_byte(stated: Stated, block: &[u8], start: usize, n: usize) -> (Stated, usize)
     requires { (start ≤ n) × (n < length block.now) }
     ensures begun { result.1 ≤ n + 1 }
-    ensures stated { (all : List (Option ℕ)) → StatesSoFar stated all (lengths_in (lines_left start n block.now))
+    ensures stated { (all : List (Option ℕ))
+        → StatesSoFar stated all (lengths_in (lines_left start n block.now))
         → StatesSoFar result.0 all (lengths_in (lines_left result.1 (n + 1) block.now)) }
 {
     match line_begun(&block[start..n + 1]) {
@@ -46,7 +47,7 @@ fn with_byte(stated: Stated, block: &[u8], start: usize, n: usize) -> (Stated, u
     }
 }
 
-// The line without its end, if the bytes end there.
+/// The line without its end, if the bytes end there: with a carriage return and a newline, and not with a newline alone.
 fn line_begun(bytes: &[u8]) -> Option<&[u8]>
     ensures { MatchOption (option_copied result) (ends_line bytes.now ≡ false)
         (λ line. (ends_line bytes.now ≡ true) × (line ≡ without_end bytes.now)) }
@@ -58,10 +59,11 @@ fn line_begun(bytes: &[u8]) -> Option<&[u8]>
     }
 }
 
-// What is stated with this line too.
+/// What is stated with this line too. Lines of other names are passed over, whatever they hold.
 fn with_line(stated: Stated, line: &[u8]) -> Stated
     ensures { (all : List (Option ℕ)) (lines : List (List ℕ))
-        → StatesSoFar stated all (lengths_in (line.now ∷ lines)) → StatesSoFar result all (lengths_in lines) }
+        → StatesSoFar stated all (lengths_in (line.now ∷ lines))
+        → StatesSoFar result all (lengths_in lines) }
 {
     match value_in(line) {
         Some(value) => with_value(stated, value),
@@ -75,11 +77,12 @@ fn with_value(stated: Stated, value: &[u8]) -> Stated
 {
     match stated {
         Stated::Absent => length_of(value),
+        // A second length is wrong, also where it is the same one.
         _ => Stated::Wrong,
     }
 }
 
-// The value of the line, if that is a length's.
+/// The value of the line, if that is a length's. The first colon ends the name.
 fn value_in(line: &[u8]) -> Option<&[u8]>
     ensures { option_copied result ≡ value_in line.now }
 {
@@ -95,20 +98,21 @@ fn colon_in(line: &[u8]) -> Option<usize>
     line.iter().position(|byte| *byte == b':')
 }
 
+/// Whether the name is `Content-Length`, in letters of either case (RFC 9110, section 5.1).
 fn is_length_name(name: &[u8]) -> bool
     ensures { result ≡ is_length_name name.now }
 {
     name.eq_ignore_ascii_case(b"content-length")
 }
 
-// The length that a value is.
+/// The length that a value is: digits, with any spaces round them.
 fn length_of(value: &[u8]) -> Stated
     ensures { States result (length_of value.now) }
 {
     number_of(&value[spaces_len(value)..])
 }
 
-// The same of a value without spaces at its front.
+/// The same of a value without spaces at its front.
 fn number_of(value: &[u8]) -> Stated
     ensures { States result (number_at_front (position_or_len is_no_digit value.now) value.now) }
 {
@@ -119,7 +123,7 @@ fn number_of(value: &[u8]) -> Stated
     limited(&value[..n])
 }
 
-// The length that digits are.
+/// The length that digits are, zeros in front among them.
 fn limited(digits: &[u8]) -> Stated
     ensures { States result (Some (number digits.now)) }
 {
@@ -152,14 +156,14 @@ fn digits_len(value: &[u8]) -> usize
     }
 }
 
-// Where the first byte is that isn't a space.
+/// Where the first byte is that isn't a space.
 fn text_in(value: &[u8]) -> Option<usize>
     ensures { result ≡ position is_no_space value.now }
 {
     value.iter().position(|byte| *byte != b' ')
 }
 
-// Where the first byte is that is no digit.
+/// Where the first byte is that is no digit.
 fn other_in(value: &[u8]) -> Option<usize>
     ensures { result ≡ position is_no_digit value.now }
 {
@@ -168,7 +172,8 @@ fn other_in(value: &[u8]) -> Option<usize>
         .position(|byte| !(b'0' <= *byte && *byte <= b'9'))
 }
 
-// The number that the digits are, or one more than a body may have, if that is less.
+/// The number that the digits are, or one more than a body may have, if that is less: so no line of digits is too long for
+/// a number.
 fn capped(digits: &[u8]) -> usize
     ensures { result ≡ min (number digits.now) (body_max + 1) }
 {

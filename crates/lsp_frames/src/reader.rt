@@ -14,7 +14,7 @@ use std::marker::Model;
 /// The most bytes that a body may have.
 pub const BODY_MAX: usize = 8_388_608;
 
-// How many bytes each read of the source is offered.
+/// How many bytes each read of the source is offered: as many as a pipe holds.
 pub(crate) const CHUNK: usize = 65_536;
 
 /// Why there is no next frame.
@@ -50,11 +50,11 @@ impl From<Failed> for FrameError {
 /// end of input.
 #[derive(Drop)]
 pub struct FrameReader {
-    // What was taken; the bytes before `start` are answered.
+    /// What was taken; the bytes before `start` are answered.
     held: Vec<u8>,
     start: usize,
     ended: bool,
-    // Where a read puts what it takes.
+    /// Where a read puts what it takes, `CHUNK` bytes that stay for all reads.
     chunk: Vec<u8>,
 }
 
@@ -65,9 +65,13 @@ impl Model for FrameReader {
 
     ghost Value = { Reading };
 
-    ghost view = { λ reader. record { front = drop reader.start reader.held.items; ended = reader.ended } };
+    ghost view = { λ reader. record {
+      front = drop reader.start reader.held.items;
+      ended = reader.ended;
+    } };
 
-    ghost invariant = { λ reader. (reader.start ≤ vec_len reader.held) × (CHUNK ≤ vec_len reader.chunk) };
+    ghost invariant = { λ reader. (reader.start ≤ vec_len reader.held)
+        × (CHUNK ≤ vec_len reader.chunk) };
 }
 
 impl FrameReader {
@@ -110,16 +114,20 @@ impl FrameReader {
     pub fn next_frame<S: Source>(&mut self, source: &mut S) -> Result<Option<&[u8]>, FrameError>
         ensures frame { IfOk result (λ next. IfSome (ahead self.old (S.left source.old))
             (λ text. body_of (cut text) ≡ Ok (option_copied next))) }
-        ensures short { IfOk result (λ next. IfSome (option_copied next) (λ body. length body ≤ body_max)) }
+        ensures short { IfOk result
+            (λ next. IfSome (option_copied next) (λ body. length body ≤ body_max)) }
         ensures broken { result ≡ Err FrameError.Broken
-            → IfSome (ahead self.old (S.left source.old)) (λ text. body_of (cut text) ≡ Err FrameError.Broken) }
+            → IfSome (ahead self.old (S.left source.old))
+            (λ text. body_of (cut text) ≡ Err FrameError.Broken) }
         ensures too_long { result ≡ Err FrameError.TooLong
-            → IfSome (ahead self.old (S.left source.old)) (λ text. body_of (cut text) ≡ Err FrameError.TooLong) }
+            → IfSome (ahead self.old (S.left source.old))
+            (λ text. body_of (cut text) ≡ Err FrameError.TooLong) }
         ensures unread { is_settled self.old ≡ true → source.new ≡ source.old }
 
         // What is ahead of the reader then.
         ensures* rest { sem 𝓛 (Rests the_row self.entry (λ new. MatchResult result
-            (λ next. AfterFrame self.old new (S.left source.old) (S.left source.new) (option_copied next))
+            (λ next. AfterFrame self.old new
+            (S.left source.old) (S.left source.new) (option_copied next))
             (λ e. AfterFrameError self.old new (S.left source.old) (S.left source.new) e))) }
 
         ensures count { S.faults source.old ≤ S.faults source.new }

@@ -29,7 +29,8 @@ halt_of_write write.NoMemory = NoMemory
 
 -- whether all replies to the messages that were answered are written with the status
 abbrev pub writes_all : ℕ → Bool
-writes_all status = status == 0 || status == 1 || status == 3 || status == 6 || status == 7 || status == 9
+writes_all status =
+    status == 0 || status == 1 || status == 3 || status == 6 || status == 7 || status == 9
 
 -- whether all messages that are to be answered are, with the status
 abbrev pub answers_all : ℕ → Bool
@@ -37,7 +38,10 @@ answers_all status = status == 0 || status == 1 || status == 6 || status == 7 ||
 
 -- whether a session may end with the status, and whether one may that nothing outside hinders
 abbrev pub ends_session : ℕ → Bool
-ends_session status = status == 0 || status == 1 || status == 3 || status == 4 || status == 5 || status == 6 || status == 7 || status == 9
+ends_session status =
+    status == 0 || status == 1 || status == 3 || status == 4 || status == 5 || status == 6
+    || status == 7 || status == 9
 
 abbrev pub ends_unhindered : ℕ → Bool
-ends_unhindered status = status == 0 || status == 1 || status == 5 || status == 6 || status == 7 || status == 9
+ends_unhindered status =
+    status == 0 || status == 1 || status == 5 || status == 6 || status == 7 || status == 9

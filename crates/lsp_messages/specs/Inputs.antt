@@ -96,7 +96,8 @@ status_at shut AtMost = 7
 -- the messages are those of the frames at the front of a text, one behind the other, and this is what stands behind them
 abbrev pub AreFrames : List (List ℕ) → List ℕ → List ℕ → Type 0
 AreFrames [] text rest = text ≡ rest
-AreFrames (bytes ∷ more) text rest = (behind : List ℕ) × (cut text ≡ Frame bytes behind) × AreFrames more behind rest
+AreFrames (bytes ∷ more) text rest =
+    (behind : List ℕ) × (cut text ≡ Frame bytes behind) × AreFrames more behind rest
 
 -- none of the messages is an `exit`
 abbrev pub HaveNoExit : List (List ℕ) → Type 0

@@ -10,4 +10,5 @@ pub record StandsBehind (done : List (List ℕ)) (input rest : List ℕ) (n : �
 -- messages at the front of an input, with no `exit` among them, stand so before what follows them
 abbrev pub StandInTurn : Type 0
 StandInTurn =
-    (done : List (List ℕ)) (input rest : List ℕ) (n : ℕ) → AreFrames done input rest → HaveNoExit done → StandsBehind done input rest n
+    (done : List (List ℕ)) (input rest : List ℕ) (n : ℕ) → AreFrames done input rest
+    → HaveNoExit done → StandsBehind done input rest n

@@ -11,7 +11,8 @@ AreFirst some all = (more : List (List ℕ)) × (some ++ more ≡ all)
 
 -- These messages were read of a source that had left the first of these inputs, and has the second one left now: their
 -- frames, and then what is in front of the reader, were taken. A source of which the reader met the end has no more.
-pub record HasRead (done : List (List ℕ)) (input : Option (List ℕ)) (reader : Reading) (left : Option (List ℕ)) : Type 0 where
+pub record HasRead (done : List (List ℕ)) (input : Option (List ℕ)) (reader : Reading)
+    (left : Option (List ℕ)) : Type 0 where
   pub taken : List ℕ
   pub frames : AreFrames done taken []
   -- the frames and what is in front are all that was taken of the input

@@ -24,7 +24,8 @@ abbrev pub Told : Type 1
 Told = List (List ℕ) → List (Option Reply) → Bool → Type 0
 
 -- Messages of a source that had left the first of these inputs, and has the second one left now, were served.
-pub record Serves (IsTold : Told) (left left' held held' : Option (List ℕ)) (status : ℕ) : Type 0 where
+pub record Serves (IsTold : Told) (left left' held held' : Option (List ℕ))
+    (status : ℕ) : Type 0 where
   pub answered : List (List ℕ)
   pub replies : List (Option Reply)
   pub shut : Bool
@@ -39,7 +40,9 @@ pub record Serves (IsTold : Told) (left left' held held' : Option (List ℕ)) (s
   pub holds : held' ≡ append_known held written
   pub whole : writes_all status ≡ true → written ≡ replies_text replies
   -- with 0, 1, 6, 7 and 9 all messages that are to be answered were, and the status tells why no more are
-  pub all : answers_all status ≡ true → IfSome left (λ input. answered ≡ to_answer max_messages input)
-  pub ends : answers_all status ≡ true → IfSome left (λ input. status ≡ status_at shut (ending max_messages input))
+  pub all : answers_all status ≡ true
+      → IfSome left (λ input. answered ≡ to_answer max_messages input)
+  pub ends : answers_all status ≡ true
+      → IfSome left (λ input. status ≡ status_at shut (ending max_messages input))
   -- with 3 the source failed where no more whole messages were taken
   pub short : status ≡ 3 → AreAllTaken answered left left'

@@ -18,9 +18,12 @@ pub record ReadsFrame (old new : Reading) (left left' next : Option (List ℕ)) 
   pub after : AfterFrame old new left left' next
 
 -- no body was read, for this reason
-pub record FailsToRead (old new : Reading) (left left' : Option (List ℕ)) (error : FrameError) : Type 0 where
-  pub why : error ≡ frame.Broken → IfSome (ahead old left) (λ text. body_of (cut text) ≡ Err frame.Broken)
-  pub large : error ≡ frame.TooLong → IfSome (ahead old left) (λ text. body_of (cut text) ≡ Err frame.TooLong)
+pub record FailsToRead (old new : Reading) (left left' : Option (List ℕ))
+    (error : FrameError) : Type 0 where
+  pub why : error ≡ frame.Broken
+      → IfSome (ahead old left) (λ text. body_of (cut text) ≡ Err frame.Broken)
+  pub large : error ≡ frame.TooLong
+      → IfSome (ahead old left) (λ text. body_of (cut text) ≡ Err frame.TooLong)
   pub after : AfterFrameError old new left left' error
 
 -- a message was read, which is that of these bytes
@@ -29,18 +32,21 @@ ReadsMessage old new left left' body =
     (bytes : List ℕ) × ReadsFrame old new left left' (Some bytes) × (body ≡ body_from bytes)
 
 -- what comes of reading the next message
-abbrev pub ReadsNext : Reading → Reading → Option (List ℕ) → Option (List ℕ) → Result (Option Body) Halt → Type 0
+abbrev pub ReadsNext : Reading → Reading → Option (List ℕ) → Option (List ℕ)
+    → Result (Option Body) Halt → Type 0
 ReadsNext old new left left' (Ok (Some body)) = ReadsMessage old new left left' body
 ReadsNext old new left left' (Ok None) = ReadsFrame old new left left' None
 ReadsNext old new left left' (Err SourceFailed) = FailsToRead old new left left' frame.ReadFault
 ReadsNext old new left left' (Err Broken) = FailsToRead old new left left' frame.Broken
 ReadsNext old new left left' (Err Large) = FailsToRead old new left left' frame.TooLong
 ReadsNext old new left left' (Err NoMemory) =
-    FailsToRead old new left left' frame.NoMemory ⊎ ((bytes : List ℕ) × ReadsFrame old new left left' (Some bytes))
+    FailsToRead old new left left' frame.NoMemory
+    ⊎ ((bytes : List ℕ) × ReadsFrame old new left left' (Some bytes))
 ReadsNext old new left left' (Err SinkFailed) = ⊥
 
 -- what comes of looking whether more stands behind the last message that may be answered
-abbrev pub LooksOn : Reading → Reading → Option (List ℕ) → Option (List ℕ) → Result More Halt → Type 0
+abbrev pub LooksOn : Reading → Reading → Option (List ℕ) → Option (List ℕ) → Result More Halt
+    → Type 0
 LooksOn old new left left' (Ok more.Nothing) = ReadsFrame old new left left' None
 LooksOn old new left left' (Ok more.Bytes) =
     FailsToRead old new left left' frame.Broken

@@ -55,7 +55,8 @@ pub fn next_message<S: Source>(
 ) -> Result<Option<Body>, Halt>
     ensures reads { ReadsNext reader.old reader.new (S.left source.old) (S.left source.new) result }
     ensures count { S.faults source.old ≤ S.faults source.new }
-    ensures cause { result ≡ Err halt.SourceFailed → HasRisen (S.faults source.old) (S.faults source.new) }
+    ensures cause { result ≡ Err halt.SourceFailed
+        → HasRisen (S.faults source.old) (S.faults source.new) }
 {
     match reader.next_frame(source) {
         Ok(Some(bytes)) => Ok(Some(read_body(alloc, bytes)?)),
@@ -72,11 +73,13 @@ pub fn next_message<S: Source>(
 pub fn look_on<S: Source>(reader: &mut FrameReader, source: &mut S) -> Result<More, Halt>
     ensures looks { LooksOn reader.old reader.new (S.left source.old) (S.left source.new) result }
     ensures count { S.faults source.old ≤ S.faults source.new }
-    ensures cause { result ≡ Err halt.SourceFailed → HasRisen (S.faults source.old) (S.faults source.new) }
+    ensures cause { result ≡ Err halt.SourceFailed
+        → HasRisen (S.faults source.old) (S.faults source.new) }
 {
     match reader.next_frame(source) {
         Ok(Some(_)) => Ok(More::Bytes),
         Ok(None) => Ok(More::Nothing),
+        // What stands there is no frame, but it is something.
         Err(FrameError::Broken) | Err(FrameError::TooLong) => Ok(More::Bytes),
         Err(FrameError::ReadFault) => Err(Halt::SourceFailed),
         Err(FrameError::NoMemory) => Err(Halt::NoMemory),

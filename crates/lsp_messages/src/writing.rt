@@ -19,15 +19,19 @@ use std::alloc::{AllocError, Global};
 /// - `NoMemory`: memory was wanting, here or to the sink.
 #[tactic(auto, using(crate::proofs::Written::nothing_written))]
 pub fn write_reply<K: Sink>(alloc: Global, sink: &mut K, reply: &Option<Reply>) -> Result<(), Halt>
-    ensures ok { OnOk result (K.held sink.new ≡ append_known (K.held sink.old) (reply_frame reply.now)) }
-    ensures err { OnErr result (HoldsPrefix (K.held sink.old) (reply_frame reply.now) (K.held sink.new)) }
+    ensures ok { OnOk result
+        (K.held sink.new ≡ append_known (K.held sink.old) (reply_frame reply.now)) }
+    ensures err { OnErr result
+        (HoldsPrefix (K.held sink.old) (reply_frame reply.now) (K.held sink.new)) }
 
     ensures count { K.faults sink.old ≤ K.faults sink.new }
-    ensures cause { result ≡ Err halt.SinkFailed → HasRisen (K.faults sink.old) (K.faults sink.new) }
+    ensures cause { result ≡ Err halt.SinkFailed
+        → HasRisen (K.faults sink.old) (K.faults sink.new) }
     ensures not_source { result ≡ Err halt.SourceFailed → ⊥ }
     ensures not_large { result ≡ Err halt.Large → ⊥ }
     ensures not_broken { result ≡ Err halt.Broken → ⊥ }
 {
+    // The whole frame is there before a byte is written: want of memory here leaves no half of one.
     let Ok(frame) = reply_frame(alloc, reply) else {
         return Err(Halt::NoMemory);
     };
@@ -37,7 +41,8 @@ pub fn write_reply<K: Sink>(alloc: Global, sink: &mut K, reply: &Option<Reply>) 
     }
 }
 
-// The frame of a reply, which is empty where there is none; the one error is want of memory.
+/// The frame of a reply, which is empty where there is none, so that one write serves both; the one error is want of
+/// memory.
 fn reply_frame(alloc: Global, reply: &Option<Reply>) -> Result<Vec<u8>, AllocError>
     ensures { IfOk result (λ frame. frame.items ≡ reply_frame reply.now) }
 {

@@ -10,7 +10,8 @@ use Rattle.lsp_texts.specs.Texts.{Texts, uri_under}
 
 -- the units before a column in bytes of a line, 0 where the text has no such line
 abbrev pub units_before : List ℕ → ℕ → ℕ → ℕ
-units_before text line column = option_map_or (λ (bytes : List ℕ). units_in (take column bytes)) (line_at text line) 0
+units_before text line column =
+    option_map_or (λ (bytes : List ℕ). units_in (take column bytes)) (line_at text line) 0
 
 -- the place of a line and a column in bytes, as editors count it
 abbrev pub position_in : List ℕ → ℕ → ℕ → Position
@@ -24,7 +25,8 @@ position_at (Some text) line column = position_in text line column
 -- A part of the document at a path, where that is its text: the part that a span tells, and the document's beginning
 -- where there is no span.
 abbrev pub location_with : List ℕ → List ℕ → Option (List ℕ) → Option Span → Location
-location_with root path text None = record { uri = uri_under root path; start = position_at text 0 0; end = position_at text 0 0 }
+location_with root path text None =
+    record { uri = uri_under root path; start = position_at text 0 0; end = position_at text 0 0 }
 location_with root path text (Some span) = record {
   uri = uri_under root path;
   start = position_at text span.from_line span.from_column;

@@ -19,7 +19,8 @@ with_text path text texts other = if bytes_eq other path then text else texts ot
 
 -- the texts that stand in the rooms, of which some are empty
 abbrev pub texts_in : OpenTexts → Texts
-texts_in docs path = option_and_then (λ (text : Option (List ℕ)). text) (get_by_text docs.rooms path)
+texts_in docs path =
+    option_and_then (λ (text : Option (List ℕ)). text) (get_by_text docs.rooms path)
 
 -- whether there is room at the path
 abbrev pub has_room : OpenTexts → List ℕ → Bool

@@ -24,6 +24,7 @@ pub fn location(
     location_with(alloc, root, path, texts.at(path), span)
 }
 
+/// The same, given the text at the path where there is one.
 fn location_with(
     alloc: Global,
     root: &[u8],
@@ -31,7 +32,8 @@ fn location_with(
     text: Option<&OpenText>,
     span: Option<Span>,
 ) -> Result<Location, AllocError>
-    ensures { IfOk result (λ l. l ≡ location_with root.now path.now (option_copied text.entry) span) }
+    ensures { IfOk result
+        (λ l. l ≡ location_with root.now path.now (option_copied text.entry) span) }
 {
     let uri = uri_under(alloc, root, path)?;
     match span {
@@ -48,7 +50,8 @@ fn location_with(
     }
 }
 
-// The place in a text, or without one.
+/// The place in a text. Without one, as of a file that isn't open, its character is 0: the units of a column can't be
+/// counted.
 fn position_at(text: Option<&OpenText>, line: u32, column: u32) -> Position
     ensures { result ≡ position_at (option_copied text.entry) line column }
 {
@@ -58,7 +61,7 @@ fn position_at(text: Option<&OpenText>, line: u32, column: u32) -> Position
     }
 }
 
-// The URI of the document at the path of the project.
+/// The URI of the document at the path of the project.
 fn uri_under(alloc: Global, root: &[u8], path: &str) -> Result<Text, AllocError>
     ensures { IfOk result (λ uri. uri ≡ uri_under root.now path.now) }
 {

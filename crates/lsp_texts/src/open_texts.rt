@@ -50,6 +50,7 @@ impl OpenTexts {
         requires room { has_room self.old path.now ≡ true }
         ensures { AreSame (with_text path.now (Some text) (texts_in self.old)) (texts_in self.new) }
     {
+        // The room is there by now, since a change that is accepted must not be lost for want of memory.
         if let Some(room) = self.rooms.get_mut(path) {
             *room = Some(text);
         }

@@ -24,7 +24,9 @@ has_32_bits (negsuc n) = nat_lt n 2147483648
 
 -- the number of a value, where it is such a one
 abbrev pub i32_of : Data → Option ℤ
-i32_of d = option_and_then (λ z. if has_32_bits z then Some z else None) (option_and_then as_i64 (as_number d))
+i32_of d =
+    option_and_then (λ z. if has_32_bits z then Some z else None)
+    (option_and_then as_i64 (as_number d))
 
 -- the id of a message: a text, or such a number
 abbrev pub id_of : Data → Option Id

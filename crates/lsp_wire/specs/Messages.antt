@@ -26,7 +26,8 @@ method_of name =
     (if bytes_eq name (codes "textDocument/didChange") then Some method.DidChange else
     (if bytes_eq name (codes "textDocument/didClose") then Some method.DidClose else
     (if bytes_eq name (codes "textDocument/definition") then Some method.Definition else
-    (if bytes_eq name (codes "textDocument/references") then Some method.References else None))))))))
+    (if bytes_eq name (codes "textDocument/references") then Some method.References
+    else None))))))))
 
 -- a document is opened: its URI and its text
 unfoldable pub opened : Data → Option Asks
@@ -107,7 +108,9 @@ message_with named d = do
 -- an object with this method, or none
 abbrev pub body_with : Option Data → Data → Body
 body_with None d = body.Passed
-body_with (Some name) d = unwrap_or (option_map body.Message (message_with (option_map method_of (as_str name)) d)) body.Invalid
+body_with (Some name) d =
+    unwrap_or (option_map body.Message (message_with (option_map method_of (as_str name)) d))
+    body.Invalid
 
 -- what a value is
 abbrev pub body_of : Data → Body

@@ -30,11 +30,15 @@ refusal_text Crowded = codes "{\"code\":1,\"message\":\"crowded\"}"
 
 -- a place in a text
 abbrev pub position_text : Position → List ℕ
-position_text p = concat (codes "{\"character\":" ∷ decimal p.character ∷ codes ",\"line\":" ∷ decimal p.line ∷ codes "}" ∷ [])
+position_text p =
+    concat (codes "{\"character\":" ∷ decimal p.character ∷ codes ",\"line\":" ∷ decimal p.line
+    ∷ codes "}" ∷ [])
 
 -- a part of a document
 abbrev pub location_text : Location → List ℕ
-location_text l = concat (codes "{\"range\":{\"end\":" ∷ position_text l.end ∷ codes ",\"start\":" ∷ position_text l.start ∷ codes "},\"uri\":" ∷ quoted l.uri ∷ codes "}" ∷ [])
+location_text l =
+    concat (codes "{\"range\":{\"end\":" ∷ position_text l.end ∷ codes ",\"start\":"
+    ∷ position_text l.start ∷ codes "},\"uri\":" ∷ quoted l.uri ∷ codes "}" ∷ [])
 
 -- a location after another one
 abbrev pub next_text : Location → List ℕ
@@ -47,19 +51,26 @@ locations_text (l ∷ ls) = location_text l ++ flat_map next_text ls
 
 -- a result
 abbrev pub result_text : List ℕ → List ℕ → List ℕ
-result_text id result = concat (codes "{\"id\":" ∷ id ∷ codes ",\"jsonrpc\":\"2.0\",\"result\":" ∷ result ∷ codes "}" ∷ [])
+result_text id result =
+    concat (codes "{\"id\":" ∷ id ∷ codes ",\"jsonrpc\":\"2.0\",\"result\":" ∷ result
+    ∷ codes "}" ∷ [])
 
 -- a result that is a list
 abbrev pub list_text : List ℕ → List ℕ → List ℕ
-list_text id list = concat (codes "{\"id\":" ∷ id ∷ codes ",\"jsonrpc\":\"2.0\",\"result\":[" ∷ list ∷ codes "]}" ∷ [])
+list_text id list =
+    concat (codes "{\"id\":" ∷ id ∷ codes ",\"jsonrpc\":\"2.0\",\"result\":[" ∷ list
+    ∷ codes "]}" ∷ [])
 
 -- an error
 abbrev pub error_text : List ℕ → List ℕ → List ℕ
-error_text id refusal = concat (codes "{\"error\":" ∷ refusal ∷ codes ",\"id\":" ∷ id ∷ codes ",\"jsonrpc\":\"2.0\"}" ∷ [])
+error_text id refusal =
+    concat (codes "{\"error\":" ∷ refusal ∷ codes ",\"id\":" ∷ id
+    ∷ codes ",\"jsonrpc\":\"2.0\"}" ∷ [])
 
 -- what a server can do: definitions, references, and documents sent whole with each change
 abbrev pub capabilities_text : List ℕ
-capabilities_text = codes "{\"capabilities\":{\"definitionProvider\":true,\"referencesProvider\":true,\"textDocumentSync\":1}}"
+capabilities_text =
+    codes "{\"capabilities\":{\"definitionProvider\":true,\"referencesProvider\":true,\"textDocumentSync\":1}}"
 
 -- the text of an outcome of a message with this id
 abbrev pub outcome_text : List ℕ → Outcome → List ℕ

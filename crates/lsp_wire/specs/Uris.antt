@@ -6,7 +6,8 @@ use Rattle.percent_encoding.specs.Percent.{percent_sign, percent_decode, percent
 
 -- what stands behind these bytes, where the text begins with them
 abbrev pub behind : List ℕ → List ℕ → Option (List ℕ)
-behind front text = if starts_with (λ a b. a == b) text front then Some (drop (length front) text) else None
+behind front text =
+    if starts_with (λ a b. a == b) text front then Some (drop (length front) text) else None
 
 -- two hexadecimal digits of either case are at the front
 abbrev pub has_digits : List ℕ → Bool
@@ -50,7 +51,8 @@ NamesItsPath = (path : List ℕ) → All (λ byte. byte < 256) path → decoded 
 
 -- a path without a slash at its end
 abbrev pub without_slash : List ℕ → List ℕ
-without_slash path = if ends_with (λ a b. a == b) path (47 ∷ []) then take (length path - 1) path else path
+without_slash path =
+    if ends_with (λ a b. a == b) path (47 ∷ []) then take (length path - 1) path else path
 
 -- the root that a client names: the path of its URI without a slash at the end, and empty where that names none
 abbrev pub or_empty : Option (List ℕ) → List ℕ

@@ -69,7 +69,7 @@ fn asks_by(alloc: Global, method: Method, params: Value) -> Result<Asks, AllocEr
     }
 }
 
-// What is asked for, or that the method's parameters are wrong.
+/// What is asked for, or that the method's parameters are wrong, which the method alone doesn't tell.
 fn or_wrong(asks: Option<Asks>, method: Method) -> Asks
     ensures { result ≡ unwrap_or asks (WrongParams method) }
 {
@@ -79,7 +79,7 @@ fn or_wrong(asks: Option<Asks>, method: Method) -> Asks
     }
 }
 
-// A document is opened.
+/// A document is opened. Its URI is copied before its text is taken out of the parameters.
 #[tactic(auto, unfolding(crate::specs::Messages::opened))]
 fn opened(alloc: Global, params: Value) -> Result<Option<Asks>, AllocError>
     ensures { IfOk result (λ asks. asks ≡ opened (view params)) }
@@ -93,7 +93,7 @@ fn opened(alloc: Global, params: Value) -> Result<Option<Asks>, AllocError>
     }
 }
 
-// The text of the document in the parameters.
+/// The text of the document in the parameters, moved out of them: it may be megabytes.
 fn document_text(params: Value) -> Option<Text>
     ensures { result ≡ member (codes "textDocument") (member (codes "text") as_str) (view params) }
 {
@@ -104,7 +104,7 @@ fn document_text(params: Value) -> Option<Text>
     }
 }
 
-// A document is changed.
+/// A document is changed, by changes of its whole text alone, as the server's capabilities ask for.
 #[tactic(auto, unfolding(crate::specs::Messages::changed))]
 fn changed(alloc: Global, params: Value) -> Result<Option<Asks>, AllocError>
     ensures { IfOk result (λ asks. asks ≡ changed (view params)) }
@@ -121,9 +121,10 @@ fn changed(alloc: Global, params: Value) -> Result<Option<Asks>, AllocError>
     }
 }
 
-// The changes in the parameters.
+/// The changes in the parameters, moved out of them.
 fn changes_in(params: Value) -> Option<Vec<Value>>
-    ensures { option_map (λ vs. map view vs.items) result ≡ member (codes "contentChanges") list_of (view params) }
+    ensures { option_map (λ vs. map view vs.items) result
+        ≡ member (codes "contentChanges") list_of (view params) }
 {
     let mut params = params;
     match take_member(&mut params, "contentChanges") {
@@ -132,7 +133,8 @@ fn changes_in(params: Value) -> Option<Vec<Value>>
     }
 }
 
-// The text after these changes, where each is one, and none where there are none.
+/// The text after these changes, which is that of the last, where each is one; none where there are none, and then the
+/// document's text stays.
 fn text_after(changes: Vec<Value>) -> Option<Option<Text>>
     ensures { result ≡ text_after None (map view changes.items) }
 {
@@ -146,7 +148,7 @@ fn text_after(changes: Vec<Value>) -> Option<Option<Text>>
     Some(last)
 }
 
-// The text that the change gives.
+/// The text that the change gives. One with a member `range` changes a part, also where that is `null`.
 fn change_of(v: Value) -> Option<Text>
     ensures { result ≡ change_of (view v) }
 {
@@ -156,7 +158,7 @@ fn change_of(v: Value) -> Option<Text>
     take_text(v, "text")
 }
 
-// A document is closed.
+/// A document is closed.
 fn closed(alloc: Global, params: &Value) -> Result<Option<Asks>, AllocError>
     ensures { IfOk result (λ asks. asks ≡ closed (view params.now)) }
 {
@@ -166,7 +168,7 @@ fn closed(alloc: Global, params: &Value) -> Result<Option<Asks>, AllocError>
     }
 }
 
-// The definitions are asked for.
+/// The definitions are asked for.
 #[tactic(auto, unfolding(crate::specs::Messages::definition))]
 fn definition(alloc: Global, params: &Value) -> Result<Option<Asks>, AllocError>
     ensures { IfOk result (λ asks. asks ≡ definition (view params.now)) }
@@ -180,7 +182,7 @@ fn definition(alloc: Global, params: &Value) -> Result<Option<Asks>, AllocError>
     }
 }
 
-// The references are asked for.
+/// The references are asked for, with the declaration among them or not: the protocol wants that said.
 #[tactic(auto, unfolding(crate::specs::Messages::references))]
 fn references(alloc: Global, params: &Value) -> Result<Option<Asks>, AllocError>
     ensures { IfOk result (λ asks. asks ≡ references (view params.now)) }
@@ -201,16 +203,17 @@ fn references(alloc: Global, params: &Value) -> Result<Option<Asks>, AllocError>
     }
 }
 
-// The place in the parameters.
+/// The place in the parameters, in lines and UTF-16 code units from 0.
 fn position_in(params: &Value) -> Option<Position>
     ensures { result ≡ member (codes "position") position_of (view params.now) }
 {
     position_of(params.get("position")?)
 }
 
-// Whether the parameters ask for the declaration too.
+/// Whether the parameters ask for the declaration too; None where they don't say.
 fn declaration_in(params: &Value) -> Option<bool>
-    ensures { result ≡ member (codes "context") (member (codes "includeDeclaration") as_bool) (view params.now) }
+    ensures { result
+        ≡ member (codes "context") (member (codes "includeDeclaration") as_bool) (view params.now) }
 {
     params.get("context")?.get("includeDeclaration")?.as_bool()
 }

@@ -25,7 +25,7 @@ pub fn read_body(alloc: Global, bytes: &[u8]) -> Result<Body, AllocError>
     }
 }
 
-// What the value is.
+/// What the value is. An object without a method is passed over whatever its id, as a client's reply is.
 fn body_of(alloc: Global, v: Value) -> Result<Body, AllocError>
     ensures { IfOk result (λ body. body ≡ body_of (view v)) }
 {
@@ -42,14 +42,14 @@ fn body_of(alloc: Global, v: Value) -> Result<Body, AllocError>
     }
 }
 
-// The method that is named, which may be unknown, if the name is a text.
+/// The method that is named, which may be unknown, if the name is a text.
 fn method_named(name: &Value) -> Option<Option<Method>>
     ensures { result ≡ option_map method_of (as_str (view name.now)) }
 {
     Some(method_of(name.as_str()?))
 }
 
-// The message with this method.
+/// The message with this method. Its id is read before its parameters, since these take the value apart.
 #[tactic(auto, unfolding(crate::specs::Messages::message_with))]
 fn message(
     alloc: Global,
@@ -68,7 +68,7 @@ fn message(
     Ok(Some(Message { id, asks }))
 }
 
-// The id of the message, if it has one.
+/// The id of the message, if it has one; the outer None where there is a member `id` that is none, as `null`.
 fn id_in(alloc: Global, v: &Value) -> Result<Option<Option<Id>>, AllocError>
     ensures { IfOk result (λ id. id ≡ id_from (get (codes "id") (view v.now))) }
 {
@@ -81,7 +81,7 @@ fn id_in(alloc: Global, v: &Value) -> Result<Option<Option<Id>>, AllocError>
     }
 }
 
-// The parameters of the message.
+/// The parameters of the message, moved out of it; `null` where it has none, in which every member is missing.
 fn params_of(v: Value) -> Value
     ensures { view result ≡ params_of (view v) }
 {

@@ -9,7 +9,7 @@ use json_values::u32_of;
 use serde_json::Value;
 use std::alloc::{AllocError, Global};
 
-// The string of this value, whose bytes aren't copied.
+/// The string of this value, whose bytes aren't copied.
 fn string_of(v: Value) -> Option<Text>
     ensures { result ≡ as_str (view v) }
 {
@@ -80,7 +80,7 @@ pub(crate) fn id_of(alloc: Global, v: &Value) -> Result<Option<Id>, AllocError>
     }
 }
 
-// The id that a number is.
+/// The id that a number is.
 fn number_id(v: &Value) -> Option<Id>
     ensures { result ≡ option_map id.Number (i32_of (view v.now)) }
 {
@@ -90,7 +90,7 @@ fn number_id(v: &Value) -> Option<Id>
     }
 }
 
-// The value as a whole number of 32 bits with a sign.
+/// The value as a whole number of 32 bits with a sign, as the protocol's `integer` is.
 fn i32_of(v: &Value) -> Option<i32>
     ensures { result ≡ i32_of (view v.now) }
 {

@@ -15,7 +15,7 @@ pub fn print_reply(alloc: Global, reply: &Reply) -> Result<String, AllocError>
     outcome_text(alloc, id.as_str(), &reply.outcome)
 }
 
-// The text of an outcome of a message with this id.
+/// The text of an outcome of a message with this id. Members stand in the order of their names' bytes.
 fn outcome_text(alloc: Global, id: &str, outcome: &Outcome) -> Result<String, AllocError>
     ensures { IfOk result (λ text. string_bytes text ≡ outcome_text id.now outcome.now) }
 {
@@ -30,28 +30,28 @@ fn outcome_text(alloc: Global, id: &str, outcome: &Outcome) -> Result<String, Al
     }
 }
 
-// A result.
+/// A result.
 fn result_text(alloc: Global, id: &str, outcome: &str) -> Result<String, AllocError>
     ensures { IfOk result (λ text. string_bytes text ≡ result_text id.now outcome.now) }
 {
     format!(in alloc; "{{\"id\":{id},\"jsonrpc\":\"2.0\",\"result\":{outcome}}}")
 }
 
-// A result that is a list.
+/// A result that is a list.
 fn list_text(alloc: Global, id: &str, list: &str) -> Result<String, AllocError>
     ensures { IfOk result (λ text. string_bytes text ≡ list_text id.now list.now) }
 {
     format!(in alloc; "{{\"id\":{id},\"jsonrpc\":\"2.0\",\"result\":[{list}]}}")
 }
 
-// An error.
+/// An error. It stands where a result would, since a reply has one of the two.
 fn error_text(alloc: Global, id: &str, error: &str) -> Result<String, AllocError>
     ensures { IfOk result (λ text. string_bytes text ≡ error_text id.now error.now) }
 {
     format!(in alloc; "{{\"error\":{error},\"id\":{id},\"jsonrpc\":\"2.0\"}}")
 }
 
-// An id, `null` where there is none.
+/// An id, `null` where there is none: JSON-RPC 2.0, section 5, asks for that where it couldn't be read.
 fn id_text(alloc: Global, id: &Option<Id>) -> Result<String, AllocError>
     ensures { IfOk result (λ text. string_bytes text ≡ id_text id.now) }
 {
@@ -62,14 +62,15 @@ fn id_text(alloc: Global, id: &Option<Id>) -> Result<String, AllocError>
     }
 }
 
-// What a server can do.
+/// What a server can do. `textDocumentSync` 1 asks for the whole text with each change.
 fn capabilities_text() -> &'static str
     ensures { result.now ≡ capabilities_text }
 {
     "{\"capabilities\":{\"definitionProvider\":true,\"referencesProvider\":true,\"textDocumentSync\":1}}"
 }
 
-// The code and the message of a refusal.
+/// The code and the message of a refusal. The negative codes are those of JSON-RPC 2.0, section 5.1, and of the Language
+/// Server Protocol; 1 is this server's own.
 fn refusal_text(refusal: Refusal) -> &'static str
     ensures { result.now ≡ refusal_text refusal }
 {
@@ -83,7 +84,7 @@ fn refusal_text(refusal: Refusal) -> &'static str
     }
 }
 
-// The parts with a comma between each and the next.
+/// The parts with a comma between each and the next.
 fn locations_text(alloc: Global, locations: &[Location]) -> Result<String, AllocError>
     ensures { IfOk result (λ text. string_bytes text ≡ locations_text locations.now) }
 {
@@ -98,7 +99,7 @@ fn locations_text(alloc: Global, locations: &[Location]) -> Result<String, Alloc
     Ok(text)
 }
 
-// One part of a document.
+/// One part of a document.
 fn location_text(alloc: Global, location: &Location) -> Result<String, AllocError>
     ensures { IfOk result (λ text. string_bytes text ≡ location_text location.now) }
 {
@@ -108,7 +109,7 @@ fn location_text(alloc: Global, location: &Location) -> Result<String, AllocErro
     format!(in alloc; "{{\"range\":{{\"end\":{end},\"start\":{start}}},\"uri\":{uri}}}")
 }
 
-// A place in a text.
+/// A place in a text.
 fn position_text(alloc: Global, position: Position) -> Result<String, AllocError>
     ensures { IfOk result (λ text. string_bytes text ≡ position_text position) }
 {
@@ -116,7 +117,7 @@ fn position_text(alloc: Global, position: Position) -> Result<String, AllocError
     format!(in alloc; "{{\"character\":{character},\"line\":{line}}}")
 }
 
-// The text as a JSON string.
+/// The text as a JSON string.
 fn quoted_text(alloc: Global, text: &str) -> Result<String, AllocError>
     ensures { IfOk result (λ s. string_bytes s ≡ quoted text.now) }
 {

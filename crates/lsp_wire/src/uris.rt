@@ -7,7 +7,8 @@ ghost use Rattle.lsp_wire.specs.Uris.{behind, has_digits, is_escaped, unescaped,
 use percent_encoding::{AsciiSet, NON_ALPHANUMERIC, ascii_set, percent_decode, percent_encode};
 use std::alloc::{AllocError, Global};
 
-// The bytes of ASCII that don't stand for themselves.
+/// The bytes of ASCII that don't stand for themselves: all but letters, digits, the unreserved marks of RFC 3986, section
+/// 2.3, and the slash, which parts a path.
 const ESCAPED: AsciiSet = ascii_set!(
     NON_ALPHANUMERIC
         .remove(b'-')
@@ -31,7 +32,7 @@ pub fn path_of_uri(alloc: Global, uri: &str) -> Result<Option<Vec<u8>>, AllocErr
     }
 }
 
-// What stands behind `front`, where the text begins with that.
+/// What stands behind `front`, where the text begins with that.
 fn behind<'a>(text: &'a [u8], front: &[u8]) -> Option<&'a [u8]>
     ensures { option_copied result ≡ behind front.now text.now }
 {
@@ -42,7 +43,8 @@ fn behind<'a>(text: &'a [u8], front: &[u8]) -> Option<&'a [u8]>
     }
 }
 
-// The bytes that the escaped ones stand for.
+/// The bytes that the escaped ones stand for. The escapes are tested before, since `percent_decode` lets a wrong one stand
+/// for itself.
 fn unescaped(alloc: Global, path: &[u8]) -> Result<Option<Vec<u8>>, AllocError>
     ensures { IfOk result (λ bytes. option_map (λ v. v.items) bytes ≡ unescaped path.now) }
 {
@@ -54,6 +56,7 @@ fn unescaped(alloc: Global, path: &[u8]) -> Result<Option<Vec<u8>>, AllocError>
     Ok(Some(bytes))
 }
 
+/// Whether each `%` has its two digits.
 fn is_escaped(path: &[u8]) -> bool
     ensures { result ≡ is_escaped path.now }
 {
@@ -102,6 +105,7 @@ pub fn root_of(alloc: Global, uri: Option<&str>) -> Result<Vec<u8>, AllocError>
     }
 }
 
+/// The path without one slash at its end, so that a root is the same with it and without.
 fn without_slash(path: Vec<u8>) -> Vec<u8>
     ensures { result.items ≡ without_slash path.items }
 {

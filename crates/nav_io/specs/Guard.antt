@@ -4,7 +4,9 @@ use Rattle.std.specs.List.{list_any, starts_with}
 
 -- the methods, each as far as it tells a request from a line that this server answers
 abbrev pub methods : List (List ℕ)
-methods = codes "GET " ∷ codes "POST" ∷ codes "PUT " ∷ codes "HEAD" ∷ codes "OPTIONS" ∷ codes "DELETE" ∷ codes "PATCH" ∷ codes "CONNECT" ∷ codes "TRACE" ∷ []
+methods =
+    codes "GET " ∷ codes "POST" ∷ codes "PUT " ∷ codes "HEAD" ∷ codes "OPTIONS" ∷ codes "DELETE"
+    ∷ codes "PATCH" ∷ codes "CONNECT" ∷ codes "TRACE" ∷ []
 
 -- whether the bytes begin with one of them; whether one of them begins with the bytes
 abbrev pub begins_request : List ℕ → Bool

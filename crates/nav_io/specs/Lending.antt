@@ -9,7 +9,11 @@ pub record Lending (X : Type 0) : Type 0 where
 
 -- the first n of those that wait were given out
 abbrev pub lend : {X : Type 0} → ℕ → Lending X → Lending X
-lend n things = record { waiting = drop n things.waiting; gave = things.gave ++ take n things.waiting; back = things.back }
+lend n things = record {
+  waiting = drop n things.waiting;
+  gave = things.gave ++ take n things.waiting;
+  back = things.back;
+}
 
 -- these came back
 abbrev pub take_back : {X : Type 0} → Lending X → List X → Lending X

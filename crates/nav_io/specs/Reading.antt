@@ -13,7 +13,8 @@ pub record Reading : Type 0 where
 
 -- The text ahead, where the source tells what it has left: the bytes in front, and then those left, which a reader that met the end doesn't ask for.
 abbrev pub ahead : Reading → Option (List ℕ) → Option (List ℕ)
-ahead reader left = option_map (λ bytes. if reader.ended then reader.front else reader.front ++ bytes) left
+ahead reader left =
+    option_map (λ bytes. if reader.ended then reader.front else reader.front ++ bytes) left
 
 -- After a line or at the end, where next is the line and left became left':
 pub record AfterLine (old new : Reading) (left left' next : Option (List ℕ)) : Type 0 where
@@ -25,10 +26,12 @@ pub record AfterLine (old new : Reading) (left left' next : Option (List ℕ)) :
   pub at_end : (IsTrue old.ended → IsAtEnd left) → IsTrue new.ended → IsAtEnd left'
   -- a newline ended the line, or the reader met the end
   pub ended_by : IfSome next (λ line.
-      (prepend_known old.front left ≡ prepend_known (line ++ 10 ∷ new.front) left') ⊎ IsTrue new.ended)
+      (prepend_known old.front left ≡ prepend_known (line ++ 10 ∷ new.front) left')
+      ⊎ IsTrue new.ended)
 
 -- After an error, where left became left':
-pub record AfterError (old new : Reading) (left left' : Option (List ℕ)) (error : LineError) : Type 0 where
+pub record AfterError (old new : Reading) (left left' : Option (List ℕ))
+    (error : LineError) : Type 0 where
   -- no byte is lost
   pub kept : prepend_known new.front left' ≡ prepend_known old.front left
   pub same_end : new.ended ≡ old.ended
@@ -49,7 +52,8 @@ whole_line reader = if is_whole reader then line_at_front reader.front else None
 
 -- the reader without the whole line in front, if there is one
 abbrev pub past_whole_line : Reading → Reading
-past_whole_line reader = record reader { front = if is_whole reader then after_line reader.front else reader.front }
+past_whole_line reader =
+    record reader { front = if is_whole reader then after_line reader.front else reader.front }
 
 -- the first n bytes of a text, or nothing where it has fewer
 abbrev pub bytes_at_front : ℕ → List ℕ → Option (List ℕ)
@@ -67,7 +71,8 @@ bytes_or_none (Some bytes) = bytes
 -- After n bytes or at the end, where next are the bytes and left became left':
 pub record AfterBytes (n : ℕ) (old new : Reading) (left left' next : Option (List ℕ)) : Type 0 where
   -- what stood behind the bytes is ahead, and all where there are none
-  pub rest : MatchOption next (ahead new left' ≡ ahead old left) (λ bytes. ahead new left' ≡ option_map (drop n) (ahead old left))
+  pub rest : MatchOption next (ahead new left' ≡ ahead old left)
+      (λ bytes. ahead new left' ≡ option_map (drop n) (ahead old left))
   -- no byte is lost
   pub kept : prepend_known (bytes_or_none next ++ new.front) left' ≡ prepend_known old.front left
   -- without the bytes, fewer are in front and the end was met
@@ -76,7 +81,8 @@ pub record AfterBytes (n : ℕ) (old new : Reading) (left left' next : Option (L
   pub at_end : (IsTrue old.ended → IsAtEnd left) → IsTrue new.ended → IsAtEnd left'
 
 -- After an error in place of n bytes, where left became left':
-pub record AfterBytesError (n : ℕ) (old new : Reading) (left left' : Option (List ℕ)) (error : LineError) : Type 0 where
+pub record AfterBytesError (n : ℕ) (old new : Reading) (left left' : Option (List ℕ))
+    (error : LineError) : Type 0 where
   -- no byte is lost
   pub kept : prepend_known new.front left' ≡ prepend_known old.front left
   pub same_end : new.ended ≡ old.ended

@@ -8,4 +8,5 @@ append_told told more = option_map (λ xs. xs ++ more) told
 
 -- Of the things given out at least n haven't come back, where both lists are told.
 abbrev pub HasOut : {X : Type 0} → Option (List X) → Option (List X) → ℕ → Type 0
-HasOut gave back n = IfSome gave (λ given. IfSome back (λ returned. length returned + n ≤ length given))
+HasOut gave back n =
+    IfSome gave (λ given. IfSome back (λ returned. length returned + n ≤ length given))

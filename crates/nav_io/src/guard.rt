@@ -84,6 +84,7 @@ impl<R: Read> Read for Guarded<R> {
                 }
             }
         };
+        // For `cut`, which a door asks once the connection has ended: it sees neither lines nor replies.
         self.count(&buf[..n]);
         Ok(n)
     }
@@ -92,8 +93,10 @@ impl<R: Read> Read for Guarded<R> {
 /// The first bytes of a connection, read on until they are told from those of a request; None where they begin one.
 fn first_read<R: Read>(reader: &mut R, buf: &mut [u8]) -> io::Result<Option<usize>>
     ensures bound { IfOk result (λ o. IfSome o (λ n. n ≤ length buf.new)) }
-    ensures no_request { IfOk result (λ o. IfSome o (λ n. begins_request (take n buf.new) ≡ false)) }
-    ensures request { IfOk result (λ o. IfNone o ((n : ℕ) × (begins_request (take n buf.new) ≡ true))) }
+    ensures no_request { IfOk result
+        (λ o. IfSome o (λ n. begins_request (take n buf.new) ≡ false)) }
+    ensures request { IfOk result
+        (λ o. IfNone o ((n : ℕ) × (begins_request (take n buf.new) ≡ true))) }
 {
     let n = read_on(reader, buf)?;
     if begins_request(&buf[..n]) {

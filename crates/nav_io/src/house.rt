@@ -79,7 +79,8 @@ pub trait House {
     ///
     /// `Failed` comes only where the count of faults rose in this call.
     fn doors(&mut self, alloc: Global, port: u16, count: u32) -> Result<Vec<Self::D>, HouseFault>
-        ensures ok { IfOk result (λ doors. gave self.new ≡ append_told (gave self.old) doors.items) }
+        ensures ok { IfOk result
+            (λ doors. gave self.new ≡ append_told (gave self.old) doors.items) }
         ensures all { IfOk result (λ doors. vec_len doors ≡ count) }
         ensures out { OnOk result (HasOut (gave self.new) (got_back self.new) count) }
         ensures err { OnErr result (gave self.new ≡ gave self.old) }

@@ -15,7 +15,8 @@ use std::marker::Model;
 /// The most bytes that a line may have, its newline not counted.
 pub const LINE_MAX: usize = 8_388_608;
 
-// How many bytes each read of the source is offered.
+/// How many bytes each read of the source is offered: as many as a pipe holds. With fewer, who writes to a full pipe
+/// would be woken for each.
 const CHUNK: usize = 65_536;
 
 /// Why there is no next line, or not as many bytes.
@@ -65,13 +66,13 @@ pub struct TooLong;
 /// the bytes that it took and hasn't answered yet, and whether it met the end of input.
 #[derive(Drop)]
 pub struct LineReader {
-    // What was taken; the bytes before `start` are answered.
+    /// What was taken; the bytes before `start` are answered.
     held: Vec<u8>,
     start: usize,
-    // How many bytes from `start` on are known to be no newline.
+    /// How many bytes from `start` on are known to be no newline.
     searched: usize,
     ended: bool,
-    // Where a read puts what it takes.
+    /// Where a read puts what it takes, `CHUNK` bytes that stay for all reads.
     chunk: Vec<u8>,
 }
 
@@ -83,7 +84,10 @@ impl Model for LineReader {
 
     ghost Value = { Reading };
 
-    ghost view = { λ reader. record { front = drop reader.start reader.held.items; ended = reader.ended } };
+    ghost view = { λ reader. record {
+      front = drop reader.start reader.held.items;
+      ended = reader.ended;
+    } };
 
     ghost invariant = { λ reader. (reader.start ≤ vec_len reader.held)
         × (reader.searched ≤ line_len (drop reader.start reader.held.items))
@@ -131,7 +135,8 @@ impl LineReader {
             (λ text. option_copied next ≡ line_at_front text)) }
         ensures cut { IfOk result (λ next. IfSome (ahead self.old (S.left source.old))
             (λ text. lines text ≡ option_to_list (option_copied next) ++ lines (after_line text))) }
-        ensures short { IfOk result (λ next. IfSome (option_copied next) (λ line. length line ≤ line_max)) }
+        ensures short { IfOk result
+            (λ next. IfSome (option_copied next) (λ line. length line ≤ line_max)) }
         ensures no_newline { IfOk result (λ next. IfSome (option_copied next) HasNoNewline) }
         ensures too_long { result ≡ Err LineError.TooLong
             → IfSome (ahead self.old (S.left source.old)) (λ text. line_max < line_len text) }
@@ -139,7 +144,8 @@ impl LineReader {
 
         // What is ahead of the reader then.
         ensures* rest { sem 𝓛 (Rests the_row self.entry (λ new. MatchResult result
-            (λ next. AfterLine self.old new (S.left source.old) (S.left source.new) (option_copied next))
+            (λ next. AfterLine self.old new
+            (S.left source.old) (S.left source.new) (option_copied next))
             (λ e. AfterError self.old new (S.left source.old) (S.left source.new) e))) }
 
         ensures count { S.faults source.old ≤ S.faults source.new }
@@ -175,19 +181,22 @@ impl LineReader {
     ) -> Result<Option<&[u8]>, LineError>
         ensures bytes { IfOk result (λ next. IfSome (ahead self.old (S.left source.old))
             (λ text. option_copied next ≡ bytes_at_front n text)) }
-        ensures exact { IfOk result (λ next. IfSome (option_copied next) (λ bytes. length bytes ≡ n)) }
+        ensures exact { IfOk result
+            (λ next. IfSome (option_copied next) (λ bytes. length bytes ≡ n)) }
         ensures not_long { result ≢ Err LineError.TooLong }
         ensures unread { has_bytes n self.old ≡ true → source.new ≡ source.old }
 
         // What is ahead of the reader then.
         ensures* rest { sem 𝓛 (Rests the_row self.entry (λ new. MatchResult result
-            (λ next. AfterBytes n self.old new (S.left source.old) (S.left source.new) (option_copied next))
+            (λ next. AfterBytes n self.old new
+            (S.left source.old) (S.left source.new) (option_copied next))
             (λ e. AfterBytesError n self.old new (S.left source.old) (S.left source.new) e))) }
 
         ensures count { S.faults source.old ≤ S.faults source.new }
         ensures cause { result ≡ Err LineError.ReadFault
             → HasRisen (S.faults source.old) (S.faults source.new) }
     {
+        // It counts from the front, which is about to move.
         self.searched = 0;
         find_bytes(
             &mut self.held,
@@ -206,7 +215,8 @@ impl LineReader {
     /// Bytes that were answered are let go of once they are more than half of what is held, so that all
     /// calls together cost time in the bytes that are pushed.
     pub fn push(&mut self, bytes: &[u8]) -> Result<(), NoMemory>
-        ensures ok { OnOk result (self.new ≡ record self.old { front = self.old.front ++ bytes.now }) }
+        ensures ok { OnOk result
+            (self.new ≡ record self.old { front = self.old.front ++ bytes.now }) }
         ensures err { OnErr result (self.new ≡ self.old) }
     {
         put_behind(&mut self.held, &mut self.start, bytes)
@@ -231,7 +241,8 @@ impl LineReader {
             ≡ option_to_list (option_copied next) ++ lines (past_whole_line self.old).front) }
         ensures no_newline { IfOk result (λ next. IfSome (option_copied next) HasNoNewline) }
         ensures ended_by { IfOk result (λ next. IfSome (option_copied next)
-            (λ line. (self.old.front ≡ line ++ 10 ∷ (past_whole_line self.old).front) ⊎ IsTrue self.old.ended)) }
+            (λ line. (self.old.front ≡ line ++ 10 ∷ (past_whole_line self.old).front)
+            ⊎ IsTrue self.old.ended)) }
         ensures short { OnOk result (line_len self.old.front ≤ line_max) }
         ensures too_long { OnErr result (line_max < line_len self.old.front) }
         ensures* rest { sem 𝓛 (Rests the_row self.entry (λ new. MatchResult result

@@ -11,7 +11,7 @@ pub use doors::{MemDoor, MemHouse};
 pub use sink::MemSink;
 pub use source::MemSource;
 
-// Whether the call with this number is one of those that fail.
+/// Whether the call with this number, from 0, is one of those that fail. They are few, so all are looked at.
 fn is_failing(failing: &[u32], call: u64) -> bool
     ensures { result ≡ fails_now failing.now call }
 {

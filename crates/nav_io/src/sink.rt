@@ -32,5 +32,6 @@ pub trait Sink {
         ensures kept { OnErr result (held self.new ≡ held self.old) }
 
         ensures count { faults self.old ≤ faults self.new }
-        ensures cause { result ≡ Err SinkError.Failed → HasRisen (faults self.old) (faults self.new) };
+        ensures cause { result ≡ Err SinkError.Failed
+            → HasRisen (faults self.old) (faults self.new) };
 }

@@ -48,8 +48,10 @@ impl<R: Read> Source for StdSource<R> {
         ensures count { self.old.faults ≤ self.new.faults }
         ensures cause { OnErr result (HasRisen self.old.faults self.new.faults) }
 
-        // What the reader gave is what is answered, and each of its errors is a fault.
-        ensures passed { ReadConsumes (R.remaining self.old.inner) (R.remaining self.new.inner) result buf.new }
+        // The trait's clauses on bytes say nothing here, so these do: what the reader gave is what is answered, and each of
+        // its errors is a fault.
+        ensures passed { ReadConsumes
+            (R.remaining self.old.inner) (R.remaining self.new.inner) result buf.new }
         ensures ok { OnOk result (self.new.faults ≡ self.old.faults) }
         ensures err { OnErr result (self.new.faults ≡ counted self.old.faults) }
     {
@@ -96,14 +98,15 @@ impl<W: Write> Sink for StdSink<W> {
         ensures count { self.old.faults ≤ self.new.faults }
         ensures cause { result ≡ Err SinkError.Failed → HasRisen self.old.faults self.new.faults }
 
-        // What the writer took is what is answered; each of its errors, and a write that takes no byte of
-        // some, is a fault.
+        // The trait's clauses on bytes say nothing here, so these do: what the writer took is what is answered; each of its
+        // errors, and a write that takes no byte of some, is a fault.
         ensures passed { IfOk result (λ n.
             Appends (W.contents self.old.inner) (W.contents self.new.inner) (take n bytes.now)) }
         ensures ok { OnOk result (self.new.faults ≡ self.old.faults) }
         ensures err { OnErr result (self.new.faults ≡ counted self.old.faults) }
     {
         match self.writer.write(bytes) {
+            // A writer that takes nothing would be asked for ever.
             Ok(n) if n > 0 || bytes.is_empty() => Ok(n),
             _ => {
                 self.faults = self.faults.saturating_add(1);

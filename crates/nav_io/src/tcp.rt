@@ -42,7 +42,7 @@ impl<'r, R: Net, N: Notices> Door for TcpDoor<'r, R, N> {
         ensures count { self.old ≤ self.new }
         ensures cause { OnErr result (HasRisen self.old self.new) }
 
-        // Both begin with no fault.
+        // Whoever serves them tells a fault of theirs by a count that rose, so both begin with none.
         ensures fresh { IfOk result (λ pair. (pair.0.faults ≡ 0) × (pair.1.faults ≡ 0)) }
         ensures ok { OnOk result (self.new ≡ self.old) }
         ensures err { OnErr result (self.new ≡ counted self.old) }
@@ -73,9 +73,9 @@ impl<'r, R: Net, N: Notices> Door for TcpDoor<'r, R, N> {
     }
 }
 
-// The stream of the next connection, and another handle of it. Replies are small and written as soon as they
-// are there, so the stream sends each at once and doesn't hold it back until the last one is acknowledged.
-// That is a matter of speed alone: a stream that can't be told so serves as well.
+/// The stream of the next connection, and another handle of it. Replies are small and written as soon as they
+/// are there, so the stream sends each at once and doesn't hold it back until the last one is acknowledged.
+/// That is a matter of speed alone: a stream that can't be told so serves as well.
 fn accepted<R: Net>(listener: &R::Listener) -> io::Result<(R::Stream, R::Stream)> {
     let (stream, _) = listener.accept()?;
     let _ = stream.set_nodelay(true);
@@ -131,7 +131,7 @@ impl<'r, R: Net, N: Notices> House for TcpHouse<'r, R, N> {
         ensures count { self.old ≤ self.new }
         ensures cause { result ≡ Err HouseFault.Failed → HasRisen self.old self.new }
 
-        // Each fault is counted, and nothing else is.
+        // The count is all that is seen of a house over sockets: a fault raises it by one, and want of memory doesn't.
         ensures ok { OnOk result (self.new ≡ self.old) }
         ensures failed { result ≡ Err HouseFault.Failed → self.new ≡ counted self.old }
         ensures memory { result ≡ Err HouseFault.NoMemory → self.new ≡ self.old }
@@ -158,7 +158,7 @@ impl<'r, R: Net, N: Notices> House for TcpHouse<'r, R, N> {
     }
 }
 
-// So many doors with handles of one listener at the port.
+/// So many doors with handles of one listener at the port, on 127.0.0.1 alone: nobody on another machine is to reach it.
 fn open<'r, R: Net, N: Notices>(
     net: &R,
     notices: &'r N,
@@ -168,6 +168,7 @@ fn open<'r, R: Net, N: Notices>(
 ) -> Result<Vec<TcpDoor<'r, R, N>>, HouseFault>
     ensures { IfOk result (λ doors. vec_len doors ≡ count) }
 {
+    // The room comes before the port, so that no listener is opened for nothing.
     let Ok(mut doors) = Vec::with_capacity(alloc, count as usize) else {
         return Err(HouseFault::NoMemory);
     };
@@ -191,7 +192,7 @@ fn open<'r, R: Net, N: Notices>(
     Ok(doors)
 }
 
-// Tells why the port can't be had.
+/// Tells the operator why the port can't be had, since the fault itself carries no text.
 fn refused<N: Notices>(notices: &N, port: u16, error: &io::Error) -> HouseFault
     ensures { result ≡ HouseFault.Failed }
 {

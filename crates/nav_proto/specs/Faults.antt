@@ -9,19 +9,28 @@ use Rattle.nav_proto.specs.declared.reply.ShapePart.TheVariants.{Top, Node, Edge
 
 -- a fault with no further member
 abbrev pub fault_alone : List ℕ → List ℕ → List ℕ
-fault_alone fault path = concat (codes "{\"error\":\"bad_file\",\"fault\":\"" ∷ fault ∷ codes "\",\"path\":" ∷ quoted path ∷ codes "}" ∷ [])
+fault_alone fault path =
+    concat (codes "{\"error\":\"bad_file\",\"fault\":\"" ∷ fault ∷ codes "\",\"path\":"
+    ∷ quoted path ∷ codes "}" ∷ [])
 
 -- a fault with a number whose name comes before `error`
 abbrev pub number_first : List ℕ → ℕ → List ℕ → List ℕ → List ℕ
-number_first name n fault path = concat (codes "{\"" ∷ name ∷ codes "\":" ∷ decimal n ∷ codes ",\"error\":\"bad_file\",\"fault\":\"" ∷ fault ∷ codes "\",\"path\":" ∷ quoted path ∷ codes "}" ∷ [])
+number_first name n fault path =
+    concat (codes "{\"" ∷ name ∷ codes "\":" ∷ decimal n
+    ∷ codes ",\"error\":\"bad_file\",\"fault\":\"" ∷ fault ∷ codes "\",\"path\":" ∷ quoted path
+    ∷ codes "}" ∷ [])
 
 -- a fault with a number whose name comes between `fault` and `path`
 abbrev pub number_inside : List ℕ → ℕ → List ℕ → List ℕ → List ℕ
-number_inside name n fault path = concat (codes "{\"error\":\"bad_file\",\"fault\":\"" ∷ fault ∷ codes "\",\"" ∷ name ∷ codes "\":" ∷ decimal n ∷ codes ",\"path\":" ∷ quoted path ∷ codes "}" ∷ [])
+number_inside name n fault path =
+    concat (codes "{\"error\":\"bad_file\",\"fault\":\"" ∷ fault ∷ codes "\",\"" ∷ name
+    ∷ codes "\":" ∷ decimal n ∷ codes ",\"path\":" ∷ quoted path ∷ codes "}" ∷ [])
 
 -- a fault with a number whose name comes after `path`
 abbrev pub number_last : List ℕ → ℕ → List ℕ → List ℕ → List ℕ
-number_last name n fault path = concat (codes "{\"error\":\"bad_file\",\"fault\":\"" ∷ fault ∷ codes "\",\"path\":" ∷ quoted path ∷ codes ",\"" ∷ name ∷ codes "\":" ∷ decimal n ∷ codes "}" ∷ [])
+number_last name n fault path =
+    concat (codes "{\"error\":\"bad_file\",\"fault\":\"" ∷ fault ∷ codes "\",\"path\":"
+    ∷ quoted path ∷ codes ",\"" ∷ name ∷ codes "\":" ∷ decimal n ∷ codes "}" ∷ [])
 
 -- a fault of a part of a graph file: of the whole, of a node or of an edge
 abbrev pub part_text : List ℕ → List ℕ → ShapePart → List ℕ

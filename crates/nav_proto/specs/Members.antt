@@ -8,7 +8,8 @@ use Rattle.nav_proto.specs.declared.proto_fault.ProtoFault.TheVariants.{BadReque
 
 -- first the one, and then what follows from its value; the first fault ends it
 infixl 10 ◌>>=◌
-abbrev pub ◌>>=◌ : {A B : Type 0} → Result A ProtoFault → (A → Result B ProtoFault) → Result B ProtoFault
+abbrev pub ◌>>=◌ : {A B : Type 0} → Result A ProtoFault → (A → Result B ProtoFault)
+    → Result B ProtoFault
 (Ok x) >>= f = f x
 (Err e) >>= f = Err e
 
@@ -22,7 +23,8 @@ read_or read default None = Some default
 read_or read default (Some d) = read d
 
 -- what the member that may be absent is, or the fault that names it where it isn't read
-abbrev pub optional_field : {A : Type 0} → List ℕ → (Data → Option A) → A → Data → Result A ProtoFault
+abbrev pub optional_field : {A : Type 0} → List ℕ → (Data → Option A) → A → Data
+    → Result A ProtoFault
 optional_field name read default d = ok_or (read_or read default (get name d)) (BadRequest name)
 
 -- the value, unless there is a fault

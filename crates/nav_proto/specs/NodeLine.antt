@@ -11,7 +11,9 @@ use Rattle.nav_proto.specs.Members.{◌>>=◌}
 
 -- the node that a value asks for: an object whose one member `node` is a number of 32 bits
 unfoldable pub node_of : Data → Option ℕ
-node_of d = option_and_then (λ node. only_if (has_only (is_among (codes "node" ∷ [])) d) node) (option_and_then u32_of (get (codes "node") d))
+node_of d =
+    option_and_then (λ node. only_if (has_only (is_among (codes "node" ∷ [])) d) node)
+    (option_and_then u32_of (get (codes "node") d))
 
 -- the node that a line asks for, or its fault
 unfoldable pub node_from : List ℕ → Result ℕ ProtoFault

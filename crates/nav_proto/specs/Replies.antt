@@ -28,13 +28,19 @@ reply_text Done = codes "{\"ok\":true}"
 reply_text (Rows a) = answer_text a
 reply_text (Callers rows) = callers_text rows
 reply_text (Plain e) = concat (codes "{\"error\":\"" ∷ plain_word e ∷ codes "\"}" ∷ [])
-reply_text (BadRequest f) = concat (codes "{\"error\":\"bad_request\",\"field\":" ∷ quoted f ∷ codes "}" ∷ [])
+reply_text (BadRequest f) =
+    concat (codes "{\"error\":\"bad_request\",\"field\":" ∷ quoted f ∷ codes "}" ∷ [])
 reply_text (Stale n) = concat (codes "{\"error\":\"stale\",\"head\":" ∷ decimal n ∷ codes "}" ∷ [])
 reply_text (Twice p) = concat (codes "{\"error\":\"twice\",\"path\":" ∷ quoted p ∷ codes "}" ∷ [])
-reply_text (AbsentFile p) = concat (codes "{\"error\":\"absent\",\"path\":" ∷ quoted p ∷ codes "}" ∷ [])
-reply_text (AbsentGrant u p) = concat (codes "{\"error\":\"absent\",\"prefix\":" ∷ quoted p ∷ codes ",\"user\":" ∷ quoted u ∷ codes "}" ∷ [])
-reply_text (TooManyFiles n) = concat (codes "{\"error\":\"too_many_files\",\"files\":" ∷ decimal n ∷ codes "}" ∷ [])
-reply_text (TooHeavy n) = concat (codes "{\"error\":\"too_heavy\",\"weight\":" ∷ decimal n ∷ codes "}" ∷ [])
+reply_text (AbsentFile p) =
+    concat (codes "{\"error\":\"absent\",\"path\":" ∷ quoted p ∷ codes "}" ∷ [])
+reply_text (AbsentGrant u p) =
+    concat (codes "{\"error\":\"absent\",\"prefix\":" ∷ quoted p ∷ codes ",\"user\":" ∷ quoted u
+    ∷ codes "}" ∷ [])
+reply_text (TooManyFiles n) =
+    concat (codes "{\"error\":\"too_many_files\",\"files\":" ∷ decimal n ∷ codes "}" ∷ [])
+reply_text (TooHeavy n) =
+    concat (codes "{\"error\":\"too_heavy\",\"weight\":" ∷ decimal n ∷ codes "}" ∷ [])
 reply_text (BadFile path fault) = bad_file_text path fault
 
 -- no byte is a newline: the place of the first one would be the end

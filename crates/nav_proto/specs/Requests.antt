@@ -67,7 +67,8 @@ abbrev pub query_names : Data → List (List ℕ)
 query_names d =
     if is_some (get (codes "node") d)
     then codes "do" ∷ codes "path" ∷ codes "node" ∷ codes "edges" ∷ codes "depth" ∷ []
-    else codes "do" ∷ codes "path" ∷ codes "line" ∷ codes "column" ∷ codes "edges" ∷ codes "depth" ∷ []
+    else codes "do" ∷ codes "path" ∷ codes "line" ∷ codes "column"
+    ∷ codes "edges" ∷ codes "depth" ∷ []
 
 -- the bounds of a query: 1 to 512 edges and 1 to 96 symbols, where absent 128 and 48
 unfoldable pub bounds_of : Data → Result Bounds ProtoFault

@@ -9,11 +9,15 @@ use Rattle.version_tree.specs.declared.row.Answer.{Answer}
 -- an array of line and column of the start, line and column of the end, or `null`
 abbrev pub span_text : Option Span → List ℕ
 span_text None = codes "null"
-span_text (Some s) = concat (codes "[" ∷ decimal s.from_line ∷ codes "," ∷ decimal s.from_column ∷ codes "," ∷ decimal s.to_line ∷ codes "," ∷ decimal s.to_column ∷ codes "]" ∷ [])
+span_text (Some s) =
+    concat (codes "[" ∷ decimal s.from_line ∷ codes "," ∷ decimal s.from_column ∷ codes ","
+    ∷ decimal s.to_line ∷ codes "," ∷ decimal s.to_column ∷ codes "]" ∷ [])
 
 -- one row
 abbrev pub row_text : Row → List ℕ
-row_text r = concat (codes "{\"node\":" ∷ decimal r.node ∷ codes ",\"path\":" ∷ quoted r.path ∷ codes ",\"span\":" ∷ span_text r.span ∷ codes "}" ∷ [])
+row_text r =
+    concat (codes "{\"node\":" ∷ decimal r.node ∷ codes ",\"path\":" ∷ quoted r.path
+    ∷ codes ",\"span\":" ∷ span_text r.span ∷ codes "}" ∷ [])
 
 -- a row after another one
 abbrev pub next_text : Row → List ℕ
@@ -31,7 +35,9 @@ flag_text false = codes "false"
 
 -- the answer
 abbrev pub answer_text : Answer → List ℕ
-answer_text a = concat (codes "{\"limit\":" ∷ flag_text a.limit ∷ codes ",\"rows\":[" ∷ rows_text a.rows ∷ codes "]}" ∷ [])
+answer_text a =
+    concat (codes "{\"limit\":" ∷ flag_text a.limit ∷ codes ",\"rows\":[" ∷ rows_text a.rows
+    ∷ codes "]}" ∷ [])
 
 -- the rows of `callers`, which have no flag
 abbrev pub callers_text : List Row → List ℕ

@@ -16,11 +16,13 @@ is_slash byte = byte == 47
 
 -- whether a path may have this part: it isn't empty, `.` or `..`
 abbrev pub is_part : List ℕ → Bool
-is_part part = not (bytes_eq part (codes "") || bytes_eq part (codes ".") || bytes_eq part (codes ".."))
+is_part part =
+    not (bytes_eq part (codes "") || bytes_eq part (codes ".") || bytes_eq part (codes ".."))
 
 -- a path: 1 to 512 bytes, none below 32, in parts between slashes
 unfoldable pub is_path : List ℕ → Bool
-is_path text = has_bytes 512 text && list_all (nat_le 32) text && list_all is_part (slice_split is_slash text)
+is_path text =
+    has_bytes 512 text && list_all (nat_le 32) text && list_all is_part (slice_split is_slash text)
 
 -- a prefix: a path, or empty
 abbrev pub is_prefix : List ℕ → Bool

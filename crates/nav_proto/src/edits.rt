@@ -22,7 +22,8 @@ fn string_of(v: Value) -> Option<String>
     }
 }
 
-/// The string that is the member of this name. It leaves the member without its string.
+/// The string that is the member of this name. It is moved out, and leaves the member without it, so that a document's
+/// text isn't copied.
 fn take_string(v: &mut Value, name: &str) -> Option<String>
     ensures { option_map string_bytes result ≡ option_and_then as_str (get name.now (view v.old)) }
 {
@@ -50,6 +51,7 @@ fn put(alloc: Global, v: &mut Value) -> Result<Option<FileEdit>, AllocError>
     let Some(path) = path_in(alloc, v, "put")? else {
         return Ok(None);
     };
+    // Before the text is taken out: behind that the value is no longer what the line says.
     if other(v, Form::Put).is_some() {
         return Ok(None);
     }
@@ -76,7 +78,7 @@ fn remove(alloc: Global, v: &Value) -> Result<Option<FileEdit>, AllocError>
     Ok(Some(FileEdit::Remove { path }))
 }
 
-/// An edit.
+/// The edit that the value is: one with a member `put` puts, any other has to remove.
 fn edit(alloc: Global, v: Value) -> Result<Option<FileEdit>, AllocError>
     ensures { IfOk result (λ edit. edit ≡ edit_of (view v)) }
 {
@@ -95,6 +97,7 @@ fn all_edits(alloc: Global, values: Vec<Value>) -> Result<Option<Edits>, AllocEr
     for value in values {
         match edit(alloc, value)? {
             Some(edit) => edits.push(edit)?,
+            // One wrong edit is a fault of the whole field, and which one it is isn't told.
             None => return Ok(None),
         }
     }

@@ -5,7 +5,7 @@ use crate::print::quoted_text;
 use crate::reply::{FileError, ShapePart};
 use std::alloc::{AllocError, Global};
 
-/// The reply on a bad file.
+/// The reply on a bad file. Members stand in the order of their names' bytes, so a number's place hangs on its name.
 pub fn bad_file_text(alloc: Global, path: &str, fault: &FileError) -> Result<String, AllocError>
     ensures { IfOk result (λ s. string_bytes s ≡ bad_file_text path.now fault.now) }
 {

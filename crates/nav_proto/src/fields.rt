@@ -63,7 +63,7 @@ pub(crate) fn number_field(alloc: Global, v: &Value, name: &str) -> Result<u32, 
     }
 }
 
-/// The number from 1 to `most` that is the member of this name, where absent the default.
+/// The number from 1 to `most` that is the member of this name, where absent the default. `null` isn't absent, but wrong.
 #[tactic(auto, using(crate::proofs::Named::named))]
 pub(crate) fn bound_field(
     alloc: Global,
@@ -73,7 +73,8 @@ pub(crate) fn bound_field(
     default: u32,
 ) -> Result<u32, ProtoFault>
     requires { (1 ≤ default) × (default ≤ most) }
-    ensures gives { LineGives result (optional_field name.now (number_between 1 most) default (view v.now)) }
+    ensures gives { LineGives result
+        (optional_field name.now (number_between 1 most) default (view v.now)) }
     ensures bounded { IfOk result (λ n. (1 ≤ n) × (n ≤ most)) }
 {
     let Some(found) = v.get(name) else {
@@ -88,7 +89,8 @@ pub(crate) fn bound_field(
 /// The member `base`, which may be absent.
 #[tactic(auto, using(crate::proofs::Named::named))]
 pub(crate) fn base_field(alloc: Global, v: &Value) -> Result<Option<u32>, ProtoFault>
-    ensures { LineGives result (optional_field (codes "base") (λ d. option_map Some (u32_of d)) None (view v.now)) }
+    ensures { LineGives result
+        (optional_field (codes "base") (λ d. option_map Some (u32_of d)) None (view v.now)) }
 {
     let Some(found) = v.get("base") else {
         return Ok(None);

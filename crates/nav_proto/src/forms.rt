@@ -31,7 +31,7 @@ pub(crate) fn edits_field(alloc: Global, v: Value) -> Result<Edits, ProtoFault>
     }
 }
 
-/// The bounds of a query.
+/// The bounds of a query: 1 to 512 edges and 1 to 96 symbols, by default 128 and 48.
 #[tactic(auto, unfolding(crate::specs::Requests::bounds_of))]
 fn bounds(alloc: Global, v: &Value) -> Result<Bounds, ProtoFault>
     ensures gives { LineGives result (bounds_of (view v.now)) }
@@ -58,7 +58,8 @@ fn place(alloc: Global, v: &Value) -> Result<Point, ProtoFault>
     Ok(Point::LineColumn(line, column))
 }
 
-/// Where a query stands.
+/// Where a query stands: at a node where one is named, else on a line at a column in bytes. `line` and `column` beside a
+/// node are members that the form doesn't have.
 pub(crate) fn point(alloc: Global, v: &Value) -> Result<Point, ProtoFault>
     ensures { LineGives result (point_of (view v.now)) }
 {
@@ -87,7 +88,7 @@ pub(crate) fn callers_form(v: &Value) -> Form
     }
 }
 
-/// The members of a query.
+/// The members of a query, in the order in which their faults are told.
 #[tactic(auto, unfolding(crate::specs::Requests::query_in))]
 pub(crate) fn query(alloc: Global, v: &Value) -> Result<(PathText, (Point, Bounds)), ProtoFault>
     ensures gives { LineGives result (query_in (view v.now)) }
@@ -100,7 +101,7 @@ pub(crate) fn query(alloc: Global, v: &Value) -> Result<(PathText, (Point, Bound
     Ok((path, (at, bounds)))
 }
 
-/// The members of a grant or a deny.
+/// The members of a grant or a deny, in the order in which their faults are told.
 #[tactic(auto, unfolding(crate::specs::Requests::rule_in))]
 pub(crate) fn rule(alloc: Global, v: &Value) -> Result<(UserText, PathText), ProtoFault>
     ensures { LineGives result (rule_in (view v.now)) }

@@ -56,11 +56,12 @@ fn node(alloc: Global, line: &[u8]) -> Result<u32, ProtoFault>
     let value = value_of(alloc, line)?;
     match node_of(&value) {
         Some(node) => Ok(node),
+        // One field is told for every wrong form, since the line has no other.
         None => Err(wrong(alloc, "node")),
     }
 }
 
-// The node that the value asks for.
+/// The node that the value asks for.
 #[tactic(auto, unfolding(crate::specs::NodeLine::node_of))]
 fn node_of(v: &Value) -> Option<u32>
     ensures { result ≡ node_of (view v.now) }
@@ -73,7 +74,7 @@ fn node_of(v: &Value) -> Option<u32>
     }
 }
 
-// The value of the bytes.
+/// The value of the bytes.
 fn value_of(alloc: Global, bytes: &[u8]) -> Result<Value, ProtoFault>
     ensures { Shows view result (ok_or (json_of bytes.now) ProtoFault.BadJson) }
 {

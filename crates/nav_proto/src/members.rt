@@ -72,7 +72,8 @@ pub(crate) fn other(v: &Value, form: Form) -> Option<&str>
     other_member(v, &form)
 }
 
-/// Refuses an object with a member that the form doesn't have.
+/// Refuses an object with a member that the form doesn't have. The least such name is told, so that the reply doesn't
+/// hang on the order in which the line has them.
 #[tactic(auto, using(crate::proofs::Named::named))]
 pub(crate) fn only(alloc: Global, v: &Value, form: Form) -> Result<(), ProtoFault>
     ensures { LineGives result (with_only (names_of form) (view v.now) tt) }

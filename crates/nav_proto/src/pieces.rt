@@ -16,6 +16,7 @@ pub(crate) fn wrong(alloc: Global, name: &str) -> ProtoFault
     }
 }
 
+/// Whether the text has 1 to `most` bytes.
 fn has_bytes(text: &str, most: usize) -> bool
     ensures { result ≡ has_bytes most text.now }
 {
@@ -40,7 +41,8 @@ fn has_no_control(text: &[u8]) -> bool
     text.iter().all(|byte| 32 <= *byte)
 }
 
-/// Whether the text is a path.
+/// Whether the text is a path as requests have them: 1 to 512 bytes, none of them below 32, and no part between slashes that
+/// is empty, `.` or `..` (`docs/FORMATS.md`). It takes time that follows the length of the text.
 #[tactic(auto, unfolding(crate::specs::Texts::is_path))]
 pub(crate) fn is_path(text: &str) -> bool
     ensures { result ≡ is_path text.now }
@@ -48,14 +50,14 @@ pub(crate) fn is_path(text: &str) -> bool
     has_bytes(text, 512) && has_no_control(text.as_bytes()) && has_parts(text.as_bytes())
 }
 
-/// Whether the text is a path or empty.
+/// Whether the text is a path or empty, as the prefix that reaches all is.
 pub(crate) fn is_prefix(text: &str) -> bool
     ensures { result ≡ is_prefix text.now }
 {
     text == "" || is_path(text)
 }
 
-/// Whether the text is a user's.
+/// Whether the text is a user's: 1 to 256 bytes.
 pub(crate) fn is_user(text: &str) -> bool
     ensures { result ≡ is_user text.now }
 {

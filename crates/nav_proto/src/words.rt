@@ -12,7 +12,7 @@ use crate::{ProtoFault, Request};
 use serde_json::Value;
 use std::alloc::Global;
 
-/// The request of the form that the member `do` names.
+/// The request of the form that the member `do` names. The words are compared one by one, as the definition does.
 #[tactic(auto, using(crate::proofs::Named::named), unfolding(crate::specs::Requests::request_of, crate::specs::Requests::form_of))]
 pub(crate) fn request(alloc: Global, v: Value) -> Result<Request, ProtoFault>
     ensures gives { LineGives result (request_of (view v)) }
@@ -48,7 +48,8 @@ pub(crate) fn request(alloc: Global, v: Value) -> Result<Request, ProtoFault>
     }
 }
 
-/// The request `hello`.
+/// The request `hello`. As in each request here, the members come first, in the order of `docs/FORMATS.md`, and one that
+/// may not stand is told last.
 #[tactic(auto, unfolding(crate::specs::Requests::hello_of))]
 fn hello(alloc: Global, v: &Value) -> Result<Request, ProtoFault>
     ensures gives { LineGives result (hello_of (view v.now)) }
@@ -82,7 +83,8 @@ fn commit(alloc: Global, v: Value) -> Result<Request, ProtoFault>
     ensures bounded { IfOk result IsBounded }
 {
     let base = base_field(alloc, &v)?;
-    // Looked for before the edits are taken out of the value, and told after them.
+    // Looked for before the edits are taken out of the value, so that no document is copied; told after them, since the
+    // members' own faults come first.
     let alone = only(alloc, &v, Form::Commit);
     let edits = edits_field(alloc, v)?;
     alone?;

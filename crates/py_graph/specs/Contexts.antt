@@ -9,7 +9,7 @@ pub record Context : Type 0 where
   pub o : ℕ  -- the nearest such scope that isn't a class's
   pub r : Option ℕ  -- the returns of the function
   pub class : Option (ℕ × ℕ)  -- the members m and the attributes a of the class whose block this is
-  pub self : Option (List ℕ × ℕ)  -- in a method's block, the first parameter's name and the attributes of its class
+  pub self : Option (List ℕ × ℕ)  -- a method's first parameter, and its class's attributes
   pub p : ℕ  -- a precedence
 
 -- the greatest precedence that an edge can have
@@ -18,7 +18,15 @@ max_precedence = 65535
 
 -- the context of the statement at a place, from 1, of the block of a module, function or class
 abbrev pub at_place : ℕ → Context → Context
-at_place i c = record { b = c.b; l = c.l; o = c.o; r = c.r; class = c.class; self = c.self; p = min (i + 1) max_precedence }
+at_place i c = record {
+  b = c.b;
+  l = c.l;
+  o = c.o;
+  r = c.r;
+  class = c.class;
+  self = c.self;
+  p = min (i + 1) max_precedence;
+}
 
 -- the block of a module with this scope
 abbrev pub in_module : ℕ → Context
@@ -36,4 +44,5 @@ in_function s r self = record { b = s; l = s; o = s; r = Some r; class = None; s
 
 -- the block of a class: where it binds, where its names are looked up, and its members and attributes
 abbrev pub in_class : ℕ → ℕ → ℕ × ℕ → Context → Context
-in_class b l class c = record { b = b; l = l; o = c.o; r = None; class = Some class; self = None; p = 0 }
+in_class b l class c =
+    record { b = b; l = l; o = c.o; r = None; class = Some class; self = None; p = 0 }

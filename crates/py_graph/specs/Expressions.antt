@@ -142,28 +142,42 @@ exprs_row es = tuple es.items es.last_comma
 
 -- whole expressions and their parts
 abbrev pub expr : Expr → Visit
-expr = fold-Expr Visit PostVisit Visit Visit Visit Visit Visit atom_row postfix_row expr_row exprs_row joined_row operand_row primary_row
+expr =
+    fold-Expr Visit PostVisit Visit Visit Visit Visit Visit
+    atom_row postfix_row expr_row exprs_row joined_row operand_row primary_row
 
 -- whole expressions with commas between
 abbrev pub exprs : Exprs → Visit
-exprs = fold-Exprs Visit PostVisit Visit Visit Visit Visit Visit atom_row postfix_row expr_row exprs_row joined_row operand_row primary_row
+exprs =
+    fold-Exprs Visit PostVisit Visit Visit Visit Visit Visit
+    atom_row postfix_row expr_row exprs_row joined_row operand_row primary_row
 
 -- a whole atom
 abbrev pub atom : Atom → Visit
-atom = fold-Atom Visit PostVisit Visit Visit Visit Visit Visit atom_row postfix_row expr_row exprs_row joined_row operand_row primary_row
+atom =
+    fold-Atom Visit PostVisit Visit Visit Visit Visit Visit
+    atom_row postfix_row expr_row exprs_row joined_row operand_row primary_row
 
 -- a whole member or call
 abbrev pub postfix : Postfix → PostVisit
-postfix = fold-Postfix Visit PostVisit Visit Visit Visit Visit Visit atom_row postfix_row expr_row exprs_row joined_row operand_row primary_row
+postfix =
+    fold-Postfix Visit PostVisit Visit Visit Visit Visit Visit
+    atom_row postfix_row expr_row exprs_row joined_row operand_row primary_row
 
 -- a whole primary
 abbrev pub primary : Primary → Visit
-primary = fold-Primary Visit PostVisit Visit Visit Visit Visit Visit atom_row postfix_row expr_row exprs_row joined_row operand_row primary_row
+primary =
+    fold-Primary Visit PostVisit Visit Visit Visit Visit Visit
+    atom_row postfix_row expr_row exprs_row joined_row operand_row primary_row
 
 -- a whole operand
 abbrev pub operand : Operand → Visit
-operand = fold-Operand Visit PostVisit Visit Visit Visit Visit Visit atom_row postfix_row expr_row exprs_row joined_row operand_row primary_row
+operand =
+    fold-Operand Visit PostVisit Visit Visit Visit Visit Visit
+    atom_row postfix_row expr_row exprs_row joined_row operand_row primary_row
 
 -- a whole operator with its operand
 abbrev pub joined : Joined → Visit
-joined = fold-Joined Visit PostVisit Visit Visit Visit Visit Visit atom_row postfix_row expr_row exprs_row joined_row operand_row primary_row
+joined =
+    fold-Joined Visit PostVisit Visit Visit Visit Visit Visit
+    atom_row postfix_row expr_row exprs_row joined_row operand_row primary_row

@@ -7,11 +7,13 @@ use Rattle.py_subset.specs.Pieces.{begins_name, is_in_name}
 -- the keywords of Python
 abbrev pub keywords : List (List ℕ)
 keywords =
-    codes "False" ∷ codes "None" ∷ codes "True" ∷ codes "and" ∷ codes "as" ∷ codes "assert" ∷ codes "async"
-    ∷ codes "await" ∷ codes "break" ∷ codes "class" ∷ codes "continue" ∷ codes "def" ∷ codes "del" ∷ codes "elif"
-    ∷ codes "else" ∷ codes "except" ∷ codes "finally" ∷ codes "for" ∷ codes "from" ∷ codes "global" ∷ codes "if"
-    ∷ codes "import" ∷ codes "in" ∷ codes "is" ∷ codes "lambda" ∷ codes "nonlocal" ∷ codes "not" ∷ codes "or"
-    ∷ codes "pass" ∷ codes "raise" ∷ codes "return" ∷ codes "try" ∷ codes "while" ∷ codes "with" ∷ codes "yield" ∷ []
+    codes "False" ∷ codes "None" ∷ codes "True" ∷ codes "and" ∷ codes "as" ∷ codes "assert"
+    ∷ codes "async" ∷ codes "await" ∷ codes "break" ∷ codes "class" ∷ codes "continue"
+    ∷ codes "def" ∷ codes "del" ∷ codes "elif" ∷ codes "else" ∷ codes "except"
+    ∷ codes "finally" ∷ codes "for" ∷ codes "from" ∷ codes "global" ∷ codes "if"
+    ∷ codes "import" ∷ codes "in" ∷ codes "is" ∷ codes "lambda" ∷ codes "nonlocal"
+    ∷ codes "not" ∷ codes "or" ∷ codes "pass" ∷ codes "raise" ∷ codes "return" ∷ codes "try"
+    ∷ codes "while" ∷ codes "with" ∷ codes "yield" ∷ []
 
 -- whether the name is a keyword
 abbrev pub is_keyword : List ℕ → Bool
@@ -33,7 +35,8 @@ is_init (Some part) = bytes_eq part (codes "__init__")
 
 -- a last part `__init__` is taken off
 abbrev pub without_init : List (List ℕ) → List (List ℕ)
-without_init parts = if is_init (slice_get parts (length parts - 1)) then take (length parts - 1) parts else parts
+without_init parts =
+    if is_init (slice_get parts (length parts - 1)) then take (length parts - 1) parts else parts
 
 -- the parts that what stands before `.py` is cut into at each `/`
 abbrev pub parts_of : List ℕ → List (List ℕ)
@@ -50,4 +53,6 @@ named parts = if are_names parts then Some parts else None
 
 -- the parts of the module's name, where the path ends with `.py` and gives a name
 abbrev pub module_name : List ℕ → Option (List (List ℕ))
-module_name path = if ends_with eqb path (codes ".py") then named (parts_of (take (length path - 3) path)) else None
+module_name path =
+    if ends_with eqb path (codes ".py") then named (parts_of (take (length path - 3) path))
+    else None

@@ -48,7 +48,8 @@ assign_member t x e c = do
   nothing
 
 -- the bare name s, where it is self's name, with self's attributes
-abbrev pub named_self : Atom-F Atom Postfix Expr Exprs Joined Operand Primary → Option (List ℕ × ℕ) → Option (Word × ℕ)
+abbrev pub named_self : Atom-F Atom Postfix Expr Exprs Joined Operand Primary → Option (List ℕ × ℕ)
+    → Option (Word × ℕ)
 named_self (Atom-F.Name s) (Some self) = if bytes_eq s.text self.0 then Some (s, self.1) else None
 named_self (Atom-F.Name s) None = None
 named_self Atom-F.Number self = None

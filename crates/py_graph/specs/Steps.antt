@@ -104,4 +104,9 @@ to_jump u = join (place.At u) place.Jump 0
 
 -- `[x]`, where a name stands: from its line and column to its line and the column after it
 abbrev pub span_of : Word → Span
-span_of x = record { from_line = x.line; from_column = x.from_column; to_line = x.line; to_column = x.to_column }
+span_of x = record {
+  from_line = x.line;
+  from_column = x.from_column;
+  to_line = x.line;
+  to_column = x.to_column;
+}

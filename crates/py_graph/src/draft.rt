@@ -134,6 +134,7 @@ impl Draft {
         ensures grows { Grows self.old self.new }
         ensures inside { IfOk result (IsNode self.new) }
     {
+        // The limit stands here, so that the whole makes too many exactly where a step would.
         let at = self.nodes.len();
         if at >= MAX_NODES {
             return Err(Stop::Full);
@@ -176,7 +177,8 @@ impl Draft {
     /// Makes an edge.
     #[tactic(auto, using(crate::proofs::Sound::drafting))]
     pub fn join(&mut self, source: Place, sink: Place, precedence: u16) -> Result<(), Stop>
-        requires ends { has_ends (length self.old.nodes) (record { source = source; sink = sink; precedence = precedence }) ≡ true }
+        requires ends { has_ends (length self.old.nodes)
+            (record { source = source; sink = sink; precedence = precedence }) ≡ true }
         requires source { is_jump source ≡ false }
         ensures gives { Gives result self.new (steps.join source sink precedence self.old) }
         ensures grows { Grows self.old self.new }
@@ -243,6 +245,7 @@ fn put_two(nodes: &mut Vec<Node>, first: Node, second: Node) -> Result<(), Alloc
     ensures ok { OnOk result (nodes.new.items ≡ nodes.old.items ++ first ∷ second ∷ []) }
     ensures err { OnErr result (nodes.new.items ≡ nodes.old.items) }
 {
+    // Both or none: a push without its scope would be a graph with a fault.
     put_node(nodes, first)?;
     if let Err(e) = put_node(nodes, second) {
         let _ = nodes.pop();

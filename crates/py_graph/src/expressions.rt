@@ -138,12 +138,14 @@ pub fn onward(
 ) -> Result<u32, Stop>
     requires l { l < length draft.old.nodes }
     requires t { t < length draft.old.nodes }
-    ensures gives { Gives result draft.new (row.onward t (reverse (map row.postfix posts.now)) l draft.old) }
+    ensures gives { Gives result draft.new
+        (row.onward t (reverse (map row.postfix posts.now)) l draft.old) }
     ensures grows { Grows draft.old draft.new }
     ensures inside { IfOk result (IsNode draft.new) }
 {
     let mut going = t;
     for i in 0..posts.len() {
+        // From the last to the first: `a.b.c` asks for `c` in what `a.b` is.
         let post = &posts[posts.len() - 1 - i];
         let (n, next) = postfix(alloc, draft, l, post)?;
         draft.link(going, n)?;
@@ -208,6 +210,7 @@ pub fn atom(alloc: Global, draft: &mut Draft, l: u32, e: &Atom) -> Result<Option
         Atom::Name(x) => name(alloc, draft, l, x),
         Atom::Round(Some(es)) => exprs(alloc, draft, l, es),
         Atom::Square(Some(es)) => {
+            // A list is no node, but what stands in it is visited.
             exprs(alloc, draft, l, es)?;
             Ok(None)
         }

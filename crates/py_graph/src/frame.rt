@@ -31,7 +31,15 @@ impl<'a> Model for Frame<'a> {
 
     ghost Value = { Context };
 
-    ghost view = { λ f. record { b = f.binds; l = f.looks; o = f.outer; r = f.returns; class = f.class; self = option_map (λ z. (z.0.now, z.1)) f.this; p = f.rank } };
+    ghost view = { λ f. record {
+      b = f.binds;
+      l = f.looks;
+      o = f.outer;
+      r = f.returns;
+      class = f.class;
+      self = option_map (λ z. (z.0.now, z.1)) f.this;
+      p = f.rank;
+    } };
 }
 
 impl<'a> Frame<'a> {
@@ -62,7 +70,8 @@ impl<'a> Frame<'a> {
         class: Option<(u32, u32)>,
         parameters: &'a [Word],
     ) -> Frame<'a>
-        ensures { result ≡ context.in_function scope returns (context.self_of class parameters.now) }
+        ensures { result ≡ context.in_function scope returns
+            (context.self_of class parameters.now) }
     {
         Frame {
             binds: scope,

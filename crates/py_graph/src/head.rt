@@ -11,6 +11,7 @@ use crate::nodes::pop_dot;
 use graph_nodes::{NodeKind, Place, Span};
 use std::alloc::Global;
 
+/// Where a module is defined: at the start of its file, with no width.
 const START: Span = Span {
     from_line: 0,
     from_column: 0,
@@ -61,7 +62,8 @@ fn is_last(parts: &[&str], i: usize) -> bool
 #[tactic(auto, using(crate::proofs::Sound::standing))]
 pub fn name_nodes(alloc: Global, draft: &mut Draft, parts: &[&str], s: u32) -> Result<(), Stop>
     requires s { s < length draft.old.nodes }
-    ensures gives { Gives result draft.new (row.path None (map (λ x. x.now) parts.now) s draft.old) }
+    ensures gives { Gives result draft.new
+        (row.path None (map (λ x. x.now) parts.now) s draft.old) }
     ensures grows { Grows draft.old draft.new }
 {
     let mut before = None;

@@ -26,6 +26,7 @@ fn behind(alloc: Global, draft: &mut Draft, n: u32, xs: &[Word]) -> Result<u32, 
 {
     let mut last = n;
     for i in 0..xs.len() {
+        // From the last to the first, so that the first one comes to stand in front: it is asked for first.
         let x = &xs[xs.len() - 1 - i];
         let t = push_dot(draft)?;
         let m = reference(alloc, draft, x)?;
@@ -88,6 +89,7 @@ fn import_name(alloc: Global, draft: &mut Draft, c: &Frame, xs: &[Word]) -> Resu
     ensures gives { Gives result draft.new (row.import_name xs.now c.now draft.old) }
     ensures grows { Grows draft.old draft.new }
 {
+    // No text has a dotted name without a part, but a tree may.
     let [x, ..] = xs else {
         return Ok(());
     };
@@ -167,6 +169,7 @@ fn from_item(alloc: Global, draft: &mut Draft, c: &Frame, i: &FromItem) -> Resul
     Ok(t)
 }
 
+/// Adds a node. In a function of its own, since what a refused push leaves isn't the error of the steps.
 fn put(list: &mut Vec<u32>, n: u32) -> Result<(), AllocError>
     ensures { OnOk result (list.new.items ≡ list.old.items ++ n ∷ []) }
 {
@@ -183,7 +186,8 @@ fn from_names(
     items: &[FromItem],
 ) -> Result<Vec<u32>, Stop>
     requires c { IsInside draft.old c.now }
-    ensures gives { GivesItems result draft.new (collect (map (row.from_item c.now) items.now) draft.old) }
+    ensures gives { GivesItems result draft.new
+        (collect (map (row.from_item c.now) items.now) draft.old) }
     ensures grows { Grows draft.old draft.new }
     ensures inside { IfOk result (λ ts. All (IsNode draft.new) ts.items) }
 {
@@ -200,7 +204,8 @@ fn from_names(
 fn link_all(draft: &mut Draft, ts: &[u32], d: Option<(u32, u32)>) -> Result<(), Stop>
     requires d { ArePairIf draft.old d }
     requires ts { All (IsNode draft.old) ts.now }
-    ensures gives { Gives result draft.new (each (map (λ t. ◌▸?◌ t (row.first_node d)) ts.now) draft.old) }
+    ensures gives { Gives result draft.new
+        (each (map (λ t. ◌▸?◌ t (row.first_node d)) ts.now) draft.old) }
     ensures grows { Grows draft.old draft.new }
 {
     for t in ts {

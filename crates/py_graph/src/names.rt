@@ -7,7 +7,7 @@ ghost use Rattle.py_graph.specs.Names as spec;
 
 use std::alloc::{AllocError, Global};
 
-/// The keywords of Python.
+/// The keywords of Python, all 35: also those that `py_subset` leaves out are no names of modules.
 const KEYWORDS: [&str; 35] = [
     "False", "None", "True", "and", "as", "assert", "async", "await", "break", "class", "continue",
     "def", "del", "elif", "else", "except", "finally", "for", "from", "global", "if", "import",
@@ -66,7 +66,8 @@ pub fn pieces<'a>(alloc: Global, stem: &'a str) -> Result<Vec<&'a str>, AllocErr
 
 /// Whether there is a last part `__init__`.
 fn ends_in_init(parts: &[&str]) -> bool
-    ensures { result ≡ spec.is_init (slice_get (map (λ x. x.now) parts.now) (length parts.now - 1)) }
+    ensures { result ≡ spec.is_init
+        (slice_get (map (λ x. x.now) parts.now) (length parts.now - 1)) }
 {
     match parts.last() {
         Some(last) => *last == "__init__",

@@ -27,6 +27,7 @@ fn self_parameter(
     let n = definition(alloc, draft, x)?;
     let e = drops(draft)?;
     let k = pop_dot(draft)?;
+    // Any binding of the block shadows a parameter: theirs have a precedence from 2 on.
     draft.edge(s, n, 1)?;
     draft.link(n, e)?;
     draft.link(e, k)?;
@@ -42,6 +43,7 @@ fn parameter(alloc: Global, draft: &mut Draft, s: u32, j: usize, x: &Word) -> Re
 {
     let n = definition(alloc, draft, x)?;
     let k = push_number(alloc, draft, j)?;
+    // Any binding of the block shadows a parameter: theirs have a precedence from 2 on.
     draft.edge(s, n, 1)?;
     draft.link(n, k)?;
     draft.join(Place::At(k), Place::Jump, 0)

@@ -36,7 +36,8 @@ fn assign_attribute(
 ) -> Result<(), Stop>
     requires c { IsInside draft.old c.now }
     requires owner { owner.1 < length draft.old.nodes }
-    ensures gives { Gives result draft.new (row.assign_attribute owner.entry.0.now owner.entry.1 x.now e.now c.now draft.old) }
+    ensures gives { Gives result draft.new
+        (row.assign_attribute owner.entry.0.now owner.entry.1 x.now e.now c.now draft.old) }
     ensures grows { Grows draft.old draft.new }
 {
     let (s, attributes) = owner;

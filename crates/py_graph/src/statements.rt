@@ -25,7 +25,8 @@ use std::alloc::Global;
 fn bases(alloc: Global, draft: &mut Draft, l: u32, members: u32, es: &[Expr]) -> Result<(), Stop>
     requires l { l < length draft.old.nodes }
     requires members { members < length draft.old.nodes }
-    ensures gives { Gives result draft.new (classes.bases members (map visit.expr es.now) l draft.old) }
+    ensures gives { Gives result draft.new
+        (classes.bases members (map visit.expr es.now) l draft.old) }
     ensures grows { Grows draft.old draft.new }
 {
     for e in es {
@@ -57,6 +58,7 @@ fn function_nodes(
     draft.edge(c.binds(), f, c.rank())?;
     draft.link(f, k)?;
     draft.link(k, r)?;
+    // A name that the block doesn't bind leaves by the drop, which forgets the arguments of the call.
     draft.link(s, d)?;
     draft.link(d, c.outer())?;
     Ok((s, r))
@@ -89,6 +91,8 @@ fn class_nodes(
     draft.link(d, t)?;
     draft.link(n, t)?;
     draft.link(t, m)?;
+    // Among members an attribute that is assigned shadows what the block binds; of plain names what the block binds
+    // shadows what stands outside.
     draft.edge(m, a, 2)?;
     draft.edge(m, b, 1)?;
     draft.edge(l, b, 1)?;
@@ -101,7 +105,8 @@ fn class_nodes(
 #[cycle(stmts)]
 pub fn block(alloc: Global, draft: &mut Draft, c: &Frame, body: &[Stmt]) -> Result<(), Stop>
     requires c { IsInside draft.old c.now }
-    ensures gives { Gives result draft.new (blocks.block 1 (map row.stmt body.now) c.now draft.old) }
+    ensures gives { Gives result draft.new
+        (blocks.block 1 (map row.stmt body.now) c.now draft.old) }
     ensures grows { Grows draft.old draft.new }
 {
     for (j, s) in body.iter().enumerate() {
@@ -111,7 +116,7 @@ pub fn block(alloc: Global, draft: &mut Draft, c: &Frame, body: &[Stmt]) -> Resu
     Ok(())
 }
 
-/// A block that keeps the whole context.
+/// A block that keeps the whole context, as those of `if`, `while` and `for` do, since Python gives them no scope.
 #[tactic(auto, using(crate::proofs::Sound::standing))]
 #[cycle(stmts)]
 fn suite(alloc: Global, draft: &mut Draft, c: &Frame, body: &[Stmt]) -> Result<(), Stop>
@@ -125,7 +130,7 @@ fn suite(alloc: Global, draft: &mut Draft, c: &Frame, body: &[Stmt]) -> Result<(
     Ok(())
 }
 
-/// Conditions and their blocks.
+/// Conditions and their blocks, in text order: any of them may be the one that runs.
 #[tactic(auto, using(crate::proofs::Sound::standing))]
 #[cycle(stmts)]
 fn arms(alloc: Global, draft: &mut Draft, c: &Frame, arms: &[Arm]) -> Result<(), Stop>
@@ -152,7 +157,8 @@ fn function(
     body: &[Stmt],
 ) -> Result<(), Stop>
     requires c { IsInside draft.old c.now }
-    ensures gives { Gives result draft.new (functions.function name.now parameters.now (map row.stmt body.now) c.now draft.old) }
+    ensures gives { Gives result draft.new
+        (functions.function name.now parameters.now (map row.stmt body.now) c.now draft.old) }
     ensures grows { Grows draft.old draft.new }
 {
     let (s, r) = function_nodes(alloc, draft, c, name)?;
@@ -244,10 +250,12 @@ fn class(
     supers: &[Expr],
 ) -> Result<(), Stop>
     requires c { IsInside draft.old c.now }
-    ensures gives { Gives result draft.new (classes.class name.now (map visit.expr supers.now) (map row.stmt body.now) c.now draft.old) }
+    ensures gives { Gives result draft.new (classes.class
+        name.now (map visit.expr supers.now) (map row.stmt body.now) c.now draft.old) }
     ensures grows { Grows draft.old draft.new }
 {
     let (own, (l, b)) = class_nodes(alloc, draft, c, name)?;
+    // Where the class stands, and not in its block: Python evaluates them before it.
     bases(alloc, draft, c.looks(), own.0, supers)?;
     let inside = c.in_class(b, l, own);
     block(alloc, draft, &inside, body)

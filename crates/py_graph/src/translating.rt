@@ -30,7 +30,8 @@ fn whole(alloc: Global, draft: &mut Draft, parts: &[&str], body: &[Stmt]) -> Res
 
 /// The graph of a module whose name has these parts.
 fn named(alloc: Global, parts: &[&str], body: &[Stmt]) -> Result<FileGraph, TransFault>
-    ensures { Translates result (told (table (map (λ x. x.now) parts.now) body.now (record { nodes = []; edges = [] }))) }
+    ensures { Translates result
+        (told (table (map (λ x. x.now) parts.now) body.now (record { nodes = []; edges = [] }))) }
 {
     let mut draft = Draft::new(alloc)?;
     match whole(alloc, &mut draft, parts, body) {
@@ -42,7 +43,8 @@ fn named(alloc: Global, parts: &[&str], body: &[Stmt]) -> Result<FileGraph, Tran
 
 /// The graph of a module whose path is this one and `.py`.
 fn at_stem(alloc: Global, stem: &str, tree: &Module) -> Result<FileGraph, TransFault>
-    ensures { Translates result (graph_of_named (names.named (names.parts_of stem.now)) tree.now.body) }
+    ensures { Translates result
+        (graph_of_named (names.named (names.parts_of stem.now)) tree.now.body) }
 {
     let all = pieces(alloc, stem)?;
     let parts = without_init(all.as_slice());

@@ -20,10 +20,13 @@ IsRefused before (t ∷ ts) = BeginsModule (before ++ t ∷ []) → ⊥
 -- The fault stands at the first token such that no module begins with the tokens up to and including it. The
 -- number is END's line.
 abbrev pub IsFirstFault : ℕ → List Token → PyFault → Type 0
-IsFirstFault end ts why = (before : List Token) × (after : List Token) × (ts ≡ before ++ after) × BeginsModule before × IsRefused before after × (why ≡ refusal end after)
+IsFirstFault end ts why =
+    (before : List Token) × (after : List Token) × (ts ≡ before ++ after) × BeginsModule before
+    × IsRefused before after × (why ≡ refusal end after)
 
 -- A fault of a text whose tokens have none is the first one of its tokens, unless memory ran out.
 abbrev pub TellsFirst : List ℕ → Result Module PyFault → Type 0
 TellsFirst text (Ok whole) = Unit {0}
 TellsFirst text (Err fault.NoMemory) = Unit {0}
-TellsFirst text (Err why) = (ts : List Token) → tokens_of text ≡ Ok ts → IsFirstFault (end_line text) ts why
+TellsFirst text (Err why) =
+    (ts : List Token) → tokens_of text ≡ Ok ts → IsFirstFault (end_line text) ts why

@@ -35,7 +35,8 @@ module _ (inner : Language Exprs) where
 
   -- atom : NAME | '(' [exprs] ')' | '[' [exprs] ']' | NUMBER | STRING | 'True' | 'False' | 'None'
   abbrev pub atom : Language Atom
-  atom = either (image a.Name name) (either (image a.Round in_round) (either (image a.Square in_square) (marked tree.constant_of)))
+  atom = either (image a.Name name) (either (image a.Round in_round)
+      (either (image a.Square in_square) (marked tree.constant_of)))
 
   -- '.' NAME | '(' [args] ')'
   abbrev pub postfix : Language Postfix
@@ -52,7 +53,8 @@ module _ (inner : Language Exprs) where
   -- binop operand, where 'is' followed by 'not' is one operator
   abbrev pub joined : Language Joined
   joined = either (m.Not ▹ m.In ▹ image (tree.joined_of op.NotIn) operand)
-      (either (m.Is ▹ either (m.Not ▹ image (tree.joined_of op.IsNot) operand) (unless m.Not (image (tree.joined_of op.Is) operand)))
+      (either (m.Is ▹ either (m.Not ▹ image (tree.joined_of op.IsNot) operand)
+      (unless m.Not (image (tree.joined_of op.Is) operand)))
       (both tree.joined_of (marked tree.op_of) operand))
 
   -- expr : operand (binop operand)*
@@ -94,7 +96,10 @@ items = both tree.cons item (star (m.Comma ▹ item))
 
 -- '*' | '(' items [','] ')' | items
 abbrev pub imported : Language (Option (List FromItem))
-imported = either (image (λ _. None) (tok m.Star)) (either (m.OpenRound ▹ (image (λ z. Some z.0) (several item) ◃ m.CloseRound)) (image Some items))
+imported =
+    either (image (λ _. None) (tok m.Star))
+    (either (m.OpenRound ▹ (image (λ z. Some z.0) (several item) ◃ m.CloseRound))
+    (image Some items))
 
 -- from : 'from' dotted 'import' ('*' | items | '(' items [','] ')')
 abbrev pub from_stmt : Language Stmt
@@ -116,7 +121,8 @@ module _ (depth : ℕ) where
 
   -- simple : import | from | return | 'pass' | 'break' | 'continue' | assign
   abbrev pub simple : Language Stmt
-  simple = either import_stmt (either from_stmt (either return_stmt (either (marked tree.jump_of) assign)))
+  simple = either import_stmt (either from_stmt (either return_stmt
+      (either (marked tree.jump_of) assign)))
 
   -- simple NEWLINE
   abbrev pub simple_line : Language Stmt
@@ -138,7 +144,8 @@ module _ (depth : ℕ) where
 module _ (depth : ℕ) (block : Language (List Stmt)) where
   -- suite : NEWLINE INDENT stmt+ DEDENT | simple NEWLINE
   abbrev pub suite : Language (List Stmt)
-  suite = either (m.Newline ▹ m.Indent ▹ (block ◃ m.Dedent)) (image (λ x. x ∷ []) (simple_line depth))
+  suite = either (m.Newline ▹ m.Indent ▹ (block ◃ m.Dedent))
+      (image (λ x. x ∷ []) (simple_line depth))
 
   -- ['else' ':' suite]
   abbrev pub otherwise : Language (List Stmt)
@@ -174,7 +181,8 @@ module _ (depth : ℕ) (block : Language (List Stmt)) where
 
   -- stmt : if | while | for | def | class | simple NEWLINE
   abbrev pub stmt : Language Stmt
-  stmt = either if_stmt (either while_stmt (either for_stmt (either def_stmt (either class_stmt (simple_line depth)))))
+  stmt = either if_stmt (either while_stmt (either for_stmt (either def_stmt
+      (either class_stmt (simple_line depth)))))
 
   -- stmt+
   abbrev pub stmts : Language (List Stmt)
@@ -187,4 +195,5 @@ block depth (suc blocks) ts x us = stmts depth (block depth blocks) ts x us
 
 -- module : stmt* END. The tokens, whose end is END, are those of the module, however deeply it nests.
 abbrev pub Derives : List Token → Module → Type 0
-Derives ts whole = (depth : ℕ) × (blocks : ℕ) × star (stmt depth (block depth blocks)) ts whole.body []
+Derives ts whole =
+    (depth : ℕ) × (blocks : ℕ) × star (stmt depth (block depth blocks)) ts whole.body []

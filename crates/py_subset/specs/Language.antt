@@ -35,7 +35,8 @@ name (t ∷ ts) w us = (t.mark ≡ m.Name) × (w ≡ t.word) × (us ≡ ts)
 
 -- one after the other, and the tree of both
 abbrev pub both : {A B C : Type 0} → (A → B → C) → Language A → Language B → Language C
-both {A} {B} {C} f L M ts z vs = (x : A) × (y : B) × (us : List Token) × L ts x us × M us y vs × (z ≡ f x y)
+both {A} {B} {C} f L M ts z vs =
+    (x : A) × (y : B) × (us : List Token) × L ts x us × M us y vs × (z ≡ f x y)
 
 -- the tree made of another tree
 abbrev pub image : {A B : Type 0} → (A → B) → Language A → Language B
@@ -59,11 +60,14 @@ opt L ts (Some x) us = L ts x us
 abbrev pub further : {A : Type 0} → Language A → List A → Bool → List Token → List Token → Type 0
 further L [] false ts us = us ≡ ts
 further L [] true ts us = tok m.Comma ts tt us
-further L (x ∷ xs) c ts ws = (us : List Token) × (vs : List Token) × tok m.Comma ts tt us × L us x vs × further L xs c vs ws
+further L (x ∷ xs) c ts ws =
+    (us : List Token) × (vs : List Token) × tok m.Comma ts tt us × L us x vs × further L xs c vs ws
 
 -- at least one, with commas between, and whether a comma stands at the end
 abbrev pub several : {A : Type 0} → Language A → Language (List A × Bool)
-several {A} L ts z vs = (x : A) × (xs : List A) × (c : Bool) × (us : List Token) × L ts x us × further L xs c us vs × (z ≡ (x ∷ xs, c))
+several {A} L ts z vs =
+    (x : A) × (xs : List A) × (c : Bool) × (us : List Token) × L ts x us × further L xs c us vs
+    × (z ≡ (x ∷ xs, c))
 
 -- a token before
 infixr 12 ◌▹◌

@@ -23,11 +23,22 @@ abbrev pub ◌>>=◌ : {A B : Type 0} → Result A PyFault → (A → Result B P
 
 -- a token other than a name
 abbrev pub token : Mark → ℕ → Token
-token mark line = record { mark = mark; word = record { text = []; line = line; from_column = 0; to_column = 0 } }
+token mark line = record {
+  mark = mark;
+  word = record { text = []; line = line; from_column = 0; to_column = 0 };
+}
 
 -- a name where it stands, with its text
 abbrev pub name_token : List ℕ → Place → Token
-name_token text place = record { mark = m.Name; word = record { text = text; line = place.line; from_column = place.column; to_column = place.column + length text } }
+name_token text place = record {
+  mark = m.Name;
+  word = record {
+    text = text;
+    line = place.line;
+    from_column = place.column;
+    to_column = place.column + length text;
+  };
+}
 
 -- how many brackets and blocks may be open at once
 abbrev pub most_open : ℕ
@@ -55,10 +66,19 @@ abbrev pub indented : Place → Reading → Result Reading PyFault
 indented place r =
     let open_yet = kept place.column r.blocks in
     if innermost open_yet == place.column
-    then Ok (record r { tokens = r.tokens ++ replicate (length r.blocks - length open_yet) (token m.Dedent place.line); blocks = open_yet; fresh = false })
+    then Ok (record r {
+      tokens = r.tokens
+          ++ replicate (length r.blocks - length open_yet) (token m.Dedent place.line);
+      blocks = open_yet;
+      fresh = false;
+    })
     else (if length open_yet == length r.blocks
     then (if is_full r then Err (fault.TooDeep place.line)
-    else Ok (record r { tokens = r.tokens ++ token m.Indent place.line ∷ []; blocks = r.blocks ++ place.column ∷ []; fresh = false }))
+    else Ok (record r {
+      tokens = r.tokens ++ token m.Indent place.line ∷ [];
+      blocks = r.blocks ++ place.column ∷ [];
+      fresh = false;
+    }))
     else Err (fault.BadIndent place.line))
 
 -- the first token of a line begins it
@@ -105,24 +125,33 @@ plain mark place r = begin place r >>= λ s. Ok (add (token mark place.line) s)
 
 -- a string, in which no carriage return may stand
 abbrev pub text : Bool → Place → Reading → Result Reading PyFault
-text has_return place r = begin place r >>= λ s. if has_return then Err (fault.BadToken place.line) else Ok (add (token m.Text place.line) s)
+text has_return place r =
+    begin place r >>= λ s. if has_return then Err (fault.BadToken place.line)
+    else Ok (add (token m.Text place.line) s)
 
 -- an opening bracket, unless one more is too many
 abbrev pub opened : Bracket → Place → Reading → Result Reading PyFault
-opened b place r = begin place r >>= λ s. if is_full s then Err (fault.TooDeep place.line) else Ok (add (token (open_mark b) place.line) (record s { brackets = s.brackets ++ b ∷ [] }))
+opened b place r =
+    begin place r >>= λ s. if is_full s then Err (fault.TooDeep place.line)
+    else Ok (add (token (open_mark b) place.line) (record s { brackets = s.brackets ++ b ∷ [] }))
 
 -- a closing bracket, which closes the innermost one
 abbrev pub closed : Bracket → Place → Reading → Result Reading PyFault
 closed b place r =
     if closes b (slice_get r.brackets (length r.brackets - 1))
-    then Ok (add (token (close_mark b) place.line) (record r { brackets = take (length r.brackets - 1) r.brackets }))
+    then Ok (add (token (close_mark b) place.line)
+    (record r { brackets = take (length r.brackets - 1) r.brackets }))
     else Err (fault.BadToken place.line)
 
 -- A line's end gives NEWLINE where the line counts and no bracket is open.
 abbrev pub line_end : Place → Reading → Result Reading PyFault
 line_end place r =
     if r.fresh || nat_lt 0 (length r.brackets) then Ok (record r { tab = false })
-    else Ok (record r { tokens = r.tokens ++ token m.Newline place.line ∷ []; fresh = true; tab = false })
+    else Ok (record r {
+      tokens = r.tokens ++ token m.Newline place.line ∷ [];
+      fresh = true;
+      tab = false;
+    })
 
 -- what a piece adds that makes a line count
 abbrev pub counted : PieceKind → List ℕ → Place → Reading → Result Reading PyFault
@@ -141,13 +170,15 @@ abbrev pub step : PieceKind → List ℕ → Place → Reading → Result Readin
 step (k.Blanks tab) bytes place r = Ok (record r { tab = r.tab || (r.fresh && tab) })
 step k.Comment bytes place r = Ok (record r { tab = false })
 step k.LineEnd bytes place r = line_end place r
-step kind bytes place r = if r.tab then Err (fault.Unsupported place.line) else counted kind bytes place r
+step kind bytes place r =
+    if r.tab then Err (fault.Unsupported place.line) else counted kind bytes place r
 
 -- The end of the text: the line's end where it lacks one, and the end of each block.
 abbrev pub finish : ℕ → Reading → Result (List Token) PyFault
 finish line r =
     if nat_lt 0 (length r.brackets) then Err (fault.BadToken line)
-    else Ok ((if r.fresh then r.tokens else r.tokens ++ token m.Newline line ∷ []) ++ replicate (length r.blocks) (token m.Dedent line))
+    else Ok ((if r.fresh then r.tokens else r.tokens ++ token m.Newline line ∷ [])
+    ++ replicate (length r.blocks) (token m.Dedent line))
 
 -- a piece with its bytes, where it stands
 pub record Placed : Type 0 where
@@ -172,7 +203,8 @@ cut over place [] = []
 cut (suc over) place (b ∷ bs) = cut over place bs
 cut zero place (b ∷ bs) =
     let piece = piece_at (b ∷ bs) in
-    record { kind = piece.kind; bytes = take piece.len (b ∷ bs); place = place } ∷ cut (pred piece.len) (past piece.kind piece.len place) bs
+    record { kind = piece.kind; bytes = take piece.len (b ∷ bs); place = place }
+    ∷ cut (pred piece.len) (past piece.kind piece.len place) bs
 
 -- before the first line
 abbrev pub start : Reading

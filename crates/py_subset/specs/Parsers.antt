@@ -75,14 +75,18 @@ abbrev pub ◌◃◌ : {A : Type 0} → Parser A → Mark → Parser A
 -- Any number of them. Each takes a token, so that as many turns as there are tokens are enough.
 abbrev pub star : {A : Type 0} → (Mark → Bool) → Parser A → ℕ → Parser (List A)
 star first p zero ts = Err ts
-star first p (suc n) ts = if first (next ts) then (p ts >>= λ r. star first p n r.1 >>= λ s. Ok (r.0 ∷ s.0, s.1)) else Ok ([], ts)
+star first p (suc n) ts =
+    if first (next ts) then (p ts >>= λ r. star first p n r.1 >>= λ s. Ok (r.0 ∷ s.0, s.1))
+    else Ok ([], ts)
 
 -- further ones, each behind a comma, and whether a comma stands at the end
 abbrev pub further : {A : Type 0} → (Mark → Bool) → Parser A → ℕ → Parser (List A × Bool)
 further first p zero ts = Err ts
 further first p (suc n) ts =
     if same (next ts) m.Comma then
-    (if first (next (rest ts)) then (p (rest ts) >>= λ r. further first p n r.1 >>= λ s. Ok ((r.0 ∷ s.0.0, s.0.1), s.1)) else Ok (([], true), rest ts))
+    (if first (next (rest ts))
+    then (p (rest ts) >>= λ r. further first p n r.1 >>= λ s. Ok ((r.0 ∷ s.0.0, s.0.1), s.1))
+    else Ok (([], true), rest ts))
     else Ok (([], false), ts)
 
 -- at least one, with commas between, and whether a comma stands at the end

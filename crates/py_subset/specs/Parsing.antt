@@ -81,11 +81,13 @@ module _ (turns : ℕ) (inner : Parser Exprs) where
 
   -- `is` or `is not`, and its operand
   unfoldable pub compared : Parser Joined
-  compared = m.Is ▹ choice (is m.Not) (m.Not ▹ image (tree.joined_of op.IsNot) operand) (image (tree.joined_of op.Is) operand)
+  compared = m.Is ▹ choice (is m.Not) (m.Not ▹ image (tree.joined_of op.IsNot) operand)
+      (image (tree.joined_of op.Is) operand)
 
   -- an operator and the operand after it
   unfoldable pub joined : Parser Joined
-  joined = choice (is m.Not) negated (choice (is m.Is) compared (both tree.joined_of (marked tree.op_of) operand))
+  joined = choice (is m.Not) negated (choice (is m.Is) compared
+      (both tree.joined_of (marked tree.op_of) operand))
 
   -- operands with operators between
   unfoldable pub expr : Parser Expr

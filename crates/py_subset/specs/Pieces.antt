@@ -132,7 +132,9 @@ assigned c single = if c == 61 then plain m.Foreign 2 else plain single 1
 
 -- no sign: which fault it is
 abbrev pub unknown : ℕ → Piece
-unknown b = if nat_le 128 b then broken flaw.NotAscii else (if b == 92 then broken flaw.Unsupported else broken flaw.BadToken)
+unknown b =
+    if nat_le 128 b then broken flaw.NotAscii
+    else (if b == 92 then broken flaw.Unsupported else broken flaw.BadToken)
 
 -- the bracket that this byte is
 abbrev pub bracket_at : ℕ → Option PieceKind
@@ -180,23 +182,29 @@ doubling_sign b c d =
 
 -- the longest sign that begins with these bytes, or which fault it is
 abbrev pub sign : ℕ → ℕ → ℕ → Piece
-sign b c d = unwrap_or (option_or (short_sign b c) (option_or (assigning_sign b c) (doubling_sign b c d))) (unknown b)
+sign b c d =
+    unwrap_or (option_or (short_sign b c) (option_or (assigning_sign b c) (doubling_sign b c d)))
+    (unknown b)
 
 -- A word: a keyword, or a name that isn't directly before a quote.
 abbrev pub word_piece : ℕ → List ℕ → Piece
-word_piece n text = option_map_or (λ mark. plain mark n) (keyword (take n text)) (if is_quote (slice_index text n) then broken flaw.Unsupported else of k.Name n)
+word_piece n text =
+    option_map_or (λ mark. plain mark n) (keyword (take n text))
+    (if is_quote (slice_index text n) then broken flaw.Unsupported else of k.Name n)
 
 -- A number has no leading zero before more digits, and stands directly before no letter, `_` or `.`.
 abbrev pub number_piece : ℕ → List ℕ → Piece
 number_piece n text =
-    if ((slice_index text 0 == 48) && nat_lt 1 n) || begins_name (slice_index text n) || (slice_index text n == 46)
+    if ((slice_index text 0 == 48) && nat_lt 1 n) || begins_name (slice_index text n)
+    || (slice_index text n == 46)
     then broken flaw.Unsupported else plain m.Number n
 
 -- A string with its quotes, but for three quotes in a row.
 abbrev pub text_piece : ℕ → List ℕ → Piece
 text_piece quote text =
     if (slice_index text 1 == quote) && (slice_index text 2 == quote) then broken flaw.Unsupported
-    else option_map_or (λ n. of (k.Text (holds 13 (take n (drop 1 text)))) (1 + n)) (closing quote false (drop 1 text)) (broken flaw.BadToken)
+    else option_map_or (λ n. of (k.Text (holds 13 (take n (drop 1 text)))) (1 + n))
+    (closing quote false (drop 1 text)) (broken flaw.BadToken)
 
 -- A carriage return ends a line with the newline directly after it.
 abbrev pub return_piece : ℕ → Piece

@@ -28,4 +28,6 @@ line_or end (t ∷ ts) = t.word.line
 
 -- the fault at the first of these tokens, or at the text's end
 abbrev pub refusal : ℕ → List Token → PyFault
-refusal end ts = if is_unsupported (next ts) then fault.Unsupported (line_or end ts) else fault.Expected (line_or end ts)
+refusal end ts =
+    if is_unsupported (next ts) then fault.Unsupported (line_or end ts)
+    else fault.Expected (line_or end ts)

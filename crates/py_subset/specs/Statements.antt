@@ -54,7 +54,8 @@ module _ (turns : ℕ) where
 
   -- all names, names in brackets, or names
   unfoldable pub imported : Parser (Option (List FromItem))
-  imported = choice (is m.Star) (image (λ _. None) (tok m.Star)) (choice (is m.OpenRound) enclosed (image Some items))
+  imported = choice (is m.Star) (image (λ _. None) (tok m.Star))
+      (choice (is m.OpenRound) enclosed (image Some items))
 
   -- `from ..`
   unfoldable pub from_stmt : Parser Stmt
@@ -71,7 +72,8 @@ module _ (turns : ℕ) where
 
   -- an assignment, or expressions alone
   unfoldable pub assign : Parser Stmt
-  assign ts = some_exprs ts >>= λ r. if same (next r.1) m.Assign then assigned (tree.target_of r.0) r.1 else Ok (s.Evaluate r.0, r.1)
+  assign ts = some_exprs ts >>= λ r. if same (next r.1) m.Assign
+      then assigned (tree.target_of r.0) r.1 else Ok (s.Evaluate r.0, r.1)
 
   -- `return ..`
   unfoldable pub return_stmt : Parser Stmt
@@ -83,7 +85,8 @@ module _ (turns : ℕ) where
 
   -- a statement without blocks
   unfoldable pub simple : Parser Stmt
-  simple = choice (is m.Import) import_stmt (choice (is m.From) from_stmt (choice (is m.Return) return_stmt (choice is_jump (marked tree.jump_of) assign)))
+  simple = choice (is m.Import) import_stmt (choice (is m.From) from_stmt
+      (choice (is m.Return) return_stmt (choice is_jump (marked tree.jump_of) assign)))
 
   -- a statement without blocks, and the end of its line
   unfoldable pub simple_line : Parser Stmt
@@ -95,7 +98,8 @@ module _ (turns : ℕ) where
 
   -- the parameters of a function, in brackets
   unfoldable pub parameters : Parser (List Word)
-  parameters = m.OpenRound ▹ (image tree.named (opt (is m.Name) (several (is m.Name) name turns)) ◃ m.CloseRound)
+  parameters = m.OpenRound
+      ▹ (image tree.named (opt (is m.Name) (several (is m.Name) name turns)) ◃ m.CloseRound)
 
   -- the bases of a class, in brackets, or none
   unfoldable pub bases : Parser (List Expr)
@@ -132,7 +136,8 @@ begins_stmt _ = false
 module _ (turns : ℕ) (block : Parser (List Stmt)) where
   -- the block of a statement: on its line, or on lines of its own
   unfoldable pub suite : Parser (List Stmt)
-  suite = choice (is m.Newline) (m.Newline ▹ m.Indent ▹ (block ◃ m.Dedent)) (image (λ x. x ∷ []) (simple_line turns))
+  suite = choice (is m.Newline) (m.Newline ▹ m.Indent ▹ (block ◃ m.Dedent))
+      (image (λ x. x ∷ []) (simple_line turns))
 
   -- the block behind `else`, empty where there is none
   unfoldable pub otherwise : Parser (List Stmt)
@@ -172,7 +177,8 @@ module _ (turns : ℕ) (block : Parser (List Stmt)) where
 
   -- a statement with its blocks
   unfoldable pub stmt : Parser Stmt
-  stmt = choice (is m.If) if_stmt (choice (is m.While) while_stmt (choice (is m.For) for_stmt (choice (is m.Def) def_stmt
+  stmt = choice (is m.If) if_stmt (choice (is m.While) while_stmt
+      (choice (is m.For) for_stmt (choice (is m.Def) def_stmt
       (choice (is m.Class) class_stmt (simple_line turns)))))
 
   -- at least one statement

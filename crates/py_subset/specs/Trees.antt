@@ -151,14 +151,16 @@ plain_target (Atom-F.Round es) = None
 plain_target (Atom-F.Square es) = None
 
 -- a member at the end of a primary; the primary before it is what it is a member of
-abbrev pub member_target : Atom → List Postfix → Postfix-F Atom Postfix Expr Exprs Joined Operand Primary → Option Target
+abbrev pub member_target : Atom → List Postfix
+    → Postfix-F Atom Postfix Expr Exprs Joined Operand Primary → Option Target
 member_target atom posts (Postfix-F.Member w) = Some (target.Member (primary_of atom posts) w)
 member_target atom posts (Postfix-F.Call es) = None
 
 -- a primary with nothing behind its atom, or with this last postfix
 abbrev pub ended_target : Primary → Option Postfix → Option Target
 ended_target p None = plain_target (out-Atom p.atom)
-ended_target p (Some last) = member_target p.atom (take (length p.posts - 1) p.posts) (out-Postfix last)
+ended_target p (Some last) =
+    member_target p.atom (take (length p.posts - 1) p.posts) (out-Postfix last)
 
 -- the target that a primary is
 unfoldable pub primary_target : Primary → Option Target
@@ -171,7 +173,8 @@ operand_target o = if length o.signs == 0 then primary_target o.primary else Non
 -- the target that an expression is, which has no operator
 abbrev pub expr_target : Option Expr → Option Target
 expr_target None = None
-expr_target (Some e) = if length (out-Expr e).rest == 0 then operand_target (out-Expr e).first else None
+expr_target (Some e) =
+    if length (out-Expr e).rest == 0 then operand_target (out-Expr e).first else None
 
 -- the target that these expressions are
 unfoldable pub target_of : Exprs → Option Target

@@ -16,4 +16,5 @@ whole end (Err ts) = Err (refusal end ts)
 
 -- the module of a text, or its first fault: of the tokens, and then of the grammar
 unfoldable pub parse_of : List ℕ → Result Module PyFault
-parse_of text = tokens_of text >>= λ ts. whole (end_line text) (module_of (length ts + 1) (length ts + 1) ts)
+parse_of text =
+    tokens_of text >>= λ ts. whole (end_line text) (module_of (length ts + 1) (length ts + 1) ts)

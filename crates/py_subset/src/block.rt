@@ -44,7 +44,8 @@ fn colon_suite<'a>(
     turns: usize,
     depth: usize,
 ) -> Result<Items<Stmt<'a>>, Stop>
-    ensures { Gives result tokens.new ((Mark.Colon ▹ spec.suite turns (spec.block turns depth)) tokens.old) }
+    ensures { Gives result tokens.new
+        ((Mark.Colon ▹ spec.suite turns (spec.block turns depth)) tokens.old) }
 {
     tokens.take(Mark::Colon)?;
     suite(alloc, tokens, turns, depth)
@@ -108,7 +109,8 @@ fn next_arm<'a>(
     turns: usize,
     depth: usize,
 ) -> Result<Arm<'a>, Stop>
-    ensures { Gives result tokens.new ((Mark.Elif ▹ spec.arm turns (spec.block turns depth)) tokens.old) }
+    ensures { Gives result tokens.new
+        ((Mark.Elif ▹ spec.arm turns (spec.block turns depth)) tokens.old) }
 {
     tokens.take(Mark::Elif)?;
     arm(alloc, tokens, turns, depth)

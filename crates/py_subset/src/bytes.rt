@@ -17,14 +17,14 @@ pub fn is_digit(b: u8) -> bool
     b >= b'0' && b <= b'9'
 }
 
-/// An ASCII letter or `_`.
+/// Whether the byte is an ASCII letter or `_`, with which a name may begin.
 pub fn begins_name(b: u8) -> bool
     ensures { result ≡ spec.begins_name b }
 {
     b >= b'a' && b <= b'z' || b >= b'A' && b <= b'Z' || b == b'_'
 }
 
-/// What a name goes on with.
+/// Whether the byte is an ASCII letter, a digit or `_`, with which a name may go on.
 fn is_in_name(b: u8) -> bool
     ensures { result ≡ spec.is_in_name b }
 {
@@ -105,8 +105,10 @@ pub fn closing(quote: u8, text: &[u8]) -> Option<usize>
     ensures exact { result ≡ spec.closing quote false text.now }
     ensures within { IfSome result (λ n. n ≤ length text.now) }
 {
+    // Whether the byte stands behind a backslash that isn't itself behind one, and so can't be the closing quote.
     let mut taken = false;
     for (i, b) in text.iter().enumerate() {
+        // A backslash doesn't take a line's end into a string.
         if *b == b'\n' {
             return None;
         }

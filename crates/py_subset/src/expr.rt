@@ -107,7 +107,8 @@ fn postfixes<'a>(
     turns: usize,
     depth: usize,
 ) -> Result<Items<Postfix<'a>>, Stop>
-    ensures { Gives result tokens.new (star spec.begins_postfix (spec.postfix turns (spec.exprs turns depth)) turns tokens.old) }
+    ensures { Gives result tokens.new
+        (star spec.begins_postfix (spec.postfix turns (spec.exprs turns depth)) turns tokens.old) }
 {
     let mut posts = Items::new(alloc);
     for _turn in 0..turns {
@@ -229,7 +230,8 @@ fn joins<'a>(
     turns: usize,
     depth: usize,
 ) -> Result<Items<Joined<'a>>, Stop>
-    ensures { Gives result tokens.new (star spec.begins_joined (spec.joined turns (spec.exprs turns depth)) turns tokens.old) }
+    ensures { Gives result tokens.new
+        (star spec.begins_joined (spec.joined turns (spec.exprs turns depth)) turns tokens.old) }
 {
     let mut rest = Items::new(alloc);
     for _turn in 0..turns {
@@ -266,7 +268,8 @@ fn listed<'a>(
     turns: usize,
     depth: usize,
 ) -> Result<(Items<Expr<'a>>, bool), Stop>
-    ensures { Gives result tokens.new (several spec.begins_expr (spec.expr turns (spec.exprs turns depth)) turns tokens.old) }
+    ensures { Gives result tokens.new
+        (several spec.begins_expr (spec.expr turns (spec.exprs turns depth)) turns tokens.old) }
 {
     let mut items = Items::new(alloc);
     items.push(expr(alloc, tokens, turns, depth)?)?;

@@ -42,7 +42,6 @@ pub fn begins_stmt(mark: Mark) -> bool
         | Mark::Minus
         | Mark::Plus
         | Mark::Tilde => true,
-        // A statement begins with no other token.
         _ => false,
     }
 }

@@ -82,7 +82,7 @@ fn long_keyword(name: &[u8]) -> Option<Mark>
     }
 }
 
-/// Keywords of Python that the grammar doesn't have.
+/// Keywords of Python that the grammar doesn't have. They are no names, so they are told as a form that is left out.
 fn foreign_keyword(name: &[u8]) -> Option<Mark>
     ensures { result ≡ spec.foreign_keyword name.now }
 {

@@ -15,7 +15,7 @@ use crate::token::{Mark, PyFault};
 /// How many brackets and blocks may be open at once.
 const MOST_OPEN: usize = 64;
 
-/// The column of the innermost block, 0 where there is none.
+/// The column of the innermost block, 0 where there is none, at which the lines of the module stand.
 fn innermost(blocks: &[u32]) -> u32
     ensures { result ≡ spec.innermost blocks.now }
 {
@@ -25,7 +25,8 @@ fn innermost(blocks: &[u32]) -> u32
     }
 }
 
-/// How many blocks a line with this indentation leaves open.
+/// How many blocks a line with this indentation leaves open. Their columns rise, so the first one that is further in ends
+/// them.
 fn kept(column: u32, blocks: &[u32]) -> usize
     ensures exact { result ≡ prefix_len (λ b. nat_le b column) blocks.now }
     ensures within { result ≤ length blocks.now }
@@ -54,6 +55,7 @@ impl<'a> Reading<'a> {
     fn is_full(&self) -> bool
         ensures { result ≡ spec.is_full self.now }
     {
+        // A difference and no sum, which would have to fit for any numbers.
         let blocks = self.blocks.len();
         blocks >= MOST_OPEN || MOST_OPEN - blocks <= self.brackets.len()
     }
@@ -71,6 +73,7 @@ impl<'a> Reading<'a> {
             self.fresh = false;
             return Ok(());
         }
+        // It goes back, past a block's column but to none.
         if n < len {
             return Err(PyFault::BadIndent(place.line));
         }
@@ -195,10 +198,12 @@ impl<'a> Reading<'a> {
     {
         match kind {
             PieceKind::Blanks(tab) => {
+                // Between tokens a tab is a blank like any; before the first of a line its width would matter.
                 self.tab = self.tab || self.fresh && tab;
                 Ok(())
             }
             PieceKind::Comment => {
+                // A line of blanks and a comment doesn't count, so its tabs are let be.
                 self.tab = false;
                 Ok(())
             }
@@ -221,6 +226,7 @@ impl<'a> Reading<'a> {
     pub(crate) fn finish(&mut self, line: u32) -> Result<(), PyFault>
         ensures { spec.Does result (spec.finish line self.old) self.new.tokens }
     {
+        // Not at the bracket itself: until the end something could have closed it.
         if self.brackets.len() > 0 {
             return Err(PyFault::BadToken(line));
         }

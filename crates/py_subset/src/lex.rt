@@ -87,6 +87,7 @@ pub fn tokens<'a>(alloc: Global, text: &'a [u8]) -> Result<Tokens<'a>, PyFault>
     let mut reading = start(alloc, text.len())?;
     let mut place = Place { line: 0, column: 0 };
     let mut at = 0;
+    // Each piece has a byte at least, so the text is used up.
     while at < text.len() {
         let rest = rest_from(text, at);
         let piece = piece_at(rest);

@@ -52,7 +52,7 @@ pub fn name_token<'a>(name: &'a [u8], place: Place) -> Token<'a>
     }
 }
 
-/// Adds this many `Dedent`.
+/// Adds this many `Dedent`, one for each block that ends.
 pub fn dedents<'a>(tokens: &mut Items<Token<'a>>, n: usize, line: u32) -> Result<(), AllocError>
     ensures { OnOk result (tokens.new ≡ tokens.old ++ replicate n (spec.token Mark.Dedent line)) }
 {

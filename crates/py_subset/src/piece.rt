@@ -91,6 +91,7 @@ fn word_piece(text: &[u8]) -> Piece
     let n = name_len(text);
     match keyword(&text[..n]) {
         Some(mark) => plain(mark, n),
+        // The prefix of a string, as in `r"a"`, which is left out.
         None if is_quote(byte_at(text, n)) => broken(Flaw::Unsupported),
         None => of(PieceKind::Name, n),
     }
@@ -117,6 +118,7 @@ fn text_piece(quote: u8, text: &[u8]) -> Piece
     ensures exact { result ≡ spec.text_piece quote text.now }
     ensures within { spec.IsWithin result text.now }
 {
+    // Three quotes in a row begin a string of several lines, which is left out.
     if byte_at(text, 1) == quote && byte_at(text, 2) == quote {
         return broken(Flaw::Unsupported);
     }

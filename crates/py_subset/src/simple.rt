@@ -21,7 +21,6 @@ fn jump_of<'a>(mark: Mark) -> Option<Stmt<'a>>
         Mark::Pass => Some(Stmt::Pass),
         Mark::Break => Some(Stmt::Break),
         Mark::Continue => Some(Stmt::Continue),
-        // No other token is a statement.
         _ => None,
     }
 }
@@ -75,6 +74,8 @@ fn target_of<'a>(exprs: Exprs<'a>) -> Option<Target<'a>>
 fn assign<'a>(alloc: Global, tokens: &mut Tokens<'a>, turns: usize) -> Result<Stmt<'a>, Stop>
     ensures { Gives result tokens.new (spec.assign turns tokens.old) }
 {
+    // Only behind it is it known whether what is left of `=` is a target: with one token of lookahead it is read as
+    // expressions first.
     let left = exprs(alloc, tokens, turns, turns)?;
     if !tokens.sees(Mark::Assign) {
         return Ok(Stmt::Evaluate(left));

@@ -30,7 +30,6 @@ pub fn begins_expr(mark: Mark) -> bool
         | Mark::Minus
         | Mark::Plus
         | Mark::Tilde => true,
-        // An expression begins with no other token.
         _ => false,
     }
 }
@@ -44,12 +43,11 @@ fn sign_of(mark: Mark) -> Option<Sign>
         Mark::Minus => Some(Sign::Minus),
         Mark::Plus => Some(Sign::Plus),
         Mark::Tilde => Some(Sign::Invert),
-        // No other token is a sign.
         _ => None,
     }
 }
 
-/// The operators of one token but `is`.
+/// The operators of one token but `is`, which may go on with `not`.
 fn op_of(mark: Mark) -> Option<BinOp>
     ensures { result ≡ tree.op_of mark }
 {
@@ -75,7 +73,6 @@ fn op_of(mark: Mark) -> Option<BinOp>
         Mark::GreaterEqual => Some(BinOp::GreaterEqual),
         Mark::EqualEqual => Some(BinOp::Equal),
         Mark::NotEqual => Some(BinOp::NotEqual),
-        // No other token is an operator alone.
         _ => None,
     }
 }
@@ -90,7 +87,6 @@ fn constant_of<'a>(mark: Mark) -> Option<Atom<'a>>
         Mark::TrueWord => Some(Atom::TrueWord),
         Mark::FalseWord => Some(Atom::FalseWord),
         Mark::NoneWord => Some(Atom::NoneWord),
-        // No other token is an atom without a text.
         _ => None,
     }
 }
@@ -114,7 +110,8 @@ pub fn begins_postfix(mark: Mark) -> bool
 /// The signs before an operand.
 #[tactic(auto, using(crate::proofs::Turns::turns))]
 pub fn signs<'a>(alloc: Global, tokens: &mut Tokens<'a>, turns: usize) -> Result<Items<Sign>, Stop>
-    ensures { Gives result tokens.new (star spec.begins_sign (marked tree.sign_of) turns tokens.old) }
+    ensures { Gives result tokens.new
+        (star spec.begins_sign (marked tree.sign_of) turns tokens.old) }
 {
     let mut signs = Items::new(alloc);
     for _turn in 0..turns {
@@ -153,7 +150,7 @@ pub fn operator<'a>(tokens: &mut Tokens<'a>) -> Result<BinOp, Stop>
     }
 }
 
-/// The expressions of an argument list.
+/// The expressions of an argument list, without whether a comma stands at the end, which changes nothing there.
 pub fn arguments<'a>(alloc: Global, inside: Option<Exprs<'a>>) -> Items<Expr<'a>>
     ensures { result ≡ tree.items_of inside.entry }
 {

@@ -30,7 +30,7 @@ impl From<AllocError> for Stop {
 /// Tokens in order, taken from the front. Contracts see them as a list.
 #[derive(Drop)]
 pub struct Tokens<'a> {
-    /// The tokens that are left, the next one last.
+    /// The tokens that are left, the next one last, so that one is taken without a move of the others.
     turned: Vec<Token<'a>>,
 }
 

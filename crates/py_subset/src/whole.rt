@@ -56,6 +56,7 @@ fn read<'a>(alloc: Global, text: &'a [u8]) -> Result<Module<'a>, PyFault>
     ensures { Reads result (spec.parse_of text.now) }
 {
     let mut left = tokens(alloc, text)?;
+    // A turn takes a token, and so does a level of brackets or blocks: one more than all of them is never used up.
     let bound = left.len();
     match module_body(alloc, &mut left, bound + 1, bound + 1) {
         Ok(body) if left.len() == 0 => Ok(Module { body }),

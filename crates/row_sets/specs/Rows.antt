@@ -14,11 +14,13 @@ place_cmp a b = ordering_then (slice_cmp nat_cmp a.path b.path) (nat_cmp a.node 
 -- the rows come one after the other, none twice
 abbrev pub AreRising : List Row → Type 0
 AreRising [] = Unit {0}
-AreRising (row ∷ rows) = AllByRecursion (λ (later : Row). place_cmp row later ≡ Less) rows × AreRising rows
+AreRising (row ∷ rows) =
+    AllByRecursion (λ (later : Row). place_cmp row later ≡ Less) rows × AreRising rows
 
 -- a row of the same node is among them
 abbrev pub HasNode : List Row → Row → Type 0
-HasNode rows row = (other : Row) × Contains rows other × (other.path ≡ row.path) × (other.node ≡ row.node)
+HasNode rows row =
+    (other : Row) × Contains rows other × (other.path ≡ row.path) × (other.node ≡ row.node)
 
 -- The nodes of rows, each once in file order.
 pub record AreInOrder (all rows : List Row) : Type 0 where

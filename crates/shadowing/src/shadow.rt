@@ -34,11 +34,16 @@ fn marks_of(alloc: Global, paths: &[EdgeList]) -> Result<Vec<bool>, AllocError>
 /// The paths that none of them shadows, from the highest rank down. A path that is shadowed at all is
 /// shadowed by the last one before it that is not.
 fn front_of<'a>(alloc: Global, paths: &'a [EdgeList]) -> Result<Vec<&'a EdgeList>, AllocError>
-    ensures ranked { IfOk result (λ front. IsSortedBy (λ a b. is_lt (by_rank a.now b.now)) front.items) }
-    ensures exact { IfOk result (λ front. (path : List EdgeStep) → Contains (map (λ p. p.now) front.items) path ↔ (Contains paths.now path × (is_shadowed paths.now path ≡ false))) }
+    ensures ranked { IfOk result
+        (λ front. IsSortedBy (λ a b. is_lt (by_rank a.now b.now)) front.items) }
+    ensures exact { IfOk result (λ front. (path : List EdgeStep)
+        → Contains (map (λ p. p.now) front.items) path
+        ↔ (Contains paths.now path × (is_shadowed paths.now path ≡ false))) }
 {
     let mut front = refs_of(alloc, paths)?;
     front.sort_unstable_by(|a, b| compare(a, b));
+    // One pass serves: what stands between a path and one that it shadows is shadowed by the first, or shadows the
+    // second.
     front.dedup_by(|path, last| shadows(last.items(), path.items()));
     Ok(front)
 }
@@ -65,7 +70,7 @@ fn compare(a: &EdgeList, b: &EdgeList) -> Ordering
     b.items().cmp(a.items())
 }
 
-/// The paths without those that are marked, where the shadowed ones are.
+/// The paths without those that are marked, where the shadowed ones are. They are moved, so no step is copied.
 pub(crate) fn keep_unmarked(
     alloc: Global,
     paths: Vec<EdgeList>,

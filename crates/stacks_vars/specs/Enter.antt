@@ -20,9 +20,11 @@ abbrev pub item_of : List ℕ → Option (List NodeAt) → SymbolItem
 item_of symbol scopes = record { symbol = symbol; scopes = scopes }
 
 -- where the front has this symbol and is plain, the stacks without it
-abbrev pub popped : List ℕ → Option (List NodeAt) → List ℕ → List SymbolItem → List NodeAt → Option Stacks
+abbrev pub popped : List ℕ → Option (List NodeAt) → List ℕ → List SymbolItem → List NodeAt
+    → Option Stacks
 popped front (Some attached) symbol rest scopes = None
-popped front None symbol rest scopes = if bytes_eq front symbol then Some (stacks_of rest scopes) else None
+popped front None symbol rest scopes =
+    if bytes_eq front symbol then Some (stacks_of rest scopes) else None
 
 -- where the front has this symbol and attached scopes, the stacks without it, its scopes now the scope stack
 abbrev pub popped_scoped : List ℕ → Option (List NodeAt) → List ℕ → List SymbolItem → Option Stacks

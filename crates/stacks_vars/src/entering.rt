@@ -49,6 +49,7 @@ pub fn push_scoped(
     ensures { IfOk result (λ pushed. enter (Action.PushScoped symbol scope) stacks ≡ Some pushed) }
 {
     let mut stacks = stacks;
+    // The scope stack stays the current one, so what is attached is a copy of it.
     let mut attached = stacks.scopes.copy(alloc)?;
     attached.push(scope)?;
     stacks.symbols.push(SymbolItem {
@@ -63,6 +64,7 @@ pub fn push_scoped(
 pub fn pop(stacks: Stacks, symbol: &[u8]) -> Option<Stacks>
     ensures { result ≡ enter (Action.Pop symbol.now) stacks }
 {
+    // The front comes off before it is looked at: where entry is refused nobody needs the stacks.
     let mut stacks = stacks;
     let Some(front) = stacks.symbols.pop() else {
         return None;
@@ -110,7 +112,8 @@ pub fn drop_scopes(stacks: Stacks) -> Stacks
 /// without it. None where the scope stack is empty.
 pub fn jump(stacks: Stacks) -> Option<(NodeAt, Stacks)>
     ensures none { stacks.scopes ≡ [] → result ≡ None }
-    ensures some { (scope : NodeAt) (rest : List NodeAt) → stacks.scopes ≡ scope ∷ rest → result ≡ Some (scope, stacks_of stacks.symbols rest) }
+    ensures some { (scope : NodeAt) (rest : List NodeAt) → stacks.scopes ≡ scope ∷ rest
+        → result ≡ Some (scope, stacks_of stacks.symbols rest) }
 {
     let mut stacks = stacks;
     match stacks.scopes.pop() {

@@ -93,6 +93,7 @@ impl Symbol {
         if self.head != other.head {
             return self.head.cmp(&other.head);
         }
+        // Equal heads of seven bytes or fewer leave nothing to compare.
         if is_whole(self.head) {
             return Ordering::Equal;
         }
@@ -115,7 +116,8 @@ impl Symbol {
 ghost use Rattle.std.specs.Prelude.{◌≡◌, ◌↔◌, ◌+◌, ◌%◌, ◌≤◌, IsTrue, length, min, slice_index};
 ghost use Rattle.stacks_vars.specs.Head.{IsHead, last_digit};
 
-/// The head of a symbol of these bytes.
+/// The head of a symbol of these bytes. Its digits to the base 256 go from the greatest down, so that heads
+/// compare as the texts do.
 fn head_of(bytes: &[u8]) -> u64
     ensures { IsHead result bytes.now }
 {
@@ -141,7 +143,8 @@ fn digit_at(bytes: &[u8], place: usize) -> u8
     }
 }
 
-/// The last byte of the head of a symbol of that length.
+/// The last byte of the head of a symbol of that length: from 1 on, so that no head is 0, and to 9, which stands for
+/// each length from 8 bytes on.
 fn last_digit(length: usize) -> u8
     ensures { result ≡ min length 8 + 1 }
 {
@@ -152,5 +155,6 @@ fn last_digit(length: usize) -> u8
 fn is_whole(head: u64) -> bool
     ensures { IsTrue result ↔ (head % 256 ≤ 8) }
 {
+    // The last byte is the length and 1.
     head % 256 <= 8
 }

@@ -9,7 +9,8 @@ byte_at text i = slice_index_or text i 0
 
 -- whether a line end has its last byte at this place
 abbrev pub ends_line : List ℕ → ℕ → Bool
-ends_line text i = byte_at text i == 10 || (byte_at text i == 13 && not (byte_at text (i + 1) == 10))
+ends_line text i =
+    byte_at text i == 10 || (byte_at text i == 13 && not (byte_at text (i + 1) == 10))
 
 -- the starts of the lines that begin at one of the first n + 1 places
 abbrev pub starts_to : List ℕ → ℕ → List ℕ
@@ -31,4 +32,5 @@ first_line (b ∷ bytes) = if is_end b then [] else b ∷ first_line bytes
 
 -- the line with this number, from 0, if the text has one
 abbrev pub line_at : List ℕ → ℕ → Option (List ℕ)
-line_at text line = option_map (λ start. first_line (drop start text)) (slice_get (line_starts text) line)
+line_at text line =
+    option_map (λ start. first_line (drop start text)) (slice_get (line_starts text) line)

@@ -32,7 +32,8 @@ pub record IsColumn (line : List ℕ) (units column : ℕ) : Type 0 where
 -- the column in bytes for one in units on this line, and nothing where there is no line
 abbrev pub IsBytesAt : Option (List ℕ) → ℕ → Option ℕ → Type 0
 IsBytesAt None units result = result ≡ None
-IsBytesAt (Some line) units result = (column : ℕ) × (result ≡ Some column) × IsColumn line units column
+IsBytesAt (Some line) units result =
+    (column : ℕ) × (result ≡ Some column) × IsColumn line units column
 
 -- the units before a column in bytes of this line, and nothing where there is no line
 abbrev pub IsUnitsAt : Option (List ℕ) → ℕ → Option ℕ → Type 0

@@ -19,11 +19,13 @@ use Rattle.whole_search.specs.declared.found.Hit.{Hit}
 
 -- the precedence of an edge of the files
 abbrev pub precedence_of : List Graph → EdgeAt → ℕ
-precedence_of files e = option_map_or (λ (edge : Edge). edge.precedence) (edge_of files e.file e.edge) 0
+precedence_of files e =
+    option_map_or (λ (edge : Edge). edge.precedence) (edge_of files e.file e.edge) 0
 
 -- the edge as a step of a path
 abbrev pub step_of : List Graph → EdgeAt → EdgeStep
-step_of files e = record { edge = record { file = e.file; edge = e.edge }; precedence = precedence_of files e }
+step_of files e =
+    record { edge = record { file = e.file; edge = e.edge }; precedence = precedence_of files e }
 
 -- the run's edges as a path
 abbrev pub path_of : List Graph → List EdgeAt → List EdgeStep
@@ -31,10 +33,12 @@ path_of files es = map (step_of files) es
 
 -- the run ends at this node
 abbrev pub EndsAt : List Graph → Config → List EdgeAt → Hit → Type 0
-EndsAt files c es hit = IsSomeAnd (run files c es) (λ end. IsTrue (is_node hit.file hit.node end.spot))
+EndsAt files c es hit =
+    IsSomeAnd (run files c es) (λ end. IsTrue (is_node hit.file hit.node end.spot))
 
 -- a bounded complete run from here that no bounded complete run from here shadows
-pub record IsUnshadowed (bounds : Bounds) (files : List Graph) (c : Config) (es : List EdgeAt) : Type 0 where
+pub record IsUnshadowed (bounds : Bounds) (files : List Graph) (c : Config)
+    (es : List EdgeAt) : Type 0 where
   pub bounded_complete : IsBoundedComplete bounds files c es
   pub unshadowed : (others : List EdgeAt) → IsBoundedComplete bounds files c others
       → IsTrue (shadows (path_of files others) (path_of files es)) → ⊥
@@ -65,7 +69,8 @@ AreDefinitions bounds files c rows = AreRows (IsDefinitionFrom bounds files c) r
 -- the node is a reference of the files, of which that one is a definition
 abbrev pub IsReferenceOf : Bounds → List Graph → Hit → Hit → Type 0
 IsReferenceOf bounds files definition hit =
-    IsSomeAnd (start files (node_at hit.file hit.node)) (λ c. IsDefinitionFrom bounds files c definition)
+    IsSomeAnd (start files (node_at hit.file hit.node))
+    (λ c. IsDefinitionFrom bounds files c definition)
 
 -- the references of a definition
 abbrev pub AreReferences : Bounds → List Graph → Hit → List Hit → Type 0

@@ -23,7 +23,8 @@ edges_of path = map (λ (s : EdgeStep). edge_at s.edge.file s.edge.edge) path
 
 -- the node at which the path ends, as a run from here
 abbrev pub path_end : List Graph → Config → List EdgeStep → Option Hit
-path_end files c path = option_and_then (λ (end : Config). hit_at end.spot) (run files c (edges_of path))
+path_end files c path =
+    option_and_then (λ (end : Config). hit_at end.spot) (run files c (edges_of path))
 
 -- the nodes at which these paths end
 abbrev pub path_ends : List Graph → Config → List (List EdgeStep) → List Hit

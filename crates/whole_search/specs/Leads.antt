@@ -61,4 +61,5 @@ leads_on g marks (place.At n) = is_landing g (place.At n) || mark_at marks n
 
 -- whether the edge at the position leads to a place to land at, by the marks there are so far
 abbrev pub leads_by : Graph → List Bool → ℕ → Bool
-leads_by g marks e = option_map_or (λ (edge : Edge). leads_on g marks edge.sink) (slice_get g.edges e) false
+leads_by g marks e =
+    option_map_or (λ (edge : Edge). leads_on g marks edge.sink) (slice_get g.edges e) false

@@ -22,7 +22,8 @@ runs_of opens = map (λ (o : Open). o.run) opens
 
 -- the straight runs that are longer by one of these edges
 abbrev pub longer_by : List Graph → Config → List EdgeAt → Config → List EdgeAt → List (List EdgeAt)
-longer_by files c es at edges = map (with_edge es) (filter (can_follow files (c ∷ after_cuts files c es) at) edges)
+longer_by files c es at edges =
+    map (with_edge es) (filter (can_follow files (c ∷ after_cuts files c es) at) edges)
 
 -- whether the open run is complete; whether it is counted
 abbrev pub open_completes : List Graph → Open → Bool
@@ -34,7 +35,8 @@ open_lands files o = ends_cut files o.run || open_completes files o
 -- whether the search goes on from the open run, where these spots are live
 abbrev pub open_goes_on : (Spot → Bool) → Bounds → List Graph → Open → Bool
 open_goes_on live bounds files o =
-    nat_lt (length o.run) (longest bounds) && (not (ends_cut files o.run) || o.bounded) && live o.at.spot
+    nat_lt (length o.run) (longest bounds) && (not (ends_cut files o.run) || o.bounded)
+    && live o.at.spot
 
 -- the run, where the test passes
 abbrev pub those : Bool → List EdgeAt → List (List EdgeAt)

@@ -39,5 +39,7 @@ goes_on_in q o = open_goes_on (live_at q.leads.now) q.bounds q.files.now o
 -- the straight runs that are longer than the open run were added, where the search goes on from it; or none, at a dead end
 abbrev pub IsFollowedIn : Query → Open → Bool → List Open → List Open → Type 0
 IsFollowedIn q o limit old new =
-    (runs_of new ≡ runs_of old ++ (if goes_on_in q o && (o.bounded || not limit) then longer_in q o (out q.files.now o.at.spot) else []))
+    (runs_of new ≡ runs_of old
+    ++ (if goes_on_in q o && (o.bounded || not limit)
+    then longer_in q o (out q.files.now o.at.spot) else []))
     ⊎ (IsDeadEnd q.files.now o.at × (runs_of new ≡ runs_of old))

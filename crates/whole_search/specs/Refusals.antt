@@ -9,7 +9,8 @@ use Rattle.whole_search.specs.Walk.{lands, is_at_definition}
 
 -- a dead end: no run from here lands, however the configuration was reached
 pub record IsDeadEnd (files : List Graph) (at : Config) : Type 0 where
-  pub lands_nowhere : (es : List EdgeAt) → es ≢ [] → IsSome (run files at es) → IsTrue (lands files at es) → ⊥
+  pub lands_nowhere : (es : List EdgeAt) → es ≢ [] → IsSome (run files at es)
+      → IsTrue (lands files at es) → ⊥
 
 -- the edge that led here isn't cut, and here is neither a result nor a way to anything that lands
 pub record IsRefusedAt (files : List Graph) (e : EdgeAt) (next : Config) : Type 0 where

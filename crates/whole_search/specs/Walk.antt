@@ -34,7 +34,8 @@ out_of_root file (g ∷ files) = out_of_file file place.Root g ++ out_of_root (f
 -- the edges that leave the spot, by file and then by position
 abbrev pub out : List Graph → Spot → List EdgeAt
 out files Root = out_of_root 0 files
-out files (At node) = option_map_or (out_of_file node.file (place.At node.node)) (slice_get files node.file) []
+out files (At node) =
+    option_map_or (out_of_file node.file (place.At node.node)) (slice_get files node.file) []
 
 -- whether the configuration after this edge leaves a run straight that met these configurations at its cuts
 abbrev pub keeps_straight : List Graph → List Config → EdgeAt → Config → Bool
@@ -51,7 +52,8 @@ with_edge es e = es ++ e ∷ []
 -- the straight runs of one edge more, from where the run stands
 abbrev pub longer_from : List Graph → Config → List EdgeAt → Config → List (List EdgeAt)
 longer_from files c es at =
-    map (with_edge es) (filter (can_follow files (c ∷ after_cuts files c es) at) (out files at.spot))
+    map (with_edge es)
+    (filter (can_follow files (c ∷ after_cuts files c es) at) (out files at.spot))
 
 -- the straight runs of one edge more
 abbrev pub longer_runs : List Graph → Config → List EdgeAt → List (List EdgeAt)
@@ -85,7 +87,8 @@ is_at_definition files at = is_definition_spot files at.spot && is_empty at.stac
 
 -- whether a run, straight by now, is complete: it isn't empty and ends as a result
 abbrev pub completes : List Graph → Config → List EdgeAt → Bool
-completes files c es = not (is_empty es) && option_map_or (is_at_definition files) (run files c es) false
+completes files c es =
+    not (is_empty es) && option_map_or (is_at_definition files) (run files c es) false
 
 -- whether a run, straight by now, is counted: it ends with a cut edge or is complete
 abbrev pub lands : List Graph → Config → List EdgeAt → Bool
@@ -106,15 +109,18 @@ goes_on live bounds files c es =
     && ends_live live files c es
 
 -- the runs to go on with, the last first
-abbrev pub next_runs : (Spot → Bool) → Bounds → List Graph → Config → List EdgeAt → List (List EdgeAt)
+abbrev pub next_runs : (Spot → Bool) → Bounds → List Graph → Config → List EdgeAt
+    → List (List EdgeAt)
 next_runs live bounds files c es =
     if goes_on live bounds files c es then reverse (longer_runs files c es) else []
 
 -- the run, and the runs met from it on in at most so many edges more
-abbrev pub meets : ℕ → (Spot → Bool) → Bounds → List Graph → Config → List EdgeAt → List (List EdgeAt)
+abbrev pub meets : ℕ → (Spot → Bool) → Bounds → List Graph → Config → List EdgeAt
+    → List (List EdgeAt)
 meets zero live bounds files c es = es ∷ []
 meets (suc n) live bounds files c es =
-    es ∷ flat_map (λ (next : List EdgeAt). meets n live bounds files c next) (next_runs live bounds files c es)
+    es ∷ flat_map (λ (next : List EdgeAt). meets n live bounds files c next)
+    (next_runs live bounds files c es)
 
 -- the runs that the search meets from here
 abbrev pub met_runs : (Spot → Bool) → Bounds → List Graph → Config → List (List EdgeAt)
@@ -123,7 +129,8 @@ met_runs live bounds files c = meets (longest bounds) live bounds files c []
 -- nothing that lands is missed by going on from live spots only
 abbrev pub IsLive : (Spot → Bool) → List Graph → Type 0
 IsLive live files =
-    (at : Config) (es : List EdgeAt) → es ≢ [] → IsSome (run files at es) → IsTrue (lands files at es)
+    (at : Config) (es : List EdgeAt) → es ≢ [] → IsSome (run files at es)
+    → IsTrue (lands files at es)
     → live at.spot ≡ true
 
 -- whether the run is counted and bounded; counted and not bounded; complete and bounded

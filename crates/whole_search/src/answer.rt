@@ -36,10 +36,16 @@ pub fn search(
 ) -> Result<Found, SearchFault>
     requires reference { IsTrue (is_reference_of files.now file node) }
     requires files { length files.now < 2 ^ 32 }
-    ensures rows { IfOk result (λ found. IsSomeAnd (start files.now (node_at file node)) (λ c. AreDefinitions bounds files.now c found.rows)) }
-    ensures limit { IfOk result (λ found. IsSomeAnd (start files.now (node_at file node)) (λ c. IsTrue found.limit ↔ HasLimit bounds files.now c)) }
-    ensures crowded { result ≡ Err SearchFault.Crowded → IsSomeAnd (start files.now (node_at file node)) (IsCrowded bounds files.now) }
-    ensures not_crowded { OnOk result (IsSomeAnd (start files.now (node_at file node)) (λ c. ¬ IsCrowded bounds files.now c)) }
+    ensures rows { IfOk result
+        (λ found. IsSomeAnd (start files.now (node_at file node))
+        (λ c. AreDefinitions bounds files.now c found.rows)) }
+    ensures limit { IfOk result
+        (λ found. IsSomeAnd (start files.now (node_at file node))
+        (λ c. IsTrue found.limit ↔ HasLimit bounds files.now c)) }
+    ensures crowded { result ≡ Err SearchFault.Crowded
+        → IsSomeAnd (start files.now (node_at file node)) (IsCrowded bounds files.now) }
+    ensures not_crowded { OnOk result
+        (IsSomeAnd (start files.now (node_at file node)) (λ c. ¬ IsCrowded bounds files.now c)) }
 {
     match start(alloc, files, NodeAt { file, node })? {
         Some(from) => search_from(alloc, files, &from, bounds),

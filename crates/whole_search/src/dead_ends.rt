@@ -2,19 +2,21 @@ use partial_path::{Config, Spot};
 use stacks_vars::{NodeAt, SymbolItem};
 use std::alloc::{AllocError, Global};
 
-/// How many buckets there are.
+/// How many buckets there are: as many as twelve bits of a hash name.
 const BUCKETS: usize = 4_096;
 
-/// With how many configurations of a bucket one is compared at most.
+/// With how many configurations of a bucket one is compared at most, so that full buckets cost no search its time.
 const COMPARED: usize = 32;
 
-/// How many symbols of a stack, and how many bytes of a symbol, its hash is made of.
+/// How many symbols of a stack, and how many bytes of a symbol, its hash is made of, so that a deep stack costs no
+/// more than a flat one.
 const HASHED: usize = 8;
 
-/// No place.
+/// No place: past the end of any vector.
 const NOWHERE: usize = usize::MAX;
 
-/// What the configurations that are remembered may weigh: 65,536 of them, or fewer where they are deep.
+/// What the configurations that are remembered may weigh, in the unit of `weight_of`: 65,536 of them where their stacks
+/// are empty, and fewer where they are deep.
 pub const ROOM: usize = 1_048_576;
 
 /// The configurations that are remembered as dead ends. What they weigh is at most `ROOM`: where one more
@@ -93,11 +95,15 @@ impl DeadEnds {
 
     /// Remembers one more, which weighs so much; the one error is want of memory.
     pub fn keep(&mut self, alloc: Global, at: Config, weight: usize) -> Result<(), AllocError>
-        ensures { OnOk result ((self.new.kept.items ≡ self.old.kept.items ++ at ∷ []) ⊎ (self.new.kept.items ≡ at ∷ [])) }
+        ensures { OnOk result
+            ((self.new.kept.items ≡ self.old.kept.items ++ at ∷ [])
+            ⊎ (self.new.kept.items ≡ at ∷ [])) }
     {
         if self.lasts.is_empty() || weight > ROOM.saturating_sub(self.weight) {
             self.forget(alloc)?;
         }
+        // The link comes first, and names the place that is next: where memory is refused behind it, that place holds
+        // nothing, and nothing is found there.
         self.link(hash_of(&at))?;
         self.weight = self.weight.saturating_add(weight);
         self.kept.push(at)?;
@@ -115,7 +121,7 @@ impl DeadEnds {
         Ok(())
     }
 
-    /// Makes the next place the last of the bucket of its hash.
+    /// Makes the next place the last of the bucket of its hash, so that what came last is found first.
     fn link(&mut self, hash: u64) -> Result<(), AllocError>
         ensures { OnOk result (self.new.kept.items ≡ self.old.kept.items) }
     {
@@ -144,11 +150,13 @@ fn weight_of_item(item: &SymbolItem) -> usize {
     }
 }
 
+/// The bucket of a hash: its first twelve bits, since a product's first bits hang on all of its factors' bits.
 fn bucket_of(hash: u64) -> usize {
     (hash >> 52) as usize
 }
 
-/// A hash of the configuration, made of where it stands, how much its stacks hold, and the first symbols.
+/// A hash of the configuration, made of where it stands, how much its stacks hold, and the symbols at the front, where
+/// stacks of one search differ first.
 fn hash_of(at: &Config) -> u64 {
     let symbols = at.stacks.symbols.reversed();
     let scopes = at.stacks.scopes.reversed();
@@ -187,7 +195,8 @@ fn mix_bytes(hash: u64, bytes: &[u8]) -> u64 {
     hash
 }
 
-/// The hash with one number more.
+/// The hash with one number more, as FxHash mixes it: turned, joined, and multiplied by an odd number, which loses no
+/// bit of it.
 fn mix(hash: u64, number: u64) -> u64 {
     (hash.rotate_left(5) ^ number).wrapping_mul(0x517c_c1b7_2722_0a95)
 }

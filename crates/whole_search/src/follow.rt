@@ -21,7 +21,8 @@ pub fn push_longer(
     requires reached { IsOpenIn query.now reached }
     requires stack { All (IsOpenIn query.now) stack.old.items }
     ensures stack { OnOk result (All (IsOpenIn query.now) stack.new.items) }
-    ensures longer { OnOk result (runs_of stack.new.items ≡ runs_of stack.old.items ++ longer_in query.now reached (out query.now.files.now reached.at.spot)) }
+    ensures longer { OnOk result (runs_of stack.new.items ≡ runs_of stack.old.items
+        ++ longer_in query.now reached (out query.now.files.now reached.at.spot)) }
 {
     let mut edges = edges_out(alloc, query.files, reached.at.spot)?;
     let Some(last) = edges.pop() else {
@@ -42,7 +43,8 @@ fn follow_each(
     requires reached { IsOpenIn query.now reached.now }
     requires stack { All (IsOpenIn query.now) stack.old.items }
     ensures stack { OnOk result (All (IsOpenIn query.now) stack.new.items) }
-    ensures longer { OnOk result (runs_of stack.new.items ≡ runs_of stack.old.items ++ longer_in query.now reached.now edges.now) }
+    ensures longer { OnOk result (runs_of stack.new.items
+        ≡ runs_of stack.old.items ++ longer_in query.now reached.now edges.now) }
 {
     for edge in edges {
         follow(alloc, query, reached.copy(alloc)?, *edge, stack)?;
@@ -61,7 +63,8 @@ fn follow(
     requires reached { IsOpenIn query.now reached }
     requires stack { All (IsOpenIn query.now) stack.old.items }
     ensures stack { OnOk result (All (IsOpenIn query.now) stack.new.items) }
-    ensures longer { OnOk result (runs_of stack.new.items ≡ runs_of stack.old.items ++ longer_in query.now reached (edge ∷ [])) }
+    ensures longer { OnOk result (runs_of stack.new.items
+        ≡ runs_of stack.old.items ++ longer_in query.now reached (edge ∷ [])) }
 {
     let Some(next) = step(alloc, query.files, reached.at, edge)? else {
         return Ok(());
@@ -83,7 +86,8 @@ fn follow(
 /// Whether a run stays within the bounds with its last edge, where it was before, now that it has so many
 /// edges and stands here.
 fn stays_bounded(bounds: Bounds, was: bool, edges: usize, at: &Config) -> bool
-    ensures { result ≡ (was && (nat_le edges bounds.edges && nat_le (length at.now.stacks.symbols) bounds.depth)) }
+    ensures { result ≡ (was
+        && (nat_le edges bounds.edges && nat_le (length at.now.stacks.symbols) bounds.depth)) }
 {
     was && edges <= bounds.edges as usize && at.stacks.symbols.len() <= bounds.depth as usize
 }

@@ -66,6 +66,7 @@ fn marks_of(alloc: Global, graph: &FileGraph) -> Result<Vec<bool>, AllocError>
     let count = graph.node_count() as usize;
     let mut marks = vec![in alloc; false; count]?;
     for done in 0..count {
+        // From the last node down, since the marks of later nodes are asked for.
         let n = count - 1 - done;
         let mark = leads_from(graph, marks.as_slice(), n as u32);
         marks[n] = mark;

@@ -26,7 +26,8 @@ impl Open {
     pub fn first(alloc: Global, bounds: Bounds, start: &Config) -> Result<Open, AllocError>
         ensures run { IfOk result (λ first. first.run ≡ []) }
         ensures at { IfOk result (λ first. first.at ≡ start.now) }
-        ensures bounded { IfOk result (λ first. first.bounded ≡ nat_le (length start.now.stacks.symbols) bounds.depth) }
+        ensures bounded { IfOk result
+            (λ first. first.bounded ≡ nat_le (length start.now.stacks.symbols) bounds.depth) }
     {
         Ok(Open {
             run: Run::new(alloc),
@@ -48,7 +49,7 @@ impl Open {
 }
 
 /// Whether the configuration after the edge leaves the run of these edges straight; the one error is
-/// want of memory. Only after a cut edge does that take more than a moment.
+/// want of memory. After a cut edge it takes time that follows the number of edges, after any other none.
 pub fn keeps_straight(
     alloc: Global,
     files: &[FileGraph],
@@ -57,7 +58,8 @@ pub fn keeps_straight(
     edge: EdgeAt,
     next: &Config,
 ) -> Result<bool, AllocError>
-    ensures { IfOk result (λ keeps. keeps ≡ keeps_straight files.now (start.now ∷ after_cuts files.now start.now edges.now) edge next.now) }
+    ensures { IfOk result (λ keeps. keeps ≡ keeps_straight files.now
+        (start.now ∷ after_cuts files.now start.now edges.now) edge next.now) }
 {
     if !is_cut_edge(files, edge) {
         return Ok(true);
@@ -74,7 +76,8 @@ fn has_met(
     edges: &[EdgeAt],
     at: &Config,
 ) -> Result<bool, AllocError>
-    ensures { IfOk result (λ met. met ≡ list_any (config_eq at.now) (start.now ∷ after_cuts files.now start.now edges.now)) }
+    ensures { IfOk result (λ met. met ≡ list_any (config_eq at.now)
+        (start.now ∷ after_cuts files.now start.now edges.now)) }
 {
     if at.same(start) {
         return Ok(true);

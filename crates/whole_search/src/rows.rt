@@ -22,8 +22,10 @@ pub fn rows_of(
     runs: &[Run],
 ) -> Result<Vec<Hit>, AllocError>
     ensures rising { IfOk result (λ rows. IsRising rows.items) }
-    ensures exact { IfOk result (λ rows. (hit : Hit) → Contains rows.items hit ↔ Contains (path_ends files.now start.now (unshadowed (map (path_of files.now) runs.now))) hit) }
+    ensures exact { IfOk result (λ rows. (hit : Hit) → Contains rows.items hit ↔ Contains
+        (path_ends files.now start.now (unshadowed (map (path_of files.now) runs.now))) hit) }
 {
+    // Paths are shadowed before their ends are told apart: two paths to one node can differ in that.
     let kept = unshadowed(alloc, paths_of(alloc, files, runs)?)?;
     let ends = ends_of(alloc, files, start, &kept)?;
     Ok(in_order(ends))
@@ -64,7 +66,8 @@ fn push_end(
     path: &[EdgeStep],
     ends: &mut Vec<Hit>,
 ) -> Result<(), AllocError>
-    ensures { OnOk result (ends.new.items ≡ ends.old.items ++ option_to_list (path_end files.now start.now path.now)) }
+    ensures { OnOk result (ends.new.items
+        ≡ ends.old.items ++ option_to_list (path_end files.now start.now path.now)) }
 {
     let Some(end) = end_of(alloc, files, start, path)? else {
         return Ok(());

@@ -46,7 +46,8 @@ impl Tally {
         ensures noted { OnOk result (IsNoted files.now reached.now self.old self.new) }
         ensures few { OnOk result (self.new.counted ≤ MAX_RUNS) }
         ensures full { result ≡ Err SearchFault.Crowded → self.old.counted ≡ MAX_RUNS }
-        ensures crowded { result ≡ Err SearchFault.Crowded → IsTrue (open_lands files.now reached.now && reached.now.bounded) }
+        ensures crowded { result ≡ Err SearchFault.Crowded
+            → IsTrue (open_lands files.now reached.now && reached.now.bounded) }
     {
         let complete = completes(files, reached);
         if !complete && !ends_cut(files, reached.run.edges()) {
@@ -56,6 +57,7 @@ impl Tally {
             self.limit = true;
             return Ok(());
         }
+        // Asked before the run counts, so that exactly `MAX_RUNS` of them are no crowd.
         if self.counted == MAX_RUNS {
             return Err(SearchFault::Crowded);
         }

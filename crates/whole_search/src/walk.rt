@@ -56,11 +56,15 @@ fn visit(
     ensures noted { OnOk result (IsNoted query.now.files.now reached tally.old tally.new) }
     ensures few { OnOk result (tally.new.counted ≤ MAX_RUNS) }
     ensures stack { OnOk result (All (IsOpenIn query.now) stack.new.items) }
-    ensures longer { OnOk result (IsFollowedIn query.now reached tally.new.limit stack.old.items stack.new.items) }
-    ensures dead_ends { OnOk result (All (IsDeadEnd query.now.files.now) watch.new.dead_ends.kept.items) }
+    ensures longer { OnOk result
+        (IsFollowedIn query.now reached tally.new.limit stack.old.items stack.new.items) }
+    ensures dead_ends { OnOk result
+        (All (IsDeadEnd query.now.files.now) watch.new.dead_ends.kept.items) }
     ensures full { result ≡ Err SearchFault.Crowded → tally.old.counted ≡ MAX_RUNS }
-    ensures crowded { result ≡ Err SearchFault.Crowded → IsTrue (open_lands query.now.files.now reached && reached.bounded) }
+    ensures crowded { result ≡ Err SearchFault.Crowded
+        → IsTrue (open_lands query.now.files.now reached && reached.bounded) }
 {
+    // Before this run counts: what is settled now had all its runs met without it.
     watch.settle(alloc, query, stack.len(), tally.counted)?;
     tally.note(alloc, query.files, &reached)?;
     if !goes_on(query, &reached, tally.limit) {
@@ -69,6 +73,7 @@ fn visit(
     if is_dead_end(query, &watch.dead_ends, &reached.at) {
         return Ok(());
     }
+    // Before the longer runs are added, which are those from here.
     watch.add(alloc, &reached.at, stack.len(), tally.counted)?;
     push_longer(alloc, query, reached, stack)?;
     Ok(())

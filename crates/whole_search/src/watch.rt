@@ -10,7 +10,8 @@ use crate::spot::is_at_definition;
 use partial_path::{Config, EdgeAt, is_cut_edge, step};
 use std::alloc::{AllocError, Global};
 
-/// After how many runs in a row without one that counts places are watched.
+/// After how many runs in a row without one that counts places are watched: a search that goes well is spared the copy
+/// of its places.
 const PATIENCE: usize = 64;
 
 /// Finds the dead ends among the places that a search goes on from. A place is watched until all runs from
@@ -34,7 +35,7 @@ pub struct Watch {
 struct Place {
     at: Config,
     weight: usize,
-    /// How many runs were open beside those from here.
+    /// How many runs were open beside those from here, all of which the search comes to later.
     open: usize,
     /// How many runs had counted.
     counted: usize,
@@ -73,6 +74,7 @@ impl Watch {
         if self.is_patient(counted) {
             return Ok(());
         }
+        // What would be too much isn't watched: at worst a dead end isn't found.
         let weight = weight_of(at);
         if weight > ROOM.saturating_sub(self.weight) {
             return Ok(());
@@ -111,7 +113,8 @@ impl Watch {
         requires files { length query.now.files.now < 2 ^ 32 }
         requires live { IsLive (live_at query.now.leads.now) query.now.files.now }
         requires dead_ends { All (IsDeadEnd query.now.files.now) self.old.dead_ends.kept.items }
-        ensures dead_ends { OnOk result (All (IsDeadEnd query.now.files.now) self.new.dead_ends.kept.items) }
+        ensures dead_ends { OnOk result
+            (All (IsDeadEnd query.now.files.now) self.new.dead_ends.kept.items) }
     {
         while let Some(place) = self.pop_met(open) {
             self.close(alloc, query, place, counted)?;
@@ -122,7 +125,8 @@ impl Watch {
     /// The last place, where all runs from it were met.
     fn pop_met(&mut self, open: usize) -> Option<Place>
         ensures dead_ends { self.new.dead_ends ≡ self.old.dead_ends }
-        ensures fewer { IfSome result (λ _. length self.new.places.items < length self.old.places.items) }
+        ensures fewer { IfSome result
+            (λ _. length self.new.places.items < length self.old.places.items) }
     {
         if !self.has_met(open) {
             return None;
@@ -135,6 +139,7 @@ impl Watch {
     /// Whether all runs from the last place were met.
     fn has_met(&self, open: usize) -> bool {
         match self.places.last() {
+            // The last open run is gone on from first, so one of the others is taken only when all from here were met.
             Some(place) => open < place.open,
             None => false,
         }
@@ -151,9 +156,11 @@ impl Watch {
         requires files { length query.now.files.now < 2 ^ 32 }
         requires live { IsLive (live_at query.now.leads.now) query.now.files.now }
         requires dead_ends { All (IsDeadEnd query.now.files.now) self.old.dead_ends.kept.items }
-        ensures dead_ends { OnOk result (All (IsDeadEnd query.now.files.now) self.new.dead_ends.kept.items) }
+        ensures dead_ends { OnOk result
+            (All (IsDeadEnd query.now.files.now) self.new.dead_ends.kept.items) }
         ensures places { OnOk result (self.new.places.items ≡ self.old.places.items) }
     {
+        // A run from here counted, so it leads somewhere: the edges needn't be tried.
         if place.counted != counted {
             return Ok(());
         }
@@ -202,7 +209,8 @@ fn each_leads_nowhere(
 ) -> Result<bool, AllocError>
     requires live { IsLive (live_at query.now.leads.now) query.now.files.now }
     requires dead_ends { All (IsDeadEnd query.now.files.now) dead_ends.now.kept.items }
-    ensures { IfOk result (λ nowhere. IsTrue nowhere → All (LeadsNowhere query.now.files.now at.now) edges.now) }
+    ensures { IfOk result
+        (λ nowhere. IsTrue nowhere → All (LeadsNowhere query.now.files.now at.now) edges.now) }
 {
     for edge in edges {
         if !leads_nowhere_by(alloc, query, dead_ends, at, *edge)? {
@@ -222,7 +230,8 @@ fn leads_nowhere_by(
 ) -> Result<bool, AllocError>
     requires live { IsLive (live_at query.now.leads.now) query.now.files.now }
     requires dead_ends { All (IsDeadEnd query.now.files.now) dead_ends.now.kept.items }
-    ensures { IfOk result (λ nowhere. IsTrue nowhere → LeadsNowhere query.now.files.now at.now edge) }
+    ensures { IfOk result
+        (λ nowhere. IsTrue nowhere → LeadsNowhere query.now.files.now at.now edge) }
 {
     let Some(next) = step(alloc, query.files, at.copy(alloc)?, edge)? else {
         return Ok(true);

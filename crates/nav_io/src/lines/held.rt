@@ -11,14 +11,13 @@ ghost use Rattle.nav_io.specs.Search.{FindsNewline};
 use super::{CHUNK, LINE_MAX, LineError, NoMemory, TooLong};
 use crate::Source;
 
-// Where the first newline is.
 fn newline_in(bytes: &[u8]) -> Option<usize>
     ensures { result ≡ position is_newline bytes.now }
 {
     bytes.iter().position(|byte| *byte == b'\n')
 }
 
-// How many bytes stand between `from` and the first newline after it, if there is one.
+/// How many bytes stand between `from` and the first newline after it, if there is one.
 #[tactic(auto, using(crate::proofs::Cuts::line_ends))]
 fn newline_after(held: &Vec<u8>, from: usize) -> Option<usize>
     requires { from ≤ vec_len held.now }
@@ -27,8 +26,8 @@ fn newline_after(held: &Vec<u8>, from: usize) -> Option<usize>
     newline_in(&held[from..])
 }
 
-// Where the first newline stands from `start` on, if there is one. The bytes that are known to be none
-// aren't searched again.
+/// Where the first newline stands from `start` on, if there is one. The first `searched` bytes from there are known to be
+/// none and aren't searched again, so that a line which comes in many pieces costs time in its length.
 fn find_newline(held: &Vec<u8>, start: usize, searched: &mut usize) -> Option<usize>
     requires within { start ≤ vec_len held.now }
     requires searched { searched.old ≤ line_len (drop start held.now.items) }
@@ -47,7 +46,7 @@ fn find_newline(held: &Vec<u8>, start: usize, searched: &mut usize) -> Option<us
     }
 }
 
-// A line of this many bytes, if that is within the limit.
+/// A line of this many bytes, if that is within the limit, `LINE_MAX` included.
 fn within_limit(len: usize) -> Result<usize, TooLong>
     ensures ok { IfOk result (λ n. (n ≡ len) × (n ≤ line_max)) }
     ensures err { OnErr result (line_max < len) }
@@ -58,7 +57,8 @@ fn within_limit(len: usize) -> Result<usize, TooLong>
     Ok(len)
 }
 
-// The length of the first line from `start` on, if it is whole.
+/// The length of the first line from `start` on, if it is whole. One that isn't is refused too once more bytes are there
+/// than a line may have, so that a caller can stop there.
 pub(super) fn find_whole(
     held: &Vec<u8>,
     start: usize,
@@ -85,8 +85,8 @@ pub(super) fn find_whole(
     Ok(None)
 }
 
-// Lets go of the bytes before `start`. Where they are more than those behind, as after a long line, it takes time that
-// follows the number of those behind.
+/// Lets go of the bytes before `start`. Where they are more than those behind, as after a long line, it takes time that
+/// follows the number of those behind: std's `drain` turns all that is held round.
 fn compact(held: &mut Vec<u8>, start: &mut usize)
     requires { start.old ≤ vec_len held.old }
     ensures items { held.new.items ≡ drop start.old held.old.items }
@@ -103,7 +103,8 @@ fn compact(held: &mut Vec<u8>, start: &mut usize)
     *start = 0;
 }
 
-// Lets go of the bytes before `start` where they are more than half.
+/// Lets go of the bytes before `start` where they are more than half, so that all calls together move no more
+/// bytes than they let go.
 fn compact_large(held: &mut Vec<u8>, start: &mut usize)
     requires { start.old ≤ vec_len held.old }
     ensures within { start.new ≤ vec_len held.new }
@@ -114,7 +115,7 @@ fn compact_large(held: &mut Vec<u8>, start: &mut usize)
     }
 }
 
-// Puts bytes behind those that are held.
+/// Puts bytes behind those that are held, where what is answered was let go of before, so that the room serves again.
 pub(super) fn put_behind(
     held: &mut Vec<u8>,
     start: &mut usize,
@@ -122,7 +123,8 @@ pub(super) fn put_behind(
 ) -> Result<(), NoMemory>
     requires { start.old ≤ vec_len held.old }
     ensures within { start.new ≤ vec_len held.new }
-    ensures ok { OnOk result (drop start.new held.new.items ≡ drop start.old held.old.items ++ bytes.now) }
+    ensures ok { OnOk result
+        (drop start.new held.new.items ≡ drop start.old held.old.items ++ bytes.now) }
     ensures err { OnErr result (drop start.new held.new.items ≡ drop start.old held.old.items) }
 {
     compact_large(held, start);
@@ -132,7 +134,7 @@ pub(super) fn put_behind(
     }
 }
 
-// Takes one chunk of the source behind what is held, and answers its length.
+/// Takes one chunk of the source behind what is held, and answers its length, which is 0 at the end of input alone.
 fn take_chunk<S: Source>(
     held: &mut Vec<u8>,
     chunk: &mut [u8],
@@ -143,19 +145,23 @@ fn take_chunk<S: Source>(
         × (held.new.items ≡ held.old.items ++ taken)
         × (S.left source.old ≡ prepend_known taken (S.left source.new))) }
     ensures end { IfOk result (λ n. n ≡ 0 → IsAtEnd (S.left source.new)) }
-    ensures err { OnErr result ((held.new.items ≡ held.old.items) × (S.left source.new ≡ S.left source.old)) }
+    ensures err { OnErr result
+        ((held.new.items ≡ held.old.items) × (S.left source.new ≡ S.left source.old)) }
 
     ensures count { S.faults source.old ≤ S.faults source.new }
-    ensures cause { result ≡ Err LineError.ReadFault → HasRisen (S.faults source.old) (S.faults source.new) }
+    ensures cause { result ≡ Err LineError.ReadFault
+        → HasRisen (S.faults source.old) (S.faults source.new) }
     ensures long { result ≢ Err LineError.TooLong }
 {
+    // The room comes first: once the source has given bytes, a refusal would lose them.
     held.reserve(chunk.len())?;
     let n = source.read(chunk)?;
     held.extend_from_slice(&chunk[..n]).unwrap();
     Ok(n)
 }
 
-// Takes chunks until a newline is held or the source is at its end, and answers the length of the first line.
+/// Takes chunks until a newline is held or the source is at its end, and answers the length of the first line. It takes
+/// no chunk once more bytes are held than a line may have, so what is held has a bound.
 fn fill<S: Source>(held: &mut Vec<u8>, chunk: &mut [u8], source: &mut S) -> Result<usize, LineError>
     requires room { CHUNK ≤ length chunk.old }
     requires no_newline { line_len held.old.items ≡ length held.old.items }
@@ -168,7 +174,8 @@ fn fill<S: Source>(held: &mut Vec<u8>, chunk: &mut [u8], source: &mut S) -> Resu
         → line_len held.new.items ≡ length held.new.items }
 
     ensures count { S.faults source.old ≤ S.faults source.new }
-    ensures cause { result ≡ Err LineError.ReadFault → HasRisen (S.faults source.old) (S.faults source.new) }
+    ensures cause { result ≡ Err LineError.ReadFault
+        → HasRisen (S.faults source.old) (S.faults source.new) }
 {
     while held.len() <= LINE_MAX {
         let before = held.len();
@@ -183,7 +190,8 @@ fn fill<S: Source>(held: &mut Vec<u8>, chunk: &mut [u8], source: &mut S) -> Resu
     Err(LineError::TooLong)
 }
 
-// Takes what is wanting of the first line, and answers its length. Past the end of input the source isn't asked.
+/// Takes what is wanting of the first line, and answers its length. Past the end of input the source isn't asked: one
+/// that may give more, as a terminal, would be waited for again.
 pub(super) fn find_line<S: Source>(
     held: &mut Vec<u8>,
     start: &mut usize,
@@ -197,15 +205,18 @@ pub(super) fn find_line<S: Source>(
     requires searched { searched.old ≤ line_len (drop start.old held.old.items) }
     ensures within { start.new ≤ vec_len held.new }
     ensures searched { searched.new ≤ line_len (drop start.new held.new.items) }
-    ensures unread { is_whole (record { front = drop start.old held.old.items; ended = ended.old }) ≡ true
+    ensures unread { is_whole
+        (record { front = drop start.old held.old.items; ended = ended.old }) ≡ true
         → source.new ≡ source.old }
     ensures kept { prepend_known (drop start.new held.new.items) (S.left source.new)
         ≡ prepend_known (drop start.old held.old.items) (S.left source.old) }
-    ensures past_end { ended.old ≡ true → (drop start.new held.new.items ≡ drop start.old held.old.items)
+    ensures past_end { ended.old ≡ true
+        → (drop start.new held.new.items ≡ drop start.old held.old.items)
         × (S.left source.new ≡ S.left source.old) × (ended.new ≡ true) }
     ensures at_end { ended.new ≡ true → (ended.old ≡ true) ⊎ IsAtEnd (S.left source.new) }
 
-    ensures ok { IfOk result (λ n. (line_len (drop start.new held.new.items) ≡ n) × (n ≤ line_max)) }
+    ensures ok { IfOk result
+        (λ n. (line_len (drop start.new held.new.items) ≡ n) × (n ≤ line_max)) }
     ensures end { IfOk result (λ n. n ≡ length (drop start.new held.new.items) → ended.new ≡ true) }
     ensures err { OnErr result (ended.new ≡ ended.old) }
     ensures too_long { IfErr result (λ e. e ≡ LineError.TooLong
@@ -214,11 +225,13 @@ pub(super) fn find_line<S: Source>(
         × (line_len (drop start.new held.new.items) ≡ length (drop start.new held.new.items))) }
 
     ensures count { S.faults source.old ≤ S.faults source.new }
-    ensures cause { result ≡ Err LineError.ReadFault → HasRisen (S.faults source.old) (S.faults source.new) }
+    ensures cause { result ≡ Err LineError.ReadFault
+        → HasRisen (S.faults source.old) (S.faults source.new) }
 {
     if let Some(len) = find_newline(held, *start, searched) {
         return Ok(within_limit(len)?);
     }
+    // Room is taken for what is unanswered alone, and behind a line that was answered there is mostly little.
     compact(held, start);
     if *ended {
         return Ok(within_limit(held.len())?);
@@ -229,7 +242,8 @@ pub(super) fn find_line<S: Source>(
     Ok(len)
 }
 
-// Lends the line of `len` bytes from `start` on, and moves `start` past it and its newline.
+/// Lends the line of `len` bytes from `start` on, and moves `start` past it and its newline. The last line has none, so
+/// `start` stops at the end.
 pub(super) fn take_line<'a>(held: &'a [u8], start: &mut usize, len: usize) -> Option<&'a [u8]>
     requires within { start.old ≤ length held.now }
     requires line { line_len (drop start.old held.now) ≡ len }
@@ -246,7 +260,7 @@ pub(super) fn take_line<'a>(held: &'a [u8], start: &mut usize, len: usize) -> Op
     Some(&held[from..end])
 }
 
-// Takes chunks until `n` bytes are held or the source is at its end, and answers whether it is.
+/// Takes chunks until `n` bytes are held or the source is at its end, and answers whether it is.
 fn fill_to<S: Source>(
     held: &mut Vec<u8>,
     chunk: &mut [u8],
@@ -262,7 +276,8 @@ fn fill_to<S: Source>(
     ensures not_long { result ≢ Err LineError.TooLong }
 
     ensures count { S.faults source.old ≤ S.faults source.new }
-    ensures cause { result ≡ Err LineError.ReadFault → HasRisen (S.faults source.old) (S.faults source.new) }
+    ensures cause { result ≡ Err LineError.ReadFault
+        → HasRisen (S.faults source.old) (S.faults source.new) }
 {
     while held.len() < n {
         if take_chunk(held, chunk, source)? == 0 {
@@ -272,7 +287,7 @@ fn fill_to<S: Source>(
     Ok(false)
 }
 
-// Takes what is wanting of `n` bytes. Past the end of input the source isn't asked.
+/// Takes what is wanting of `n` bytes. Past the end of input the source isn't asked, as in `find_line`.
 pub(super) fn find_bytes<S: Source>(
     held: &mut Vec<u8>,
     start: &mut usize,
@@ -286,10 +301,12 @@ pub(super) fn find_bytes<S: Source>(
     ensures within { start.new ≤ vec_len held.new }
     ensures kept { prepend_known (drop start.new held.new.items) (S.left source.new)
         ≡ prepend_known (drop start.old held.old.items) (S.left source.old) }
-    ensures past_end { ended.old ≡ true → (drop start.new held.new.items ≡ drop start.old held.old.items)
+    ensures past_end { ended.old ≡ true
+        → (drop start.new held.new.items ≡ drop start.old held.old.items)
         × (S.left source.new ≡ S.left source.old) × (ended.new ≡ true) }
     ensures at_end { ended.new ≡ true → (ended.old ≡ true) ⊎ IsAtEnd (S.left source.new) }
-    ensures unread { has_bytes n (record { front = drop start.old held.old.items; ended = ended.old }) ≡ true
+    ensures unread { has_bytes n
+        (record { front = drop start.old held.old.items; ended = ended.old }) ≡ true
         → source.new ≡ source.old }
 
     ensures ok { OnOk result (length (drop start.new held.new.items) < n → ended.new ≡ true) }
@@ -298,7 +315,8 @@ pub(super) fn find_bytes<S: Source>(
     ensures not_long { result ≢ Err LineError.TooLong }
 
     ensures count { S.faults source.old ≤ S.faults source.new }
-    ensures cause { result ≡ Err LineError.ReadFault → HasRisen (S.faults source.old) (S.faults source.new) }
+    ensures cause { result ≡ Err LineError.ReadFault
+        → HasRisen (S.faults source.old) (S.faults source.new) }
 {
     if *ended || held.len() - *start >= n {
         return Ok(());
@@ -308,12 +326,14 @@ pub(super) fn find_bytes<S: Source>(
     Ok(())
 }
 
-// Lends the `n` bytes from `start` on and moves `start` past them, or lends nothing where there are fewer.
+/// Lends the `n` bytes from `start` on and moves `start` past them. Where there are fewer it lends nothing, and they stay
+/// for a call that asks for less.
 pub(super) fn take_bytes<'a>(held: &'a [u8], start: &mut usize, n: usize) -> Option<&'a [u8]>
     requires { start.old ≤ length held.now }
     ensures within { start.new ≤ length held.now }
     ensures bytes { option_copied result ≡ bytes_at_front n (drop start.old held.now) }
-    ensures rest { MatchOption (option_copied result) (drop start.new held.now ≡ drop start.old held.now)
+    ensures rest { MatchOption (option_copied result)
+        (drop start.new held.now ≡ drop start.old held.now)
         (λ _. drop start.new held.now ≡ drop n (drop start.old held.now)) }
 {
     let from = *start;

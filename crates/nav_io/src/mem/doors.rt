@@ -27,7 +27,10 @@ impl Model for MemDoor {
 impl MemDoor {
     /// A door with these pairs to give out.
     pub fn new(pairs: Vec<(MemSource, MemSink)>) -> MemDoor
-        ensures { result ≡ record { pairs = record { waiting = pairs.items; gave = []; back = [] }; faults = 0 } }
+        ensures { result ≡ record {
+          pairs = record { waiting = pairs.items; gave = []; back = [] };
+          faults = 0;
+        } }
     {
         MemDoor {
             pairs: Lent::new(pairs),
@@ -56,7 +59,8 @@ impl Door for MemDoor {
     ghost faults = { λ door. door.faults };
 
     fn accept(&mut self) -> Result<(MemSource, MemSink), Failed>
-        ensures ok { IfOk result (λ pair. Some self.new.pairs.gave ≡ append_told (Some self.old.pairs.gave) (pair ∷ [])) }
+        ensures ok { IfOk result (λ pair. Some self.new.pairs.gave
+            ≡ append_told (Some self.old.pairs.gave) (pair ∷ [])) }
         ensures out { OnOk result (HasOut (Some self.new.pairs.gave) (Some self.new.pairs.back) 1) }
         ensures err { OnErr result (Some self.new.pairs.gave ≡ Some self.old.pairs.gave) }
         ensures back { Some self.new.pairs.back ≡ Some self.old.pairs.back }
@@ -64,11 +68,13 @@ impl Door for MemDoor {
         ensures count { self.old.faults ≤ self.new.faults }
         ensures cause { OnErr result (HasRisen self.old.faults self.new.faults) }
 
-        // It gives the first of those that wait, and fails exactly where there is none.
-        ensures first { IfOk result (λ pair. self.old.pairs.waiting ≡ pair ∷ self.new.pairs.waiting) }
+        // Beside the trait's, for tests: the first of those that wait, and a fault exactly where there is none.
+        ensures first { IfOk result
+            (λ pair. self.old.pairs.waiting ≡ pair ∷ self.new.pairs.waiting) }
         ensures none { OnErr result (self.old.pairs.waiting ≡ []) }
         ensures after { OnOk result (self.new ≡ record self.old { pairs = lend 1 self.old.pairs }) }
-        ensures failed { OnErr result (self.new ≡ record self.old { faults = counted self.old.faults }) }
+        ensures failed { OnErr result
+            (self.new ≡ record self.old { faults = counted self.old.faults }) }
     {
         match self.pairs.next() {
             Some(pair) => Ok(pair),
@@ -81,13 +87,15 @@ impl Door for MemDoor {
 
     fn done(&mut self, source: MemSource, sink: MemSink)
         requires { HasOut (Some self.old.pairs.gave) (Some self.old.pairs.back) 1 }
-        ensures back { Some self.new.pairs.back ≡ append_told (Some self.old.pairs.back) ((source, sink) ∷ []) }
+        ensures back { Some self.new.pairs.back
+            ≡ append_told (Some self.old.pairs.back) ((source, sink) ∷ []) }
         ensures given { Some self.new.pairs.gave ≡ Some self.old.pairs.gave }
         ensures no_more_back { HasOut (Some self.new.pairs.gave) (Some self.new.pairs.back) 0 }
         ensures count { self.old.faults ≤ self.new.faults }
 
-        // Nothing else changes.
-        ensures after { self.new ≡ record self.old { pairs = take_back self.old.pairs ((source, sink) ∷ []) } }
+        // Beside the trait's, for tests: nothing else changes.
+        ensures after { self.new
+            ≡ record self.old { pairs = take_back self.old.pairs ((source, sink) ∷ []) } }
     {
         self.pairs.put_back((source, sink));
     }
@@ -105,13 +113,21 @@ pub struct MemHouse {
 impl Model for MemHouse {
     ghost Value = { HouseState };
 
-    ghost view = { λ house. record { doors = house.doors; fails = house.fails; faults = house.faults } };
+    ghost view = { λ house. record {
+      doors = house.doors;
+      fails = house.fails;
+      faults = house.faults;
+    } };
 }
 
 impl MemHouse {
     /// A house with these doors to give out.
     pub fn new(doors: Vec<MemDoor>, fails: bool) -> MemHouse
-        ensures { result ≡ record { doors = record { waiting = doors.items; gave = []; back = [] }; fails = fails; faults = 0 } }
+        ensures { result ≡ record {
+          doors = record { waiting = doors.items; gave = []; back = [] };
+          fails = fails;
+          faults = 0;
+        } }
     {
         MemHouse {
             doors: Lent::new(doors),
@@ -143,21 +159,26 @@ impl House for MemHouse {
     ghost faults = { λ house. house.faults };
 
     fn doors(&mut self, alloc: Global, _port: u16, count: u32) -> Result<Vec<MemDoor>, HouseFault>
-        ensures ok { IfOk result (λ doors. Some self.new.doors.gave ≡ append_told (Some self.old.doors.gave) doors.items) }
+        ensures ok { IfOk result (λ doors. Some self.new.doors.gave
+            ≡ append_told (Some self.old.doors.gave) doors.items) }
         ensures all { IfOk result (λ doors. vec_len doors ≡ count) }
-        ensures out { OnOk result (HasOut (Some self.new.doors.gave) (Some self.new.doors.back) count) }
+        ensures out { OnOk result
+            (HasOut (Some self.new.doors.gave) (Some self.new.doors.back) count) }
         ensures err { OnErr result (Some self.new.doors.gave ≡ Some self.old.doors.gave) }
         ensures back { Some self.new.doors.back ≡ Some self.old.doors.back }
         ensures no_more_back { HasOut (Some self.new.doors.gave) (Some self.new.doors.back) 0 }
         ensures count { self.old.faults ≤ self.new.faults }
         ensures cause { result ≡ Err HouseFault.Failed → HasRisen self.old.faults self.new.faults }
 
-        // It gives the first of those that wait, and fails as it was told to, or where too few wait.
+        // Beside the trait's, for tests: the first of those that wait, and a fault where it was told to, or where too
+        // few wait.
         ensures first { IfOk result (λ doors. doors.items ≡ take count self.old.doors.waiting) }
         ensures failing { (result ≡ Err HouseFault.Failed)
             ↔ (IsTrue self.old.fails ⊎ (length self.old.doors.waiting < count)) }
-        ensures after { OnOk result (self.new ≡ record self.old { doors = lend count self.old.doors }) }
-        ensures failed { result ≡ Err HouseFault.Failed → self.new ≡ record self.old { faults = counted self.old.faults } }
+        ensures after { OnOk result
+            (self.new ≡ record self.old { doors = lend count self.old.doors }) }
+        ensures failed { result ≡ Err HouseFault.Failed
+            → self.new ≡ record self.old { faults = counted self.old.faults } }
         ensures memory { result ≡ Err HouseFault.NoMemory → self.new ≡ self.old }
     {
         let wanted = count as usize;
@@ -174,13 +195,15 @@ impl House for MemHouse {
 
     fn close(&mut self, doors: Vec<MemDoor>)
         requires { HasOut (Some self.old.doors.gave) (Some self.old.doors.back) (vec_len doors) }
-        ensures back { Some self.new.doors.back ≡ append_told (Some self.old.doors.back) doors.items }
+        ensures back { Some self.new.doors.back
+            ≡ append_told (Some self.old.doors.back) doors.items }
         ensures given { Some self.new.doors.gave ≡ Some self.old.doors.gave }
         ensures no_more_back { HasOut (Some self.new.doors.gave) (Some self.new.doors.back) 0 }
         ensures count { self.old.faults ≤ self.new.faults }
 
-        // Nothing else changes.
-        ensures after { self.new ≡ record self.old { doors = take_back self.old.doors doors.items } }
+        // Beside the trait's, for tests: nothing else changes.
+        ensures after { self.new
+            ≡ record self.old { doors = take_back self.old.doors doors.items } }
     {
         self.doors.put_all_back(doors);
     }

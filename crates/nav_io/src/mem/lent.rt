@@ -6,14 +6,14 @@ use std::alloc::{AllocError, Global};
 use std::marker::Model;
 use std::snapshot::Snapshot;
 
-// A list of things to give out. It needs no memory to take them back, since they stand in their old vector.
+/// A list of things to give out. It needs no memory to take them back, since they stand in their old vector.
 #[derive(Drop)]
 pub(super) struct Lent<T> {
-    // Those to be given out, and behind them those that came back.
+    /// Those to be given out, and behind them those that came back.
     kept: Vec<T>,
-    // How many are to be given out.
+    /// How many are to be given out.
     waiting: usize,
-    // What it was made with.
+    /// What it was made with: a list of the proofs alone, of which nothing is kept when the program runs.
     all: Snapshot<Vec<T>>,
 }
 
@@ -26,7 +26,8 @@ impl<T> Model for Lent<T> {
       back = drop lent.waiting lent.kept.items;
     } };
 
-    ghost invariant = { λ lent. IsLending lent.all.value.items lent.kept.items lent.waiting (vec_capacity lent.kept) };
+    ghost invariant = { λ lent. IsLending lent.all.value.items lent.kept.items lent.waiting
+        (vec_capacity lent.kept) };
 }
 
 impl<T> Lent<T> {
@@ -40,7 +41,7 @@ impl<T> Lent<T> {
         }
     }
 
-    // How many are to be given out.
+    /// How many are to be given out.
     pub(super) fn waiting(&self) -> usize
         ensures count { result ≡ length self.now.waiting }
         ensures no_more { length self.now.back ≤ length self.now.gave }
@@ -48,7 +49,7 @@ impl<T> Lent<T> {
         self.waiting
     }
 
-    // Gives out the next one, if there is one.
+    /// Gives out the next one, if there is one. The others move up, so it takes time that follows their number.
     pub(super) fn next(&mut self) -> Option<T>
         ensures none { result ≡ None → (self.old.waiting ≡ []) × (self.new ≡ self.old) }
         ensures waits { IfSome result (λ thing. self.old.waiting ≡ thing ∷ self.new.waiting) }
@@ -65,11 +66,12 @@ impl<T> Lent<T> {
         Some(self.kept.remove(0))
     }
 
-    // Gives out the next n.
+    /// Gives out the next n. The one error is want of memory, and comes before the first is given.
     pub(super) fn next_ones(&mut self, alloc: Global, n: usize) -> Result<Vec<T>, AllocError>
         requires wait { n ≤ length self.old.waiting }
         requires no_more { length self.old.back ≤ length self.old.gave }
-        ensures waits { IfOk result (λ things. self.old.waiting ≡ things.items ++ self.new.waiting) }
+        ensures waits { IfOk result
+            (λ things. self.old.waiting ≡ things.items ++ self.new.waiting) }
         ensures given { IfOk result (λ things. self.new.gave ≡ self.old.gave ++ things.items) }
         ensures all { IfOk result (λ things. vec_len things ≡ n) }
         ensures first { IfOk result (λ things. things.items ≡ take n self.old.waiting) }
@@ -79,6 +81,7 @@ impl<T> Lent<T> {
         ensures err { OnErr result (self.new ≡ self.old) }
         ensures no_more { length self.new.back ≤ length self.new.gave }
     {
+        // All the room first: a thing that was given out couldn't go back to its place.
         let mut things = Vec::with_capacity(alloc, n)?;
         while things.len() < n {
             things.push(self.next().unwrap()).unwrap();
@@ -86,7 +89,7 @@ impl<T> Lent<T> {
         Ok(things)
     }
 
-    // Takes one back.
+    /// Takes one back, behind those that came back before.
     pub(super) fn put_back(&mut self, thing: T)
         requires { length self.old.back < length self.old.gave }
         ensures back { self.new ≡ record self.old { back = self.old.back ++ thing ∷ [] } }
@@ -94,7 +97,7 @@ impl<T> Lent<T> {
         self.kept.push(thing).unwrap();
     }
 
-    // Takes these back.
+    /// Takes these back, the first first.
     pub(super) fn put_all_back(&mut self, things: Vec<T>)
     where
         T: Drop,
@@ -106,7 +109,7 @@ impl<T> Lent<T> {
         }
     }
 
-    // The things that came back.
+    /// The things that came back, the first first. Those that were never given out are let go.
     pub(super) fn into_back(self) -> Vec<T>
     where
         T: Drop,

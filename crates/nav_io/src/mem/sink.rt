@@ -38,7 +38,8 @@ impl MemSink {
     /// from 0, stand in `failing`.
     pub fn new(alloc: Global, piece: u32, failing: Vec<u32>) -> MemSink
         requires { 1 ≤ piece }
-        ensures { result ≡ record { held = []; piece = piece; failing = failing.items; calls = 0; faults = 0 } }
+        ensures { result
+            ≡ record { held = []; piece = piece; failing = failing.items; calls = 0; faults = 0 } }
     {
         MemSink {
             bytes: Vec::new(alloc),
@@ -71,13 +72,22 @@ impl Sink for MemSink {
         ensures count { self.old.faults ≤ self.new.faults }
         ensures cause { result ≡ Err SinkError.Failed → HasRisen self.old.faults self.new.faults }
 
-        // It fails as it was told to, and takes as much as it may.
-        ensures failing { (result ≡ Err SinkError.Failed) ↔ IsTrue (fails_now self.old.failing self.old.calls) }
+        // Beside the trait's, for tests: it fails as it was told to, and takes as much as it may.
+        ensures failing { (result ≡ Err SinkError.Failed)
+            ↔ IsTrue (fails_now self.old.failing self.old.calls) }
         ensures size { IfOk result (λ n. n ≡ min self.old.piece (length bytes.now)) }
-        ensures after { IfOk result (λ n. self.new ≡ record self.old { held = self.old.held ++ take n bytes.now; calls = counted self.old.calls }) }
-        ensures failed { result ≡ Err SinkError.Failed → self.new ≡ record self.old { calls = counted self.old.calls; faults = counted self.old.faults } }
-        ensures memory { result ≡ Err SinkError.NoMemory → self.new ≡ record self.old { calls = counted self.old.calls } }
+        ensures after { IfOk result (λ n. self.new ≡ record self.old {
+          held = self.old.held ++ take n bytes.now;
+          calls = counted self.old.calls;
+        }) }
+        ensures failed { result ≡ Err SinkError.Failed → self.new ≡ record self.old {
+          calls = counted self.old.calls;
+          faults = counted self.old.faults;
+        } }
+        ensures memory { result ≡ Err SinkError.NoMemory
+            → self.new ≡ record self.old { calls = counted self.old.calls } }
     {
+        // A call that fails counts too, or it would fail for ever.
         let fails = is_failing(&self.failing, self.calls);
         self.calls = self.calls.saturating_add(1);
         if fails {

@@ -13,7 +13,7 @@ use std::marker::Model;
 #[derive(Drop)]
 pub struct MemSource {
     bytes: Vec<u8>,
-    // The bytes before it were given.
+    /// The bytes before it were given.
     start: usize,
     piece: u32,
     failing: Vec<u32>,
@@ -40,7 +40,13 @@ impl MemSource {
     /// numbers, from 0, stand in `failing`.
     pub fn new(bytes: Vec<u8>, piece: u32, failing: Vec<u32>) -> MemSource
         requires { 1 ≤ piece }
-        ensures { result ≡ record { left = bytes.items; piece = piece; failing = failing.items; calls = 0; faults = 0 } }
+        ensures { result ≡ record {
+          left = bytes.items;
+          piece = piece;
+          failing = failing.items;
+          calls = 0;
+          faults = 0;
+        } }
     {
         MemSource {
             bytes,
@@ -53,7 +59,8 @@ impl MemSource {
     }
 }
 
-// Copies bytes from `start` on to the front of `buf`, and moves `start` past them.
+/// Copies at most `piece` bytes from `start` on to the front of `buf`, and moves `start` past them, so that no byte that is
+/// left has to be moved.
 fn give(bytes: &[u8], start: &mut usize, piece: usize, buf: &mut [u8]) -> usize
     requires { start.old ≤ length bytes.now }
     ensures within { start.new ≤ length bytes.now }
@@ -83,12 +90,20 @@ impl Source for MemSource {
         ensures count { self.old.faults ≤ self.new.faults }
         ensures cause { OnErr result (HasRisen self.old.faults self.new.faults) }
 
-        // It fails as it was told to, and gives as much as it may.
+        // Beside the trait's, for tests: it fails as it was told to, and gives as much as it may.
         ensures failing { is_err result ≡ fails_now self.old.failing self.old.calls }
-        ensures size { IfOk result (λ n. n ≡ min (min self.old.piece (length buf.old)) (length self.old.left)) }
-        ensures after { IfOk result (λ n. self.new ≡ record self.old { left = drop n self.old.left; calls = counted self.old.calls }) }
-        ensures failed { OnErr result (self.new ≡ record self.old { calls = counted self.old.calls; faults = counted self.old.faults }) }
+        ensures size { IfOk result
+            (λ n. n ≡ min (min self.old.piece (length buf.old)) (length self.old.left)) }
+        ensures after { IfOk result (λ n. self.new ≡ record self.old {
+          left = drop n self.old.left;
+          calls = counted self.old.calls;
+        }) }
+        ensures failed { OnErr result (self.new ≡ record self.old {
+          calls = counted self.old.calls;
+          faults = counted self.old.faults;
+        }) }
     {
+        // A call that fails counts too, or it would fail for ever.
         let fails = is_failing(&self.failing, self.calls);
         self.calls = self.calls.saturating_add(1);
         if fails {
