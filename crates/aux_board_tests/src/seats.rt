@@ -45,7 +45,7 @@ fn answer<J: Naming, R: Wait + Drop>(
         return Ok(String::new(alloc));
     };
     let edit = edit_of(alloc, word)?;
-    match seat.commit(rt, base.parse().ok(), &[edit]) {
+    match seat.commit(rt, alloc, base.parse().ok(), &[edit]) {
         Ok(()) => Ok(String::new(alloc)),
         Err(fault) => Ok(format!(in alloc; "{fault}, ")?),
     }
@@ -187,7 +187,7 @@ fn all_tied<'a, J: Naming + Send + Sync, R: Wait + Threads + Sync>(
     requires all { AreSeats 3 seats.old }
 {
     let edits = [edit_of(alloc, "a")?];
-    all_commit(rt, seats, &edits);
+    all_commit(rt, alloc, seats, &edits);
     tie(&rt, seats)?;
     match seats.last_mut() {
         Some(seat) => {
@@ -200,19 +200,25 @@ fn all_tied<'a, J: Naming + Send + Sync, R: Wait + Threads + Sync>(
 
 fn all_commit<'a, J: Naming + Send + Sync, R: Wait + Threads + Sync>(
     rt: &'a R,
+    alloc: Global,
     seats: &mut [Seat<J, &'a R>],
     edits: &[Edit],
 )
     requires { AreSeats 3 seats.old }
     ensures { AreSeats 3 seats.new }
 {
-    thread::for_each_mut(rt, seats, 3, &|_, seat| commit_one(rt, seat, edits));
+    thread::for_each_mut(rt, seats, 3, &|_, seat| commit_one(rt, alloc, seat, edits));
 }
 
-fn commit_one<'a, J: Naming, R: Wait>(rt: &'a R, seat: &mut Seat<J, &'a R>, edits: &[Edit])
+fn commit_one<'a, J: Naming, R: Wait>(
+    rt: &'a R,
+    alloc: Global,
+    seat: &mut Seat<J, &'a R>,
+    edits: &[Edit],
+)
     ensures { seat.new.seat ≡ seat.old.seat }
 {
-    let _ = seat.commit(&rt, None, edits);
+    let _ = seat.commit(&rt, alloc, None, edits);
 }
 
 /// The same of a board that a caller names.

@@ -180,7 +180,7 @@ fn board_with(alloc: Global, files: &str) -> Result<PlainBoard, Fail> {
         }
     }
     let mut board = PlainBoard::new(alloc)?;
-    match board.commit(&(), None, edits.as_slice()) {
+    match board.commit(&(), alloc, None, edits.as_slice()) {
         Ok(()) => Ok(board),
         Err(_) => Err(Fail::new("the files are refused")),
     }

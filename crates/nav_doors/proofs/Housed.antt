@@ -65,7 +65,7 @@ failed_among o most doors doors' seats seats' looped long s e =
       door' = d'.0;
       was = d.1;
       is = d'.1;
-      failed = (s.each p.0 d.0 d'.0 h.0 h'.0 8 d.1 d'.1 h.1 h'.1 p.1).failed refl;
+      failed = (s.each p.0 d.0 d'.0 h.0 h'.0 8 d.1 d'.1 h.1 h'.1 p.1).served.failed refl;
     }
 
 failed_in : {D S K : Type 0} (o : Outside D S K) (count most : ℕ) (doors doors' : List D) (seats seats' : List Holder) (status : ℕ)

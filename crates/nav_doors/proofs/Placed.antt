@@ -1,12 +1,14 @@
 -- What is read of lists of places, and what follows for their doors and seats.
-use Rattle.std.proofs.Common.{◌≡◌, ℕ, zero, suc, ◌<◌, ◌==◌, ◌||◌, List, [], ◌∷◌, ◌++◌, ◌≤◌, length, map, take, drop, append-nil, slice_get, slice_index_or, Some, Bool, refl, ap, sym, subst, ◌∙◌, arith}
+use Rattle.std.proofs.Common.{◌≡◌, ℕ, zero, suc, ◌<◌, ◌==◌, ◌||◌, List, [], ◌∷◌, ◌++◌, ◌≤◌, length, map, take, drop, append-nil, slice_get, slice_index_or, None, Some, Bool, refl, ap, sym, subst, ◌∙◌, arith}
 use Rattle.std.specs.List.{list_any}
 use Rattle.version_tree.specs.declared.entry.Entry.{Entry}
 use Rattle.shared_board.specs.Seats.{Holder, AreSeats, HaveLearnt, IsLogOfAll, last_log}
 use Rattle.nav_doors.specs.declared.place.Place.{Place}
+use Rattle.nav_session.specs.Desks.{OnDesk}
+use Rattle.nav_session.specs.Serving.{standing}
 use Rattle.nav_doors.specs.Connections.{Outside, ServesDoor}
 use Rattle.nav_doors.specs.Inside.{ServesPlace, doors_of, seats_of, statuses_of}
-use Rattle.nav_doors.specs.Doors.{ServesDoors, ServesTied, status_of_all, worst}
+use Rattle.nav_doors.specs.Doors.{ServesDoors, ServesFromEmptyDesk, ServesTied, status_of_all, worst}
 
 -- whether some place has the status
 pub any_status : {D B : Type 0} (status : ℕ) (places : List (Place D B)) → list_any (λ (place : Place D B). place.status == status) places ≡ list_any (λ (told : ℕ). told == status) (statuses_of places)
@@ -56,13 +58,13 @@ some_at f (x ∷ xs) (suc n) y e = let r = some_at f xs n y e in (r.0, omega (ar
 -- what came of a place, as its parts are named
 moved : {D S K B : Type 0} (o : Outside D S K) (name : B → ℕ) (log : B → List Entry) (most : ℕ) (p q : Place D B) (door door' : D) (seat seat' : B) (status : ℕ)
     → ServesPlace o name log most p q → p.door ≡ door → q.door ≡ door' → p.seat ≡ seat → q.seat ≡ seat' → q.status ≡ status
-    → ServesDoor o (name seat) most door door' (log seat) (log seat') status
+    → ServesFromEmptyDesk o (name seat) most door door' (log seat) (log seat') status
 moved {D} {S} {K} {B} o name log most p q door door' seat seat' status h e1 e2 e3 e4 e5 =
-    subst (λ (w : ℕ). ServesDoor o (name seat) most door door' (log seat) (log seat') w) e5
-    (subst (λ (w : B). ServesDoor o (name seat) most door door' (log seat) (log w) q.status) e4
-    (subst (λ (w : B). ServesDoor o (name w) most door door' (log w) (log q.seat) q.status) e3
-    (subst (λ (w : D). ServesDoor o (name p.seat) most door w (log p.seat) (log q.seat) q.status) e2
-    (subst (λ (w : D). ServesDoor o (name p.seat) most w q.door (log p.seat) (log q.seat) q.status) e1 h.door))))
+    subst (λ (w : ℕ). ServesFromEmptyDesk o (name seat) most door door' (log seat) (log seat') w) e5
+    (subst (λ (w : B). ServesFromEmptyDesk o (name seat) most door door' (log seat) (log w) q.status) e4
+    (subst (λ (w : B). ServesFromEmptyDesk o (name w) most door door' (log w) (log q.seat) q.status) e3
+    (subst (λ (w : D). ServesFromEmptyDesk o (name p.seat) most door w (log p.seat) (log q.seat) q.status) e2
+    (subst (λ (w : D). ServesFromEmptyDesk o (name p.seat) most w q.door (log p.seat) (log q.seat) q.status) e1 h.door))))
 
 -- what came of all places
 pub served_places : {D S K B : Type 0} (o : Outside D S K) (name : B → ℕ) (log : B → List Entry) (most : ℕ) (old new : List (Place D B))
@@ -144,4 +146,15 @@ not_tied o most doors doors' seats ended seats' looped s learnt = record {
   no_memory = λ e. refl;
   same_status = λ ne. absurd (ne refl);
   one_log = λ ne. absurd (ne refl);
+}
+
+-- a door's loop on a desk that was made for it
+pub from_empty : {D S K : Type 0} (o : Outside D S K) (seat most : ℕ) (door door' : D) (log log' : List Entry) (desk desk' : OnDesk) (status : ℕ)
+    → desk ≡ record { store = []; user = None; view = None }
+    → ServesDoor o seat most door door' (standing log desk.store) (standing log' desk'.store) status
+    → ServesFromEmptyDesk o seat most door door' log log' status
+from_empty o seat most door door' log log' desk desk' status empty served = record {
+  after = standing log' desk'.store;
+  served = subst (λ (d : OnDesk). ServesDoor o seat most door door' (standing log d.store) (standing log' desk'.store) status) empty served;
+  seen = refl;
 }

@@ -1,13 +1,13 @@
 -- A door's loop under way: what was served so far, one connection more, and each way out.
 use Rattle.std.proofs.Common.{◌≡◌, ◌≢◌, ℕ, ◌+◌, ◌<◌, ◌≤◌, List, [], ◌∷◌, ◌++◌, length, map, Option, None, Some, refl, ap, sym, subst, ◌∙◌, arith, append_assoc, append-nil, length-append}
 use Rattle.std.specs.List.{AllByRecursion}
-use Rattle.version_tree.specs.declared.entry.Entry.{Entry}
 use Rattle.nav_io.specs.Told.{append_told}
+use Rattle.nav_session.specs.Serving.{Standing}
 use Rattle.nav_doors.specs.Connections.{Outside, Connection, IsServed, AreServed, ServesDoor, HaveMemory, pairs_given, pairs_back, statuses}
 use Rattle.nav_doors.specs.Inside.{ServesNext, FailsNext}
 
 -- so many connections were served, none of which ended for want of memory
-pub record IsUnderWay {D S K : Type 0} (o : Outside D S K) (seat n : ℕ) (door door' : D) (log log' : List Entry) : Type 0 where
+pub record IsUnderWay {D S K : Type 0} (o : Outside D S K) (seat n : ℕ) (door door' : D) (log log' : Standing) : Type 0 where
   pub served : List (Connection S K)
   pub gave : o.gave door' ≡ append_told (o.gave door) (pairs_given served)
   pub got_back : o.got_back door' ≡ append_told (o.got_back door) (pairs_back served)
@@ -34,7 +34,7 @@ told_one_more : {A X : Type 0} (f : A → X) (t0 t1 t2 : Option (List X)) (xs : 
 told_one_more f t0 t1 t2 xs x a b =
     b ∙ (ap (λ w. append_told w (f x ∷ [])) a ∙ (told_more t0 (map f xs) (f x ∷ []) ∙ ap (λ w. append_told t0 w) (map_more f xs x)))
 
-served_more : {D S K : Type 0} (o : Outside D S K) (seat : ℕ) (log : List Entry) (cs : List (Connection S K)) (end : List Entry) (c : Connection S K)
+served_more : {D S K : Type 0} (o : Outside D S K) (seat : ℕ) (log : Standing) (cs : List (Connection S K)) (end : Standing) (c : Connection S K)
     → AreServed o seat log cs end → c.before ≡ end → IsServed o seat c → AreServed o seat log (cs ++ c ∷ []) c.after
 served_more o seat log [] end c h before served = (before ∙ h, served, refl)
 served_more o seat log (x ∷ cs) end c h before served = (h.0, h.1, served_more o seat x.after cs end c h.2 before served)
@@ -43,7 +43,7 @@ all_push : {X : Type 0} (P : X → Type 0) (xs : List X) (y : X) → AllByRecurs
 all_push P [] y all one = (one, tt)
 all_push P (x ∷ xs) y all one = (all.0, all_push P xs y all.1 one)
 
-pub under_way : {D S K : Type 0} (o : Outside D S K) (seat : ℕ) (door : D) (log : List Entry) → IsUnderWay o seat 0 door door log log
+pub under_way : {D S K : Type 0} (o : Outside D S K) (seat : ℕ) (door : D) (log : Standing) → IsUnderWay o seat 0 door door log log
 under_way o seat door log = record {
   served = [];
   gave = told_nothing (o.gave door);
@@ -55,7 +55,7 @@ under_way o seat door log = record {
 }
 
 -- one connection more, whatever came of it
-record HasOneMore {D S K : Type 0} (o : Outside D S K) (seat n : ℕ) (door door' : D) (log log' : List Entry) (earlier : List ℕ) (status : ℕ) : Type 0 where
+record HasOneMore {D S K : Type 0} (o : Outside D S K) (seat n : ℕ) (door door' : D) (log log' : Standing) (earlier : List ℕ) (status : ℕ) : Type 0 where
   served : List (Connection S K)
   gave : o.gave door' ≡ append_told (o.gave door) (pairs_given served)
   got_back : o.got_back door' ≡ append_told (o.got_back door) (pairs_back served)
@@ -64,20 +64,20 @@ record HasOneMore {D S K : Type 0} (o : Outside D S K) (seat n : ℕ) (door door
   told : statuses served ≡ earlier ++ status ∷ []
   count : o.faults door ≤ o.faults door'
 
-has_one_more : {D S K : Type 0} (o : Outside D S K) (seat n : ℕ) (door d d' : D) (log l l' : List Entry) (status : ℕ)
+has_one_more : {D S K : Type 0} (o : Outside D S K) (seat n : ℕ) (door d d' : D) (log l l' : Standing) (status : ℕ)
     → (u : IsUnderWay o seat n door d log l) → ServesNext o seat d d' l l' status → HasOneMore o seat n door d' log l' (statuses u.served) status
 has_one_more o seat n door d d' log l l' status u next = record {
   served = u.served ++ next.next ∷ [];
   gave = told_one_more (λ c. c.given) (o.gave door) (o.gave d) (o.gave d') u.served next.next u.gave next.gave;
   got_back = told_one_more (λ c. c.back) (o.got_back door) (o.got_back d) (o.got_back d') u.served next.next u.got_back next.got_back;
-  in_order = subst (λ (w : List Entry). AreServed o seat log (u.served ++ next.next ∷ []) w) next.after
+  in_order = subst (λ (w : Standing). AreServed o seat log (u.served ++ next.next ∷ []) w) next.after
       (served_more o seat log u.served l next.next u.in_order next.before next.served);
   so_many = length-append u.served (next.next ∷ []) ∙ ap (λ k. k + 1) u.so_many;
   told = sym (map_more (λ c. c.status) u.served next.next) ∙ ap (λ (s : ℕ). statuses u.served ++ s ∷ []) next.told;
   count = omega (arith, u.count, next.count);
 }
 
-pub one_more : {D S K : Type 0} (o : Outside D S K) (seat seat' n : ℕ) (door d d' : D) (log l l' : List Entry) (status : ℕ)
+pub one_more : {D S K : Type 0} (o : Outside D S K) (seat seat' n : ℕ) (door d d' : D) (log l l' : Standing) (status : ℕ)
     → IsUnderWay o seat n door d log l → seat' ≡ seat → ServesNext o seat' d d' l l' status → status ≢ 5
     → IsUnderWay o seat (n + 1) door d' log l'
 one_more o seat seat' n door d d' log l l' status u same next memory =
@@ -93,7 +93,7 @@ one_more o seat seat' n door d d' log l l' status u same next memory =
     }
 
 -- the loop ends behind a connection that ended for want of memory
-pub stops : {D S K : Type 0} (o : Outside D S K) (seat seat' most n : ℕ) (door d d' : D) (log l l' : List Entry) (status : ℕ)
+pub stops : {D S K : Type 0} (o : Outside D S K) (seat seat' most n : ℕ) (door d d' : D) (log l l' : Standing) (status : ℕ)
     → IsUnderWay o seat n door d log l → seat' ≡ seat → ServesNext o seat' d d' l l' status → status ≡ 5
     → ServesDoor o seat most door d' log l' 5
 stops o seat seat' most n door d d' log l l' status u same next is =
@@ -113,13 +113,13 @@ stops o seat seat' most n door d d' log l l' status u same next is =
     }
 
 -- the door failed
-pub fails : {D S K : Type 0} (o : Outside D S K) (seat most n : ℕ) (door d d' : D) (log l l' : List Entry)
+pub fails : {D S K : Type 0} (o : Outside D S K) (seat most n : ℕ) (door d d' : D) (log l l' : Standing)
     → IsUnderWay o seat n door d log l → n < most → FailsNext o d d' l l' → ServesDoor o seat most door d' log l' 8
 fails o seat most n door d d' log l l' u less f = record {
   served = u.served;
   gave = f.gave ∙ u.gave;
   got_back = f.got_back ∙ u.got_back;
-  in_order = subst (λ (w : List Entry). AreServed o seat log u.served w) (sym f.same) u.in_order;
+  in_order = subst (λ (w : Standing). AreServed o seat log u.served w) (sym f.same) u.in_order;
   ends = refl;
   all = λ e. absurd (omega (arith, e));
   fewer = λ e. omega (arith, u.so_many, less);
@@ -130,7 +130,7 @@ fails o seat most n door d d' log l l' u less f = record {
 }
 
 -- all were served
-pub finished : {D S K : Type 0} (o : Outside D S K) (seat most n : ℕ) (door d : D) (log l : List Entry)
+pub finished : {D S K : Type 0} (o : Outside D S K) (seat most n : ℕ) (door d : D) (log l : Standing)
     → IsUnderWay o seat n door d log l → n ≡ most → ServesDoor o seat most door d log l 0
 finished o seat most n door d log l u is = record {
   served = u.served;

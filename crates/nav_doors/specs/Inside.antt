@@ -3,25 +3,27 @@ use Rattle.std.specs.Prelude.{◌≡◌, ℕ, ◌≤◌, List, [], ◌∷◌, ma
 use Rattle.version_tree.specs.declared.entry.Entry.{Entry}
 use Rattle.nav_io.specs.Faults.{HasRisen}
 use Rattle.nav_io.specs.Told.{append_told}
-use Rattle.nav_doors.specs.Connections.{Outside, Connection, IsServed, ServesDoor}
+use Rattle.nav_session.specs.Serving.{Standing}
+use Rattle.nav_doors.specs.Connections.{Outside, Connection, IsServed}
+use Rattle.nav_doors.specs.Doors.{ServesFromEmptyDesk}
 use Rattle.nav_doors.specs.declared.place.Place.{Place}
 
 -- the next connection was given out and served, and came back
-pub record ServesNext {D S K : Type 0} (o : Outside D S K) (seat : ℕ) (door door' : D) (log log' : List Entry) (status : ℕ) : Type 0 where
+pub record ServesNext {D S K : Type 0} (o : Outside D S K) (seat : ℕ) (door door' : D) (was is : Standing) (status : ℕ) : Type 0 where
   pub next : Connection S K
   pub served : IsServed o seat next
   pub gave : o.gave door' ≡ append_told (o.gave door) (next.given ∷ [])
   pub got_back : o.got_back door' ≡ append_told (o.got_back door) (next.back ∷ [])
-  pub before : next.before ≡ log
-  pub after : next.after ≡ log'
+  pub before : next.before ≡ was
+  pub after : next.after ≡ is
   pub told : next.status ≡ status
   pub count : o.faults door ≤ o.faults door'
 
 -- the door failed in place of a connection
-pub record FailsNext {D S K : Type 0} (o : Outside D S K) (door door' : D) (log log' : List Entry) : Type 0 where
+pub record FailsNext {D S K : Type 0} (o : Outside D S K) (door door' : D) (before after : Standing) : Type 0 where
   pub gave : o.gave door' ≡ o.gave door
   pub got_back : o.got_back door' ≡ o.got_back door
-  pub same : log' ≡ log
+  pub same : after ≡ before
   pub failed : HasRisen (o.faults door) (o.faults door')
   pub count : o.faults door ≤ o.faults door'
 
@@ -37,5 +39,5 @@ statuses_of places = map (λ p. p.status) places
 
 -- the place's door was served for its seat, which keeps its name
 pub record ServesPlace {D S K B : Type 0} (o : Outside D S K) (name : B → ℕ) (log : B → List Entry) (most : ℕ) (p q : Place D B) : Type 0 where
-  pub door : ServesDoor o (name p.seat) most p.door q.door (log p.seat) (log q.seat) q.status
+  pub door : ServesFromEmptyDesk o (name p.seat) most p.door q.door (log p.seat) (log q.seat) q.status
   pub seat : name q.seat ≡ name p.seat

@@ -1,5 +1,6 @@
 //! One connection of a door.
 ghost use Rattle.std.specs.Prelude.{◌≡◌, IfOk, OnErr};
+ghost use Rattle.nav_session.specs.Serving.{standing};
 ghost use Rattle.nav_doors.specs.Connections.{outside};
 ghost use Rattle.nav_doors.specs.Inside.{ServesNext, FailsNext};
 
@@ -25,10 +26,13 @@ pub(crate) fn serve_next<R: Threads + Sync, B: Commits<R>, D: Door, G: Gate + Sy
 ) -> Result<u8, Failed>
     ensures served { IfOk result (λ status. ServesNext
         (outside D.gave D.got_back D.faults D.S.left D.S.faults D.K.held D.K.faults)
-        (B.seat seat.old) door.old door.new (B.log seat.old) (B.log seat.new) status) }
+        (B.seat seat.old) door.old door.new
+        (standing (B.log seat.old) desk.old.store)
+        (standing (B.log seat.new) desk.new.store) status) }
     ensures failed { OnErr result (FailsNext
         (outside D.gave D.got_back D.faults D.S.left D.S.faults D.K.held D.K.faults)
-        door.old door.new (B.log seat.old) (B.log seat.new)) }
+        door.old door.new
+        (standing (B.log seat.old) desk.old.store) (standing (B.log seat.new) desk.new.store)) }
     ensures seat { B.seat seat.new ≡ B.seat seat.old }
 {
     let (mut source, mut sink) = door.accept()?;

@@ -1,5 +1,6 @@
 //! One door's loop.
 ghost use Rattle.std.specs.Prelude.{◌≡◌};
+ghost use Rattle.nav_session.specs.Serving.{standing};
 ghost use Rattle.nav_doors.specs.Connections.{outside, ServesDoor};
 
 use crate::connecting::serve_next;
@@ -38,7 +39,9 @@ pub fn serve_door<R: Threads + Sync, B: Commits<R>, D: Door, G: Gate + Sync, L: 
 ) -> u8
     ensures served { ServesDoor
         (outside D.gave D.got_back D.faults D.S.left D.S.faults D.K.held D.K.faults)
-        (B.seat seat.old) connections door.old door.new (B.log seat.old) (B.log seat.new) result }
+        (B.seat seat.old) connections door.old door.new
+        (standing (B.log seat.old) desk.old.store)
+        (standing (B.log seat.new) desk.new.store) result }
     ensures seat { B.seat seat.new ≡ B.seat seat.old }
 {
     for _ in 0..connections {

@@ -1,9 +1,9 @@
 //! The loops of all doors, each on a thread of its own, so that a slow client holds up its own door alone.
 ghost use Rattle.std.specs.Prelude.{◌≡◌, ◌==◌, ◌<◌, ◌⊎◌, ℕ, None, length, vec_len, slice_index_or, IfSome};
 ghost use Rattle.std.specs.List.{list_any};
-ghost use Rattle.nav_doors.specs.Connections.{outside, ServesDoor};
+ghost use Rattle.nav_doors.specs.Connections.{outside};
 ghost use Rattle.nav_doors.specs.Inside.{ServesPlace};
-ghost use Rattle.nav_doors.specs.Doors.{ServesDoors, ServesTied, IsRefused, worst};
+ghost use Rattle.nav_doors.specs.Doors.{ServesDoors, ServesFromEmptyDesk, ServesTied, IsRefused, worst};
 ghost use Rattle.shared_board.specs.Seats.{AreSeats};
 
 use crate::door::{ACCEPT_FAILED, ALL_SERVED, NO_MEMORY, serve_door};
@@ -54,7 +54,7 @@ fn serve_counted<R: Threads + Sync, B: Commits<R>, D: Door, L: Ledger>(
     requires name { blank.name ≡ L.name }
     requires parts { blank.parts ≡ L.parts }
     requires some { 0 < blank.parts }
-    ensures served { ServesDoor
+    ensures served { ServesFromEmptyDesk
         (outside D.gave D.got_back D.faults D.S.left D.S.faults D.K.held D.K.faults)
         (B.seat seat.old) connections door.old door.new (B.log seat.old) (B.log seat.new) result }
     ensures seat { B.seat seat.new ≡ B.seat seat.old }

@@ -11,14 +11,14 @@ use Rattle.nav_session.specs.declared.halt.Halt.{Halt}
 use Rattle.nav_session.specs.declared.halt.Halt.TheVariants.{SourceFailed, SinkFailed, NoMemory, LongLine}
 use Rattle.nav_session.specs.declared.serving.End.TheVariants.{Full}
 use Rattle.nav_session.specs.Halts.{status_of}
-use Rattle.nav_session.specs.Transcripts.{with_newline, max_lines}
+use Rattle.nav_session.specs.Transcripts.{max_lines}
 use Rattle.nav_session.specs.Desks.{OnDesk, Moment, moment}
 use Rattle.nav_session.specs.Serving.{AreAllTaken, Serves, writes_all, answers_all}
 use Rattle.nav_session.specs.Turns.{Spot, spot, AnswersNext, StopsNext}
 use Rattle.nav_session.specs.UnderWay.{IsUnderWay}
 use Rattle.nav_session.proofs.Reached.{taken_of, all_taken_of}
 use Rattle.nav_session.proofs.Turned.{no_entry}
-use Rattle.nav_session.proofs.UnderWay.{under_way, served_short, has_answered, ends_at_end, stops_next, HasOneMore, one_more, goes_on, ends_at_quit, stops_writing, looks_on}
+use Rattle.nav_session.proofs.UnderWay.{under_way, served_short, has_answered, ends_at_end, stops_next, HasOneMore, one_more, goes_on, ends_at_quit, looks_on}
 use Rattle.nav_poll.specs.Polling.{Seen, Start, start_at, HasServed, IsWritten, IsGoing, status_so_far, StandsFor, HasCaughtUp}
 use Rattle.nav_poll.specs.Turns.{Pushes, Pulls}
 use Rattle.nav_poll.proofs.Fronts.{reads_end, byte_some, after_byte}
@@ -81,22 +81,22 @@ pub under_way_served : (status count seat : ℕ) (log : List Entry) (left held h
     → IsUnderWay count seat log left held now held' → count ≤ max_lines → prepend_known front left' ≡ prepend_known now.reader.front now.left
     → answers_all status ≡ false → (status ≡ 3 → ⊥) → Serves seat log now.session.log left left' held held' status
 under_way_served status count seat log left held held' now front left' u within kept not_all no_three =
-    served_short status seat log now.session.log left left' held held' u.done u.replies
+    (served_short status seat log now.session.log left left' held held' u.done u.replies
     (has_answered count seat log left held held' now (spot now.session now.reader left') u within
     (no_entry now.session now.reader now.reader now.left left')
     (taken_of u.done left now.reader front now.left left' kept u.read))
-    u.holds not_all (λ e. absurd (no_three e))
+    u.holds not_all (λ e. absurd (no_three e))).served
 
 -- It has answered all whole lines that were taken, where none is in front and the end isn't met.
 pub under_way_caught_up : (count seat : ℕ) (log : List Entry) (left held held' : Option (List ℕ)) (now : Spot)
     → IsUnderWay count seat log left held now held' → count ≤ max_lines → now.reader.ended ≡ false → HasNoNewline now.reader.front
     → Serves seat log now.session.log left now.left held held' 3
 under_way_caught_up count seat log left held held' now u within going none =
-    served_short 3 seat log now.session.log left now.left held held' u.done u.replies
+    (served_short 3 seat log now.session.log left now.left held held' u.done u.replies
     (has_answered count seat log left held held' now now u within (no_entry now.session now.reader now.reader now.left now.left)
     (taken_of u.done left now.reader now.reader.front now.left now.left refl u.read))
     u.holds refl
-    (λ _. all_taken_of u.done left now.reader now.reader.front now.left now.left refl none going u.passed.no_quit u.read)
+    (λ _. all_taken_of u.done left now.reader now.reader.front now.left now.left refl none going u.passed.no_quit u.read)).served
 
 -- A session that goes on is served so far.
 going_by : (q : Bool) (status : ℕ) (s : Start) (now : Spot) (held : Option (List ℕ)) (pushed out : List ℕ) (lines : ℕ)
@@ -183,7 +183,7 @@ pulls_on s m r r' left left' held out lines going p g =
       };
     }
 
--- The next line is answered: its reply is to be pushed, or memory for that is refused.
+-- The next line is answered: its reply is to be pushed.
 more_of : (s : Start) (old new : Spot) (held : Option (List ℕ)) (lines : ℕ) (step : Step)
     → AnswersNext old new step → (g : IsGoing s (at old held [] lines false None))
     → HasOneMore lines s.seat s.log s.left (Some []) new (Some (g.pushed ++ [])) step
@@ -194,18 +194,18 @@ written_more pushed line = ap (λ (t : List ℕ). Some (t ++ line)) (sym (append
 
 answered_by : (q : Bool) (s : Start) (new : Spot) (pushed : List ℕ) (lines : ℕ) (step : Step) → step.quit ≡ q → lines < max_lines
     → HasOneMore lines s.seat s.log s.left (Some []) new (Some (pushed ++ [])) step
-    → MatchBool q (Serves s.seat s.log new.session.log s.left new.left (Some []) (Some (pushed ++ with_newline step.reply)) 0)
-    (IsUnderWay (lines + 1) s.seat s.log s.left (Some []) new (Some (pushed ++ with_newline step.reply)))
+    → MatchBool q (Serves s.seat s.log new.session.log s.left new.left (Some []) (Some (pushed ++ step.reply)) 0)
+    (IsUnderWay (lines + 1) s.seat s.log s.left (Some []) new (Some (pushed ++ step.reply)))
 answered_by true s new pushed lines step is within h =
-    ends_at_quit lines s.seat s.log s.left (Some []) (Some (pushed ++ [])) (Some (pushed ++ with_newline step.reply)) new step step.reply
-    h within refl is (written_more pushed (with_newline step.reply))
+    (ends_at_quit lines s.seat s.log s.left (Some []) (Some (pushed ++ [])) (Some (pushed ++ step.reply)) new step
+    h within is (written_more pushed step.reply)).served
 answered_by false s new pushed lines step is within h =
-    goes_on lines s.seat s.log s.left (Some []) (Some (pushed ++ [])) (Some (pushed ++ with_newline step.reply)) new step step.reply
-    h refl is (written_more pushed (with_newline step.reply))
+    goes_on lines s.seat s.log s.left (Some []) (Some (pushed ++ [])) (Some (pushed ++ step.reply)) new step
+    h is (written_more pushed step.reply)
 
 pub answers_on : (s : Start) (old new : Spot) (held : Option (List ℕ)) (lines : ℕ) (step : Step) → lines < max_lines
     → AnswersNext old new step → IsGoing s (at old held [] lines false None)
-    → IsGoing s (at new held (with_newline step.reply) (lines + 1) step.quit None)
+    → IsGoing s (at new held step.reply (lines + 1) step.quit None)
 answers_on s old new held lines step within a g = record {
   pushed = g.pushed;
   holds = g.holds;
@@ -213,23 +213,13 @@ answers_on s old new held lines step within a g = record {
   written = answered_by step.quit s new g.pushed lines step refl within (more_of s old new held lines step a g);
 }
 
-pub answers_not : (s : Start) (old new : Spot) (held : Option (List ℕ)) (lines : ℕ) (step : Step) → lines < max_lines
-    → AnswersNext old new step → (g : IsGoing s (at old held [] lines false None))
-    → Serves s.seat s.log new.session.log s.left new.left s.held held 5
-answers_not s old new held lines step within a g =
-    over_link 5 s.seat s.log new.session.log s.left new.left s.held held g.pushed []
-    (stops_writing NoMemory lines s.seat s.log s.left (Some []) (Some (g.pushed ++ [])) (Some (g.pushed ++ [])) new step step.reply
-    (more_of s old new held lines step a g) within refl
-    ([], with_newline step.reply, refl, sym (append_known-nil (Some (g.pushed ++ [])))) (λ e. cc) (λ e. cc))
-    g.holds (λ e. refl)
-
 -- It ends before the next line.
 pub ends_stopped : (reason : Halt) (s : Start) (old new : Spot) (held : Option (List ℕ)) (lines : ℕ) → lines < max_lines
     → StopsNext old new reason → (g : IsGoing s (at old held [] lines false None))
     → Serves s.seat s.log new.session.log s.left new.left s.held held (status_of reason)
 ends_stopped reason s old new held lines within stops g =
     over_link (status_of reason) s.seat s.log new.session.log s.left new.left s.held held g.pushed []
-    (stops_next reason lines s.seat s.log s.left (Some []) (Some (g.pushed ++ [])) old new g.written within stops)
+    (stops_next reason lines s.seat s.log s.left (Some []) (Some (g.pushed ++ [])) old new g.written within stops).served
     g.holds (λ e. refl)
 
 -- It ends at the end of the input.
@@ -239,7 +229,7 @@ pub ends_all : (s : Start) (m : Moment) (r : Reading) (left held : Option (List 
 ends_all s m r left held lines ended empty g =
     over_link 0 s.seat s.log m.log s.left left s.held held g.pushed []
     (ends_at_end lines s.seat s.log s.left (Some []) (Some (g.pushed ++ [])) (spot m r left) (spot m r left) g.written g.few
-    (record { read = reads_end r left ended empty; stays = no_entry m r r left left }))
+    (record { read = reads_end r left ended empty; stays = no_entry m r r left left })).served
     g.holds (λ e. refl)
 
 -- It ends behind the line that ends it.
@@ -259,7 +249,7 @@ ends_full s m r left held lines full some g =
     over_link 7 s.seat s.log m.log s.left left s.held held g.pushed []
     (looks_on (Ok Full) m (record { front = drop 1 r.front; ended = r.ended }) left lines s.seat s.log s.left (Some []) (Some (g.pushed ++ [])) r left
     g.written (full_of lines g.few full)
-    (record { next = Some (take 1 r.front); byte = byte_some r left some; after = after_byte r left some; tells = refl }))
+    (record { next = Some (take 1 r.front); byte = byte_some r left some; after = after_byte r left some; tells = refl })).served
     g.holds (λ e. refl)
 
 -- The link took the replies to all whole lines that were pulled.

@@ -9,7 +9,7 @@ use Rattle.nav_session.specs.declared.step.Step.{Step}
 use Rattle.nav_session.specs.declared.halt.Halt.{Halt}
 use Rattle.nav_session.specs.declared.halt.Halt.TheVariants.{SourceFailed, SinkFailed, NoMemory, LongLine}
 use Rattle.nav_session.specs.Halts.{status_of}
-use Rattle.nav_session.specs.Transcripts.{with_newline, max_lines}
+use Rattle.nav_session.specs.Transcripts.{max_lines}
 use Rattle.nav_session.specs.Desks.{OnDesk, Moment, moment}
 use Rattle.nav_session.specs.Turns.{Spot, spot, AnswersNext}
 use Rattle.nav_poll.specs.declared.link.Counts.{Counts}
@@ -18,7 +18,7 @@ use Rattle.nav_poll.specs.declared.went.Went.TheVariants.{On, Waits}
 use Rattle.nav_poll.specs.Links.{NoneFell}
 use Rattle.nav_poll.specs.Polling.{Seen, Start, HasServed, IsGoing, StandsFor, HasCaughtUp, WaitsForLink}
 use Rattle.nav_poll.specs.Turns.{Pushes, Pulls, TakesLine}
-use Rattle.nav_poll.proofs.Standing.{at, going_served, stands_going, stands_ended, pushes_on, pulls_on, answers_on, answers_not, ends_stopped, ends_all, ends_quit, ends_full, caught_up, ends_lost}
+use Rattle.nav_poll.proofs.Standing.{at, going_served, stands_going, stands_ended, pushes_on, pulls_on, answers_on, ends_stopped, ends_all, ends_quit, ends_full, caught_up, ends_lost}
 
 -- a session that stands for a start and has not ended goes on since
 going_of : (s : Start) (now : Spot) (held : Option (List ℕ)) (out : List ℕ) (lines : ℕ) (quit : Bool) (ended : Option ℕ) → ended ≡ None
@@ -62,19 +62,11 @@ push_failed reason s m r left left' held held' out out' lines quit ended e p sam
 -- The next line is answered, and its reply taken up.
 pub answered_by : (s : Start) (old new : Spot) (held : Option (List ℕ)) (out : List ℕ) (lines : ℕ) (quit : Bool) (ended : Option ℕ) (step : Step)
     → ended ≡ None → out ≡ [] → quit ≡ false → lines < max_lines → AnswersNext old new step → StandsFor s (at old held out lines quit ended)
-    → StandsFor s (at new held (with_newline step.reply) (lines + 1) step.quit ended)
+    → StandsFor s (at new held step.reply (lines + 1) step.quit ended)
 answered_by s old new held out lines quit ended step e none on within a h =
-    subst (λ (o : Option ℕ). StandsFor s (at new held (with_newline step.reply) (lines + 1) step.quit o)) (sym e)
-    (stands_going s new held (with_newline step.reply) (lines + 1) step.quit
+    subst (λ (o : Option ℕ). StandsFor s (at new held step.reply (lines + 1) step.quit o)) (sym e)
+    (stands_going s new held step.reply (lines + 1) step.quit
     (answers_on s old new held lines step within a (pushed_of s old held out lines quit ended e none on h)))
-
--- Memory for that is refused.
-pub unanswered_by : (s : Start) (old new : Spot) (held : Option (List ℕ)) (out : List ℕ) (lines : ℕ) (quit : Bool) (ended : Option ℕ) (step : Step)
-    → ended ≡ None → out ≡ [] → quit ≡ false → lines < max_lines → AnswersNext old new step → StandsFor s (at old held out lines quit ended)
-    → StandsFor s (at new held out lines quit (Some 5))
-unanswered_by s old new held out lines quit ended step e none on within a h =
-    stands_ended s (at new held out lines quit (Some 5)) 5 refl
-    (answers_not s old new held lines step within a (pushed_of s old held out lines quit ended e none on h))
 
 -- The next line can't be answered, and nobody is named any more.
 pub halted_by : (reason : Halt) (s : Start) (old : Spot) (seat : ℕ) (log : List Entry) (pin : ℕ) (desk desk' : OnDesk) (r : Reading) (left held : Option (List ℕ)) (out : List ℕ) (lines : ℕ) (quit : Bool) (ended : Option ℕ)

@@ -6,7 +6,6 @@ use Rattle.nav_io.specs.Reading.{Reading}
 use Rattle.nav_session.specs.declared.step.Step.{Step}
 use Rattle.nav_session.specs.declared.halt.Halt.{Halt}
 use Rattle.nav_session.specs.declared.halt.Halt.TheVariants.{SourceFailed, SinkFailed, NoMemory, LongLine}
-use Rattle.nav_session.specs.Transcripts.{with_newline}
 use Rattle.nav_session.specs.Turns.{Spot, AnswersNext, StopsNext}
 use Rattle.nav_poll.specs.Polling.{Polling}
 
@@ -41,7 +40,7 @@ TakesLine old new (Err LongLine) = StopsNext old new LongLine
 
 -- the session with its reply taken up
 abbrev pub taken_up : {B K : Type 0} → Step → Polling B K → Polling B K
-taken_up step p = record p { out = with_newline step.reply; quit = step.quit; lines = p.lines + 1 }
+taken_up step p = record p { out = step.reply; quit = step.quit; lines = p.lines + 1 }
 
 -- the session with the status
 abbrev pub ended_with : {B K : Type 0} → ℕ → Polling B K → Polling B K

@@ -1,5 +1,5 @@
 //! One poll of a session: it goes on until it has ended or its link has to wait.
-ghost use Rattle.std.specs.Prelude.{◌≡◌, ◌<◌, ◌≤◌, ◌⊎◌, Some, None, IfSome, IsTrue, [], true, false, length};
+ghost use Rattle.std.specs.Prelude.{◌≡◌, ◌<◌, ◌≤◌, Some, None, IfSome, IsTrue, [], true, false, length};
 ghost use Rattle.futures.specs.Poll.{IfReady, OnPending};
 ghost use Rattle.nav_io.specs.Faults.{HasRisen};
 ghost use Rattle.nav_io.specs.Lines.{line_max, HasNoNewline};
@@ -13,12 +13,12 @@ use crate::link::Link;
 use crate::polled::Polled;
 use crate::pulling::pull_more;
 use crate::pushing::push_rest;
-use crate::turning::{line_of, take_line};
+use crate::turning::take_line;
 use crate::went::Went;
 use futures::task::Poll;
 use graph_nodes::Steps;
 use nav_io::Gate;
-use nav_session::{ANSWERED, Halt, Step};
+use nav_session::{ANSWERED, Step};
 use std::sync::ledger::Ledger;
 use std::thread::Threads;
 use version_board::{Commits, Pins};
@@ -146,24 +146,19 @@ fn turn<R: Threads + Sync, B: Commits<R>, K: Link, G: Gate + Sync, L: Ledger>(
     }
 }
 
-// Takes up the reply to a line, which is to be pushed.
+// Takes up the reply to a line, which is to be pushed. It takes no memory.
 fn take_up<B: Pins, K: Link>(polled: &mut Polled<B, K>, step: Step) -> Went
     requires { polled.old.lines < 1000000 }
     ensures few { polled.old.lines < 1000000 }
     ensures on { result ≡ Went.On }
-    ensures either { (polled.new ≡ taken_up step polled.old) ⊎ (polled.new ≡ ended_with 5 polled.old) }
+    ensures taken { polled.new ≡ taken_up step polled.old }
 {
     let Step { reply, quit } = step;
-    match line_of(reply) {
-        Some(line) => {
-            polled.out = line;
-            polled.sent = 0;
-            polled.quit = quit;
-            polled.lines += 1;
-            Went::On
-        }
-        None => end(polled, Halt::NoMemory.status()),
-    }
+    polled.out = reply.into_string().into_bytes();
+    polled.sent = 0;
+    polled.quit = quit;
+    polled.lines += 1;
+    Went::On
 }
 
 // Ends where a byte stands behind as many lines as a session may have, or the end of the input, and else pulls once.

@@ -1,15 +1,13 @@
 //! The line in front of a session's reader answered.
-ghost use Rattle.std.specs.Prelude.{◌≡◌, ◌≤◌, ℕ, List, [], Option, None, Ok, Err, true, length, IfOk, IfSome};
+ghost use Rattle.std.specs.Prelude.{◌≡◌, ◌≤◌, ℕ, List, [], Option, None, Ok, Err, true, length, IfOk};
 ghost use Rattle.nav_io.specs.Lines.{line_max, HasNoNewline};
 ghost use Rattle.nav_session.specs.declared.halt.Halt.TheVariants as halt;
 ghost use Rattle.nav_session.specs.Desks.{HasItsView, GoesOn, moment};
-ghost use Rattle.nav_session.specs.Transcripts.{with_newline};
 ghost use Rattle.nav_session.specs.Turns.{spot};
 ghost use Rattle.nav_poll.specs.Turns.{TakesLine};
 
 use graph_nodes::Steps;
 use nav_io::{Gate, LineReader};
-use nav_proto::ReplyText;
 use nav_session::{Desk, Halt, Step, answer_line};
 use std::alloc::Global;
 use std::sync::ledger::Ledger;
@@ -52,16 +50,5 @@ pub(crate) fn take_line<R: Threads + Sync, B: Commits<R>, G: Gate + Sync, L: Led
         }
         Ok(None) => Ok(None),
         Err(_) => Err(Halt::LongLine),
-    }
-}
-
-// The text and the newline that ends it. None where memory is refused.
-pub(crate) fn line_of(text: ReplyText) -> Option<Vec<u8>>
-    ensures { IfSome result (λ line. line.items ≡ with_newline text) }
-{
-    let mut line = text.into_string().into_bytes();
-    match line.push(b'\n') {
-        Ok(()) => Some(line),
-        Err(_) => None,
     }
 }

@@ -1,8 +1,19 @@
--- What a sweep leaves of documents that are kept.
-use Rattle.std.proofs.Common.{ℕ, Bool, true, false, cond, List, [], ◌∷◌}
-use Rattle.std.specs.Prelude.{nat_le}
+-- What is left of documents that are kept.
+use Rattle.std.proofs.Common.{◌≡◌, ◌∙◌, ℕ, Bool, true, false, cond, List, [], ◌∷◌, ◌++◌, Err, refl, ap, sym, subst, append-nil, if◌then◌else◌}
+use Rattle.std.specs.Prelude.{nat_le, MatchBool}
 use Rattle.path_store.specs.Store.{Kept, cost_of, swept}
-use Rattle.index_gate.specs.Indexed.{AreIndexed}
+use Rattle.path_store.specs.Documents.{Doc}
+use Rattle.index_gate.specs.Indexed.{AddsMissing, AddsSome, AreIndexed}
+use Rattle.nav_proto.specs.Requests.{request_from}
+use Rattle.nav_proto.specs.declared.reply.Reply.{Reply}
+use Rattle.nav_proto.specs.declared.request.Request.{Request}
+use Rattle.nav_proto.specs.declared.request.Request.TheVariants as request
+use Rattle.nav_session.specs.Requests.{docs_in}
+use Rattle.nav_session.specs.declared.halt.Halt.{Halt}
+use Rattle.nav_session.specs.declared.halt.Halt.TheVariants.{SourceFailed, SinkFailed, NoMemory, LongLine}
+use Rattle.nav_session.specs.Halts.{status_of}
+use Rattle.nav_session.specs.Desks.{AddsDocs, AddsOnly, AreKept, KeepsDocs, KeepsDocsOf, is_accepted, is_indexed, max_cost}
+use Rattle.nav_session.specs.Turns.{LeavesStore}
 
 swept_if : (b : Bool) (k : Kept) (ks rest : List Kept) → AreIndexed (k ∷ ks) → AreIndexed rest → AreIndexed (cond b (k ∷ ks) rest)
 swept_if true k ks rest a r = a
@@ -12,3 +23,65 @@ swept_if false k ks rest a r = r
 pub swept_indexed : (limit : ℕ) (ks : List Kept) → AreIndexed ks → AreIndexed (swept limit ks)
 swept_indexed limit [] a = tt
 swept_indexed limit (k ∷ ks) a = swept_if (nat_le (cost_of (k ∷ ks)) limit) k ks (swept limit ks) a (swept_indexed limit ks a.1)
+
+-- a store that stays, and one to which the documents of a commit were added
+pub adds_none : (old new : List Kept) → new ≡ old → AddsOnly old new
+adds_none old new same = record { added = []; all = same ∙ sym (append-nil old) }
+
+pub adds_some : (docs : List Doc) (old new : List Kept) → AddsSome docs old new → AddsOnly old new
+adds_some docs old new h = record { added = h.0; all = h.2 }
+
+pub adds_missing : (docs : List Doc) (old new : List Kept) → AddsMissing docs old new → AddsOnly old new
+adds_missing docs old new h = record { added = h.0; all = h.1 }
+
+pub ruleset adds = (adds_none, adds_some, adds_missing)
+
+-- where no line was answered
+pub stays_at : (reason : Halt) (ks : List Kept) → LeavesStore (Err reason) ks ks
+stays_at SourceFailed ks = refl
+stays_at SinkFailed ks = refl
+stays_at LongLine ks = refl
+stays_at NoMemory ks = adds_none ks ks refl
+
+pub left_by : (reason : Halt) (old new : List Kept) → LeavesStore (Err reason) old new → AddsOnly old new
+left_by SourceFailed old new h = adds_none old new h
+left_by SinkFailed old new h = adds_none old new h
+left_by LongLine old new h = adds_none old new h
+left_by NoMemory old new h = h
+
+pub stays_by : (reason : Halt) (old new : List Kept) → LeavesStore (Err reason) old new → (status_of reason ≡ 5 → ⊥) → new ≡ old
+stays_by SourceFailed old new h other = h
+stays_by SinkFailed old new h other = h
+stays_by LongLine old new h other = h
+stays_by NoMemory old new h other = absurd (other refl)
+
+-- one line more
+pub kept_more : (lines : List (List ℕ)) (replies : List Reply) (line : List ℕ) (reply : Reply) (a b c : List Kept)
+    → AreKept lines replies a b → KeepsDocsOf (request_from line) reply b c → AreKept (lines ++ line ∷ []) (replies ++ reply ∷ []) a c
+kept_more [] [] line reply a b c h one = (c, subst (λ (ks : List Kept). KeepsDocsOf (request_from line) reply ks c) h one, refl)
+kept_more [] (r ∷ replies) line reply a b c h one = absurd h
+kept_more (l ∷ lines) [] line reply a b c h one = absurd h
+kept_more (l ∷ lines) (r ∷ replies) line reply a b c h one = (h.0, h.1, kept_more lines replies line reply h.0 b c h.2 one)
+
+-- a reply that accepts nothing drops no document
+all_added : (b : Bool) (docs : List Doc) (reply : Reply) (old new : List Kept) → is_accepted reply ≡ false
+    → MatchBool b (AddsDocs docs reply old new) (new ≡ old) → AddsOnly old new
+all_added true docs reply old new none h = record {
+  added = h.adds.0;
+  all = h.kept ∙ ap (λ (b : Bool). if b then swept max_cost h.all else h.all) none ∙ h.adds.1;
+}
+all_added false docs reply old new none h = adds_none old new h
+
+pub kept_adds : (request : Request) (reply : Reply) (old new : List Kept) → KeepsDocs request reply old new → is_accepted reply ≡ false
+    → AddsOnly old new
+kept_adds (request.Commit base edits) reply old new h none = all_added (is_indexed reply) (docs_in edits) reply old new none h
+kept_adds (request.Hello user) reply old new h none = adds_none old new h
+kept_adds request.Pin reply old new h none = adds_none old new h
+kept_adds (request.Grant user prefix) reply old new h none = adds_none old new h
+kept_adds (request.Revoke user prefix) reply old new h none = adds_none old new h
+kept_adds (request.Deny user prefix) reply old new h none = adds_none old new h
+kept_adds (request.Undeny user prefix) reply old new h none = adds_none old new h
+kept_adds (request.Define path point bounds) reply old new h none = adds_none old new h
+kept_adds (request.References path point bounds) reply old new h none = adds_none old new h
+kept_adds (request.Callers path point) reply old new h none = adds_none old new h
+kept_adds request.Quit reply old new h none = adds_none old new h

@@ -35,14 +35,14 @@ use Rattle.nav_session.proofs.Passed.{AreAll, passed_first, answered_first, all_
 use Rattle.nav_session.proofs.Turned.{no_entry}
 use Rattle.nav_session.proofs.Reached.{ahead-there, of_ahead, read_on, read_nothing, taken_of, taken_less, all_taken_of, all_more}
 
-no_view : (desk : OnDesk) (log : List Entry) (pin : ℕ) → desk.view ≡ None → HasItsView desk log pin
+pub no_view : (desk : OnDesk) (log : List Entry) (pin : ℕ) → desk.view ≡ None → HasItsView desk log pin
 no_view desk log pin e = rw e tt
 
-opened_of : (m : Moment) → m.desk.user ≡ None → session_of m ≡ opened (length m.log)
+pub opened_of : (m : Moment) → m.desk.user ≡ None → session_of m ≡ opened (length m.log)
 opened_of m e = ap (session_at (length m.log) m.pin) e
 
 -- before the first line
-pub under_way : (m : Moment) (reader : Reading) (left held : Option (List ℕ)) → reader ≡ record { front = []; ended = false }
+abbrev pub under_way : (m : Moment) (reader : Reading) (left held : Option (List ℕ)) → reader ≡ record { front = []; ended = false }
     → m.desk.user ≡ None → m.desk.view ≡ None → IsUnderWay 0 m.seat m.log left held (spot m reader left) held
 under_way m reader left held fresh nobody none = record {
   done = [];
@@ -65,6 +65,12 @@ pub record HasAnswered (seat : ℕ) (log log' : List Entry) (left left' : Option
   pub first : IfSome left (λ input. AreFirst done (to_answer max_lines (lines input)))
   pub taken : AreTaken done left left'
 
+-- A session was served, in which these lines were answered with these replies.
+pub record ServesThese (seat : ℕ) (log log' : List Entry) (left left' held held' : Option (List ℕ)) (status : ℕ) (done : List (List ℕ)) (replies : List Reply) : Type 0 where
+  pub served : Serves seat log log' left left' held held' status
+  pub lines : served.answered ≡ done
+  pub told : served.replies ≡ replies
+
 -- A session ended, and these are all its lines.
 not_three : (reason : Ending) → status_at reason ≡ 3 → ⊥
 not_three AtEnd e = omega (arith, e)
@@ -74,67 +80,79 @@ not_three AtMost e = omega (arith, e)
 
 served_all : (reason : Ending) (seat : ℕ) (log log' : List Entry) (left left' held held' : Option (List ℕ)) (done : List (List ℕ)) (replies : List Reply)
     → HasAnswered seat log log' left left' done replies → held' ≡ append_known held (replies_text replies)
-    → IfSome left (λ input. AreAll done (lines input) reason) → Serves seat log log' left left' held held' (status_at reason)
+    → IfSome left (λ input. AreAll done (lines input) reason) → ServesThese seat log log' left left' held held' (status_at reason) done replies
 served_all reason seat log log' left left' held held' done replies h holds all = record {
-  begins = h.begins;
-  answered = done;
-  replies = replies;
-  transcript = h.transcript;
-  last = h.last;
-  first = h.first;
-  taken = h.taken;
-  written = replies_text replies;
-  unwritten = [];
-  text = append-nil (replies_text replies);
-  holds = holds;
-  whole = λ _. refl;
-  all = λ _. IfSome_then left all (λ input a. a.all);
-  ends = λ _. IfSome_then left all (λ input a. ap status_at (sym a.ends));
-  short = λ e. absurd (not_three reason e);
+  served = record {
+    begins = h.begins;
+    answered = done;
+    replies = replies;
+    transcript = h.transcript;
+    last = h.last;
+    first = h.first;
+    taken = h.taken;
+    written = replies_text replies;
+    unwritten = [];
+    text = append-nil (replies_text replies);
+    holds = holds;
+    whole = λ _. refl;
+    all = λ _. IfSome_then left all (λ input a. a.all);
+    ends = λ _. IfSome_then left all (λ input a. ap status_at (sym a.ends));
+    short = λ e. absurd (not_three reason e);
+  };
+  lines = refl;
+  told = refl;
 }
 
 -- It stopped before a line that it didn't answer.
 pub served_short : (status seat : ℕ) (log log' : List Entry) (left left' held held' : Option (List ℕ)) (done : List (List ℕ)) (replies : List Reply)
     → HasAnswered seat log log' left left' done replies → held' ≡ append_known held (replies_text replies)
-    → answers_all status ≡ false → (status ≡ 3 → AreAllTaken done left left') → Serves seat log log' left left' held held' status
+    → answers_all status ≡ false → (status ≡ 3 → AreAllTaken done left left') → ServesThese seat log log' left left' held held' status done replies
 served_short status seat log log' left left' held held' done replies h holds not_all short = record {
-  begins = h.begins;
-  answered = done;
-  replies = replies;
-  transcript = h.transcript;
-  last = h.last;
-  first = h.first;
-  taken = h.taken;
-  written = replies_text replies;
-  unwritten = [];
-  text = append-nil (replies_text replies);
-  holds = holds;
-  whole = λ _. refl;
-  all = λ e. absurd (true≢false (sym e ∙ not_all));
-  ends = λ e. absurd (true≢false (sym e ∙ not_all));
-  short = short;
+  served = record {
+    begins = h.begins;
+    answered = done;
+    replies = replies;
+    transcript = h.transcript;
+    last = h.last;
+    first = h.first;
+    taken = h.taken;
+    written = replies_text replies;
+    unwritten = [];
+    text = append-nil (replies_text replies);
+    holds = holds;
+    whole = λ _. refl;
+    all = λ e. absurd (true≢false (sym e ∙ not_all));
+    ends = λ e. absurd (true≢false (sym e ∙ not_all));
+    short = short;
+  };
+  lines = refl;
+  told = refl;
 }
 
 -- It stopped in the reply to its last line.
 pub served_part : (status seat : ℕ) (log log' : List Entry) (left left' held held' : Option (List ℕ)) (done : List (List ℕ)) (replies : List Reply) (written unwritten : List ℕ)
     → HasAnswered seat log log' left left' done replies → written ++ unwritten ≡ replies_text replies → held' ≡ append_known held written
-    → answers_all status ≡ false → writes_all status ≡ false → (status ≡ 3 → ⊥) → Serves seat log log' left left' held held' status
+    → answers_all status ≡ false → writes_all status ≡ false → (status ≡ 3 → ⊥) → ServesThese seat log log' left left' held held' status done replies
 served_part status seat log log' left left' held held' done replies written unwritten h text holds not_all not_whole no_three = record {
-  begins = h.begins;
-  answered = done;
-  replies = replies;
-  transcript = h.transcript;
-  last = h.last;
-  first = h.first;
-  taken = h.taken;
-  written = written;
-  unwritten = unwritten;
-  text = text;
-  holds = holds;
-  whole = λ e. absurd (true≢false (sym e ∙ not_whole));
-  all = λ e. absurd (true≢false (sym e ∙ not_all));
-  ends = λ e. absurd (true≢false (sym e ∙ not_all));
-  short = λ e. absurd (no_three e);
+  served = record {
+    begins = h.begins;
+    answered = done;
+    replies = replies;
+    transcript = h.transcript;
+    last = h.last;
+    first = h.first;
+    taken = h.taken;
+    written = written;
+    unwritten = unwritten;
+    text = text;
+    holds = holds;
+    whole = λ e. absurd (true≢false (sym e ∙ not_whole));
+    all = λ e. absurd (true≢false (sym e ∙ not_all));
+    ends = λ e. absurd (true≢false (sym e ∙ not_all));
+    short = λ e. absurd (no_three e);
+  };
+  lines = refl;
+  told = refl;
 }
 
 -- the transcript over the log as it is now, and over a longer one without an entry more of the seat
@@ -230,8 +248,8 @@ end_taken done (Some input) old new left left' h read =
     taken_of done (Some input) old new.front left left' (kept_at_end h.told.text old new left left' h.at_end h.told.there read) h
 
 pub ends_at_end : (count seat : ℕ) (log : List Entry) (left held held' : Option (List ℕ)) (old new : Spot)
-    → IsUnderWay count seat log left held old held' → count ≤ max_lines → FindsEnd old new
-    → Serves seat log new.session.log left new.left held held' 0
+    → (u : IsUnderWay count seat log left held old held') → count ≤ max_lines → FindsEnd old new
+    → ServesThese seat log new.session.log left new.left held held' 0 u.done u.replies
 ends_at_end count seat log left held held' old new u within f =
     served_all AtEnd seat log new.session.log left new.left held held' u.done u.replies
     (has_answered count seat log left held held' old new u within f.stays (end_taken u.done left old.reader new.reader old.left new.left u.read f.read))
@@ -249,8 +267,8 @@ long_front (byte ∷ more) long =
     (first_line text, lines (after_line text), lines-cut text, omega (arith, long, size))
 
 pub stops_next : (reason : Halt) (count seat : ℕ) (log : List Entry) (left held held' : Option (List ℕ)) (old new : Spot)
-    → IsUnderWay count seat log left held old held' → count < max_lines → StopsNext old new reason
-    → Serves seat log new.session.log left new.left held held' (status_of reason)
+    → (u : IsUnderWay count seat log left held old held') → count < max_lines → StopsNext old new reason
+    → ServesThese seat log new.session.log left new.left held held' (status_of reason) u.done u.replies
 stops_next SourceFailed count seat log left held held' old new u within s =
     let fault = s.why.fault refl in
     served_short 3 seat log new.session.log left new.left held held' u.done u.replies
@@ -296,10 +314,10 @@ pub record HasOneMore (count seat : ℕ) (log : List Entry) (left held : Option 
   pub quit : step.quit ≡ is_quit line
   pub read : HasRead (done ++ line ∷ []) left now.reader now.left
   pub replied : AreReplies seat now.session.log (opened (length log)) (done ++ line ∷ []) (replies ++ reply ∷ []) (session_of now.session)
-  pub printed : step.reply ≡ reply_text reply
+  pub printed : step.reply ≡ with_newline (reply_text reply)
   pub holds : held' ≡ append_known held (replies_text replies)
 
-pub one_more : (count seat : ℕ) (log : List Entry) (left held held' : Option (List ℕ)) (old new : Spot) (step : Step)
+abbrev pub one_more : (count seat : ℕ) (log : List Entry) (left held held' : Option (List ℕ)) (old new : Spot) (step : Step)
     → IsUnderWay count seat log left held old held' → AnswersNext old new step → HasOneMore count seat log left held new held' step
 one_more count seat log left held held' old new step u a =
     let due : IsReplyTo seat new.session.log (session_of old.session) a.line a.answers.reply (session_of new.session) =
@@ -328,20 +346,20 @@ text_more replies reply =
     flat_map-append (λ (r : Reply). with_newline (reply_text r)) replies (reply ∷ [])
     ∙ ap (λ (t : List ℕ). replies_text replies ++ t) (append-nil (with_newline (reply_text reply)))
 
-holds_more : (replies : List Reply) (reply : Reply) (text : List ℕ) (held held' held'' : Option (List ℕ)) → text ≡ reply_text reply
-    → held' ≡ append_known held (replies_text replies) → held'' ≡ append_known held' (with_newline text)
+pub holds_more : (replies : List Reply) (reply : Reply) (text : List ℕ) (held held' held'' : Option (List ℕ)) → text ≡ with_newline (reply_text reply)
+    → held' ≡ append_known held (replies_text replies) → held'' ≡ append_known held' text
     → held'' ≡ append_known held (replies_text (replies ++ reply ∷ []))
 holds_more replies reply text held held' held'' printed holds wrote =
-    wrote ∙ ap (λ (t : List ℕ). append_known held' (with_newline t)) printed
+    wrote ∙ ap (λ (t : List ℕ). append_known held' t) printed
     ∙ ap (λ known. append_known known (with_newline (reply_text reply))) holds
     ∙ sym (append_known-append held (replies_text replies) (with_newline (reply_text reply)))
     ∙ ap (append_known held) (sym (text_more replies reply))
 
 -- the reply was written, and the session goes on
-pub goes_on : (count seat : ℕ) (log : List Entry) (left held held' held'' : Option (List ℕ)) (now : Spot) (step : Step) (text : List ℕ)
-    → HasOneMore count seat log left held now held' step → text ≡ step.reply → step.quit ≡ false → held'' ≡ append_known held' (with_newline text)
+abbrev pub goes_on : (count seat : ℕ) (log : List Entry) (left held held' held'' : Option (List ℕ)) (now : Spot) (step : Step)
+    → HasOneMore count seat log left held now held' step → step.quit ≡ false → held'' ≡ append_known held' step.reply
     → IsUnderWay (count + 1) seat log left held now held''
-goes_on count seat log left held held' held'' now step text h same quit wrote =
+goes_on count seat log left held held' held'' now step h quit wrote =
     let size = length-append h.done (h.line ∷ []) in
     record {
       done = h.done ++ h.line ∷ [];
@@ -356,7 +374,7 @@ goes_on count seat log left held held' held'' now step text h same quit wrote =
       };
       read = h.read;
       replied = h.replied;
-      holds = holds_more h.replies h.reply text held held' held'' (same ∙ h.printed) h.holds wrote;
+      holds = holds_more h.replies h.reply step.reply held held' held'' h.printed h.holds wrote;
     }
 
 has_answered_more : (count seat : ℕ) (log : List Entry) (left held held' : Option (List ℕ)) (now : Spot) (step : Step)
@@ -371,22 +389,22 @@ has_answered_more count seat log left held held' now step h within = record {
 }
 
 -- it was written, and the line ends the session
-pub ends_at_quit : (count seat : ℕ) (log : List Entry) (left held held' held'' : Option (List ℕ)) (now : Spot) (step : Step) (text : List ℕ)
-    → HasOneMore count seat log left held now held' step → count < max_lines → text ≡ step.reply → step.quit ≡ true
-    → held'' ≡ append_known held' (with_newline text) → Serves seat log now.session.log left now.left held held'' 0
-ends_at_quit count seat log left held held' held'' now step text h within same quit wrote =
+pub ends_at_quit : (count seat : ℕ) (log : List Entry) (left held held' held'' : Option (List ℕ)) (now : Spot) (step : Step)
+    → (h : HasOneMore count seat log left held now held' step) → count < max_lines → step.quit ≡ true
+    → held'' ≡ append_known held' step.reply → ServesThese seat log now.session.log left now.left held held'' 0 (h.done ++ h.line ∷ []) (h.replies ++ h.reply ∷ [])
+ends_at_quit count seat log left held held' held'' now step h within quit wrote =
     served_all AtQuit seat log now.session.log left now.left held held'' (h.done ++ h.line ∷ []) (h.replies ++ h.reply ∷ [])
     (has_answered_more count seat log left held held' now step h within)
-    (holds_more h.replies h.reply text held held' held'' (same ∙ h.printed) h.holds wrote)
+    (holds_more h.replies h.reply step.reply held held' held'' h.printed h.holds wrote)
     (IfSome_then left (others_of (h.done ++ h.line ∷ []) left now.reader now.left h.read) (λ input o.
     all_at_quit (lines input) h.done o.0 h.line (o.1 ∙ one_line_more h.done o.0 h.line) h.passed (omega (arith, within, h.so_many)) h.short (sym h.quit ∙ quit)))
 
 -- the writing stopped
-part_text : (replies : List Reply) (reply : Reply) (text part rest : List ℕ) → text ≡ reply_text reply → with_newline text ≡ part ++ rest
+part_text : (replies : List Reply) (reply : Reply) (text part rest : List ℕ) → text ≡ with_newline (reply_text reply) → text ≡ part ++ rest
     → (replies_text replies ++ part) ++ rest ≡ replies_text (replies ++ reply ∷ [])
 part_text replies reply text part rest printed cut =
     append_assoc (replies_text replies) part rest
-    ∙ ap (λ (t : List ℕ). replies_text replies ++ t) (sym cut ∙ ap with_newline printed)
+    ∙ ap (λ (t : List ℕ). replies_text replies ++ t) (sym cut ∙ printed)
     ∙ sym (text_more replies reply)
 
 part_holds : (replies : List Reply) (part : List ℕ) (held held' held'' : Option (List ℕ)) → held' ≡ append_known held (replies_text replies)
@@ -394,28 +412,28 @@ part_holds : (replies : List Reply) (part : List ℕ) (held held' held'' : Optio
 part_holds replies part held held' held'' holds wrote =
     wrote ∙ ap (λ known. append_known known part) holds ∙ sym (append_known-append held (replies_text replies) part)
 
-stops_with : (status count seat : ℕ) (log : List Entry) (left held held' held'' : Option (List ℕ)) (now : Spot) (step : Step) (text : List ℕ)
-    → HasOneMore count seat log left held now held' step → count < max_lines → text ≡ step.reply
-    → HoldsPrefix held' (with_newline text) held'' → answers_all status ≡ false → writes_all status ≡ false → (status ≡ 3 → ⊥)
-    → Serves seat log now.session.log left now.left held held'' status
-stops_with status count seat log left held held' held'' now step text h within same prefix not_all not_whole no_three =
+stops_with : (status count seat : ℕ) (log : List Entry) (left held held' held'' : Option (List ℕ)) (now : Spot) (step : Step)
+    → (h : HasOneMore count seat log left held now held' step) → count < max_lines
+    → HoldsPrefix held' step.reply held'' → answers_all status ≡ false → writes_all status ≡ false → (status ≡ 3 → ⊥)
+    → ServesThese seat log now.session.log left now.left held held'' status (h.done ++ h.line ∷ []) (h.replies ++ h.reply ∷ [])
+stops_with status count seat log left held held' held'' now step h within prefix not_all not_whole no_three =
     served_part status seat log now.session.log left now.left held held'' (h.done ++ h.line ∷ []) (h.replies ++ h.reply ∷ [])
     (replies_text h.replies ++ prefix.0) prefix.1
     (has_answered_more count seat log left held held' now step h within)
-    (part_text h.replies h.reply text prefix.0 prefix.1 (same ∙ h.printed) prefix.2)
+    (part_text h.replies h.reply step.reply prefix.0 prefix.1 h.printed prefix.2)
     (part_holds h.replies prefix.0 held held' held'' h.holds prefix.3)
     not_all not_whole no_three
 
-pub stops_writing : (reason : Halt) (count seat : ℕ) (log : List Entry) (left held held' held'' : Option (List ℕ)) (now : Spot) (step : Step) (text : List ℕ)
-    → HasOneMore count seat log left held now held' step → count < max_lines → text ≡ step.reply
-    → HoldsPrefix held' (with_newline text) held'' → (reason ≡ SourceFailed → ⊥) → (reason ≡ LongLine → ⊥)
-    → Serves seat log now.session.log left now.left held held'' (status_of reason)
-stops_writing SourceFailed count seat log left held held' held'' now step text h within same prefix no_source no_long = absurd (no_source refl)
-stops_writing LongLine count seat log left held held' held'' now step text h within same prefix no_source no_long = absurd (no_long refl)
-stops_writing SinkFailed count seat log left held held' held'' now step text h within same prefix no_source no_long =
-    stops_with 4 count seat log left held held' held'' now step text h within same prefix refl refl (λ e. omega (arith, e))
-stops_writing NoMemory count seat log left held held' held'' now step text h within same prefix no_source no_long =
-    stops_with 5 count seat log left held held' held'' now step text h within same prefix refl refl (λ e. omega (arith, e))
+pub stops_writing : (reason : Halt) (count seat : ℕ) (log : List Entry) (left held held' held'' : Option (List ℕ)) (now : Spot) (step : Step)
+    → (h : HasOneMore count seat log left held now held' step) → count < max_lines
+    → HoldsPrefix held' step.reply held'' → (reason ≡ SourceFailed → ⊥) → (reason ≡ LongLine → ⊥)
+    → ServesThese seat log now.session.log left now.left held held'' (status_of reason) (h.done ++ h.line ∷ []) (h.replies ++ h.reply ∷ [])
+stops_writing SourceFailed count seat log left held held' held'' now step h within prefix no_source no_long = absurd (no_source refl)
+stops_writing LongLine count seat log left held held' held'' now step h within prefix no_source no_long = absurd (no_long refl)
+stops_writing SinkFailed count seat log left held held' held'' now step h within prefix no_source no_long =
+    stops_with 4 count seat log left held held' held'' now step h within prefix refl refl (λ e. omega (arith, e))
+stops_writing NoMemory count seat log left held held' held'' now step h within prefix no_source no_long =
+    stops_with 5 count seat log left held held' held'' now step h within prefix refl refl (λ e. omega (arith, e))
 
 -- Behind as many lines as may be: whether a byte is next.
 no_byte : (text : List ℕ) → None ≡ bytes_at_front 1 text → text ≡ []
@@ -444,17 +462,17 @@ all_before (Some bytes) input text done others p full e =
     let f = some_byte text bytes e in
     all_at_most (lines input) done f.1 f.0 (others ∙ ap (λ (ls : List (List ℕ)). done ++ ls) f.2) p full
 
-finds_byte : (end : End) (m : Moment) (new : Reading) (left' : Option (List ℕ)) (seat : ℕ) (log : List Entry) (left held held' : Option (List ℕ)) (old : Reading) (left0 : Option (List ℕ))
-    → IsUnderWay max_lines seat log left held (spot m old left0) held' → FindsByte old new left0 left' end
-    → Serves seat log m.log left left' held held' (status_of_end end)
-finds_byte end m new left' seat log left held held' old left0 u f =
-    subst (λ (s : ℕ). Serves seat log m.log left left' held held' s) (ap (λ (e : End). status_at (reason_of_end e)) (sym f.tells) ∙ status_of_reason end)
+finds_byte : (end : End) (m : Moment) (new : Reading) (left' : Option (List ℕ)) (count seat : ℕ) (log : List Entry) (left held held' : Option (List ℕ)) (old : Reading) (left0 : Option (List ℕ))
+    → (u : IsUnderWay count seat log left held (spot m old left0) held') → count ≡ max_lines → FindsByte old new left0 left' end
+    → ServesThese seat log m.log left left' held held' (status_of_end end) u.done u.replies
+finds_byte end m new left' count seat log left held held' old left0 u full f =
+    subst (λ (s : ℕ). ServesThese seat log m.log left left' held held' s u.done u.replies) (ap (λ (e : End). status_at (reason_of_end e)) (sym f.tells) ∙ status_of_reason end)
     (served_all (reason_of_end (end_before f.next)) seat log m.log left left' held held' u.done u.replies
-    (has_answered max_lines seat log left held held' (spot m old left0) (spot m new left') u (omega arith) (no_entry m old new left0 left')
+    (has_answered count seat log left held held' (spot m old left0) (spot m new left') u (omega (arith, full)) (no_entry m old new left0 left')
     (taken_of u.done left old (bytes_or_none f.next ++ new.front) left0 left' f.after.kept u.read))
     u.holds
     (IfSome_then left u.read.told (λ input r.
-    all_before f.next input r.text u.done r.others u.passed u.so_many
+    all_before f.next input r.text u.done r.others u.passed (u.so_many ∙ full)
     (of_ahead (λ t. f.next ≡ bytes_at_front 1 t) r.text old left0 u.read.at_end r.there f.byte))))
 
 nothing_in_front : (front : List ℕ) → length front < 1 → HasNoNewline front
@@ -462,10 +480,10 @@ nothing_in_front [] few = refl
 nothing_in_front (byte ∷ front) few = absurd (omega (arith, few))
 
 pub looks_on : (r : Result End Halt) (m : Moment) (new : Reading) (left' : Option (List ℕ)) (count seat : ℕ) (log : List Entry) (left held held' : Option (List ℕ)) (old : Reading) (left0 : Option (List ℕ))
-    → IsUnderWay count seat log left held (spot m old left0) held' → count ≡ max_lines → LooksOn old new left0 left' r
-    → Serves seat log m.log left left' held held' (status_at_end r)
+    → (u : IsUnderWay count seat log left held (spot m old left0) held') → count ≡ max_lines → LooksOn old new left0 left' r
+    → ServesThese seat log m.log left left' held held' (status_at_end r) u.done u.replies
 looks_on (Ok end) m new left' count seat log left held held' old left0 u full f =
-    finds_byte end m new left' seat log left held held' old left0 (subst (λ (n : ℕ). IsUnderWay n seat log left held (spot m old left0) held') full u) f
+    finds_byte end m new left' count seat log left held held' old left0 u full f
 looks_on (Err SourceFailed) m new left' count seat log left held held' old left0 u full e =
     let fault = e.fault refl in
     served_short 3 seat log m.log left left' held held' u.done u.replies
@@ -483,7 +501,7 @@ looks_on (Err SinkFailed) m new left' count seat log left held held' old left0 u
 
 -- It was refused memory before its first line.
 pub stops_first : (m : Moment) (left held : Option (List ℕ)) → m.desk.user ≡ None → m.desk.view ≡ None
-    → Serves m.seat m.log m.log left left held held 5
+    → ServesThese m.seat m.log m.log left left held held 5 [] []
 stops_first m left held nobody none =
     let fresh : Reading = record { front = []; ended = false } in
     let u = under_way m fresh left held refl nobody none in
@@ -491,24 +509,3 @@ stops_first m left held nobody none =
     (has_answered 0 m.seat m.log left held held (spot m fresh left) (spot m fresh left) u (omega arith) (no_entry m fresh fresh left left)
     (taken_of u.done left fresh [] left left refl u.read))
     u.holds refl (λ three. absurd (omega (arith, three)))
-
--- The same of a result that passes a halt on.
-pub passes_first : (r : Result End Halt) (m : Moment) (left held : Option (List ℕ)) → m.desk.user ≡ None → m.desk.view ≡ None
-    → r ≡ Err NoMemory → Serves m.seat m.log m.log left left held held (status_at_end r)
-passes_first r m left held nobody none e =
-    subst (λ (o : Result End Halt). Serves m.seat m.log m.log left left held held (status_at_end o)) (sym e) (stops_first m left held nobody none)
-
-pub passes_turn : (r : Result End Halt) (reason : Halt) (count seat : ℕ) (log : List Entry) (left held held' : Option (List ℕ)) (old new : Spot)
-    → r ≡ Err reason → IsUnderWay count seat log left held old held' → count < max_lines → StopsNext old new reason
-    → Serves seat log new.session.log left new.left held held' (status_at_end r)
-passes_turn r reason count seat log left held held' old new e u within s =
-    subst (λ (o : Result End Halt). Serves seat log new.session.log left new.left held held' (status_at_end o)) (sym e)
-    (stops_next reason count seat log left held held' old new u within s)
-
-pub passes_write : (r : Result End Halt) (reason : Halt) (count seat : ℕ) (log : List Entry) (left held held' held'' : Option (List ℕ)) (now : Spot) (step : Step) (text : List ℕ)
-    → r ≡ Err reason → HasOneMore count seat log left held now held' step → count < max_lines → text ≡ step.reply
-    → HoldsPrefix held' (with_newline text) held'' → (reason ≡ SourceFailed → ⊥) → (reason ≡ LongLine → ⊥)
-    → Serves seat log now.session.log left now.left held held'' (status_at_end r)
-passes_write r reason count seat log left held held' held'' now step text e h within same prefix no_source no_long =
-    subst (λ (o : Result End Halt). Serves seat log now.session.log left now.left held held'' (status_at_end o)) (sym e)
-    (stops_writing reason count seat log left held held' held'' now step text h within same prefix no_source no_long)

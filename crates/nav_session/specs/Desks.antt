@@ -1,5 +1,5 @@
 -- What a session keeps on its desk, and what a line makes of it.
-use Rattle.std.specs.Prelude.{◌≡◌, ℕ, List, length, Bool, true, false, Option, IfSome, Result, Ok, Err, take, if◌then◌else◌, MatchBool}
+use Rattle.std.specs.Prelude.{◌≡◌, ℕ, List, [], ◌∷◌, ◌++◌, length, Bool, true, false, Option, IfSome, Result, Ok, Err, take, if◌then◌else◌, MatchBool}
 use Rattle.std.specs.Option.{option_map}
 use Rattle.path_store.specs.Documents.{Doc}
 use Rattle.path_store.specs.Store.{Kept, swept}
@@ -18,6 +18,7 @@ use Rattle.nav_proto.specs.Replies.{reply_text}
 use Rattle.nav_proto.specs.Requests.{request_from}
 use Rattle.nav_session.specs.Requests.{docs_in}
 use Rattle.nav_session.specs.Sessions.{Session, asker_of, IsReplyTo}
+use Rattle.nav_session.specs.Transcripts.{with_newline}
 
 -- a desk: the documents that are kept with their paths, the user, where one is named, and what that one sees, where it
 -- was looked at
@@ -108,6 +109,19 @@ abbrev pub KeepsDocsOf : Result Request ProtoFault → Reply → List Kept → L
 KeepsDocsOf (Ok request) reply old new = KeepsDocs request reply old new
 KeepsDocsOf (Err fault) reply old new = new ≡ old
 
+-- the store has what it had, and maybe documents more behind that
+pub record AddsOnly (old new : List Kept) : Type 0 where
+  pub added : List Kept
+  pub all : new ≡ old ++ added
+
+-- what lines with these replies make of the store, one after the other
+abbrev pub AreKept : List (List ℕ) → List Reply → List Kept → List Kept → Type 0
+AreKept [] [] old new = new ≡ old
+AreKept [] (reply ∷ replies) old new = ⊥
+AreKept (line ∷ lines) [] old new = ⊥
+AreKept (line ∷ lines) (reply ∷ replies) old new =
+    (next : List Kept) × KeepsDocsOf (request_from line) reply old next × AreKept lines replies next new
+
 -- a session at one moment: its seat, what the seat has seen of the log and how much of it is pinned, and the desk
 pub record Moment : Type 0 where
   pub seat : ℕ
@@ -139,14 +153,15 @@ pub record GoesOn (old new : Moment) : Type 0 where
   pub seat : new.seat ≡ old.seat
   pub begins : Begins old.log new.log
 
--- without a reply no entry of the seat was added
+-- without a reply no entry of the seat was added, and no document was dropped
 pub record IsLeftOff (old new : Moment) : Type 0 where
   pub no_entry : own old.seat new.log ≡ own old.seat old.log
+  pub store : AddsOnly old.desk.store new.desk.store
 
--- A line was answered with this text: that of the reply that is due, and the store keeps what it should.
+-- A line was answered with this text: that of the reply that is due, with its newline, and the store keeps what it should.
 pub record Answers (line : List ℕ) (old new : Moment) (text : List ℕ) : Type 0 where
   pub reply : Reply
-  pub printed : text ≡ reply_text reply
+  pub printed : text ≡ with_newline (reply_text reply)
   pub due : IsReplyTo old.seat new.log (session_of old) line reply (session_of new)
   pub view : HasItsView new.desk new.log new.pin
   pub store : KeepsDocsOf (request_from line) reply old.desk.store new.desk.store

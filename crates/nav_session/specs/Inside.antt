@@ -17,6 +17,7 @@ use Rattle.nav_proto.specs.declared.reply.Reply.{Reply}
 use Rattle.nav_proto.specs.Replies.{reply_text}
 use Rattle.nav_session.specs.Requests.{docs_in, is_operator}
 use Rattle.nav_session.specs.Sessions.{asker_of, IsJudged, IsCommitted, IsAnswered}
+use Rattle.nav_session.specs.Transcripts.{with_newline}
 use Rattle.nav_session.specs.Desks.{Moment, session_of, HasItsView, AddsDocs, KeepsDocs, Replies, is_accepted, is_indexed, max_cost}
 
 -- why the user may change nothing
@@ -57,9 +58,9 @@ pub record CommitsAs (base : Option ℕ) (edits : List FileEdit) (old new : Mome
   -- no view is kept, or all is as it was that the view depends on
   pub view : (new.desk.view ≡ None) ⊎ ((new.log ≡ old.log) × (new.pin ≡ old.pin) × (new.desk.view ≡ old.desk.view) × (new.desk.user ≡ old.desk.user))
 
--- a request was answered with this text
+-- a request was answered with this text, which has its newline
 pub record AnswersWith (request : Request) (old new : Moment) (text : List ℕ) : Type 0 where
   pub reply : Reply
-  pub printed : text ≡ reply_text reply
+  pub printed : text ≡ with_newline (reply_text reply)
   pub replied : Replies (λ log before told after. IsAnswered old.seat log before request told after) old new reply
   pub store : KeepsDocs request reply old.desk.store new.desk.store

@@ -1,12 +1,14 @@
 -- What serving a session does, from what was there before to what is there after, and its status.
-use Rattle.std.specs.Prelude.{◌≡◌, ◌⊎◌, ℕ, Bool, ◌||◌, ◌==◌, true, false, List, [], ◌∷◌, ◌++◌, length, Option, IfSome, ⊤}
+use Rattle.std.specs.Prelude.{◌≡◌, ◌≢◌, ◌⊎◌, ℕ, Bool, ◌||◌, ◌==◌, true, false, List, [], ◌∷◌, ◌++◌, length, Option, IfSome, ⊤}
 use Rattle.std.specs.List.{list_any}
 use Rattle.std.specs.Io.KnownBytes.{prepend_known, append_known, IsAtEnd}
+use Rattle.path_store.specs.Store.{Kept}
 use Rattle.version_tree.specs.declared.entry.Entry.{Entry}
 use Rattle.version_board.specs.Logs.{Begins}
 use Rattle.nav_io.specs.Lines.{lines, whole_lines}
 use Rattle.nav_proto.specs.declared.reply.Reply.{Reply}
 use Rattle.nav_session.specs.Requests.{is_quit}
+use Rattle.nav_session.specs.Desks.{AddsOnly, AreKept}
 use Rattle.nav_session.specs.Transcripts.{IsTranscript, replies_text, max_lines, to_answer, ending, status_at}
 
 -- the one list of lines begins the other
@@ -70,3 +72,22 @@ pub record Serves (seat : ℕ) (log log' : List Entry) (left left' held held' : 
   pub ends : answers_all status ≡ true → IfSome left (λ input. status ≡ status_at (ending max_lines (lines input)))
   -- with 3 the source failed where no more whole lines were taken
   pub short : status ≡ 3 → AreAllTaken answered left left'
+
+-- what outlives a session: what its seat has seen of the log, and the documents that its desk keeps
+pub record Standing : Type 0 where
+  pub log : List Entry
+  pub store : List Kept
+
+-- that of these parts
+abbrev pub standing : List Entry → List Kept → Standing
+standing log store = record { log = log; store = store }
+
+-- The same of a session at a desk, from what stood before to what stands afterwards.
+pub record ServesAtDesk (seat : ℕ) (before after : Standing) (left left' held held' : Option (List ℕ)) (status : ℕ) : Type 0 where
+  pub served : Serves seat before.log after.log left left' held held' status
+  -- what the lines that were answered made of the store, one after the other
+  pub made : List Kept
+  pub kept : AreKept served.answered served.replies before.store made
+  -- that is left; where memory was refused, a line more may have added documents
+  pub stays : status ≢ 5 → after.store ≡ made
+  pub adds : AddsOnly made after.store

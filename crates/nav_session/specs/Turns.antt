@@ -1,9 +1,10 @@
 -- What one turn of a session does: the next line is read and answered, or none is; no public clause cites this.
-use Rattle.std.specs.Prelude.{◌≡◌, ◌⊎◌, ℕ, ◌<◌, ◌≤◌, List, ◌++◌, length, Option, Some, None, IfSome, Result, Ok, Err}
+use Rattle.std.specs.Prelude.{◌≡◌, ◌⊎◌, ℕ, ◌<◌, ◌≤◌, List, ◌++◌, length, Option, Some, None, IfSome, Result, Ok, Err, ⊤}
 use Rattle.std.specs.Option.{option_to_list}
 use Rattle.nav_io.specs.declared.lines.LineError.TheVariants as line_error
 use Rattle.nav_io.specs.Lines.{line_max, line_len, line_at_front, after_line, lines, HasNoNewline}
 use Rattle.nav_io.specs.Reading.{Reading, ahead, AfterLine, AfterError, AfterBytes, AfterBytesError, bytes_at_front}
+use Rattle.path_store.specs.Store.{Kept}
 use Rattle.version_board.specs.Logs.{own}
 use Rattle.nav_session.specs.declared.step.Step.{Step}
 use Rattle.nav_session.specs.declared.halt.Halt.{Halt}
@@ -11,7 +12,7 @@ use Rattle.nav_session.specs.declared.halt.Halt.TheVariants.{SourceFailed, SinkF
 use Rattle.nav_session.specs.declared.serving.End.{End}
 use Rattle.nav_session.specs.declared.serving.End.TheVariants.{Answered, Full}
 use Rattle.nav_session.specs.Requests.{is_quit}
-use Rattle.nav_session.specs.Desks.{Moment, GoesOn, Answers}
+use Rattle.nav_session.specs.Desks.{Moment, GoesOn, Answers, AddsOnly}
 use Rattle.nav_session.specs.Halts.{status_of}
 
 -- what is seen between two lines: the session, its reader, and what the source has left
@@ -71,6 +72,15 @@ abbrev pub TakesTurn : Spot → Spot → Result (Option Step) Halt → Type 0
 TakesTurn old new (Ok (Some step)) = AnswersNext old new step
 TakesTurn old new (Ok None) = FindsEnd old new
 TakesTurn old new (Err reason) = StopsNext old new reason
+
+-- what a turn that answers no line makes of the store: nothing, but where memory is refused
+abbrev pub LeavesStore : Result (Option Step) Halt → List Kept → List Kept → Type 0
+LeavesStore (Ok (Some step)) old new = ⊤
+LeavesStore (Ok None) old new = new ≡ old
+LeavesStore (Err SourceFailed) old new = new ≡ old
+LeavesStore (Err SinkFailed) old new = new ≡ old
+LeavesStore (Err LongLine) old new = new ≡ old
+LeavesStore (Err NoMemory) old new = AddsOnly old new
 
 -- how a session ends behind its last line, where a byte or none is next
 abbrev pub end_before : Option (List ℕ) → End

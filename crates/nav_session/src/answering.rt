@@ -4,6 +4,7 @@ ghost use Rattle.nav_proto.specs.Replies.{reply_text};
 ghost use Rattle.nav_session.specs.Refusals.{fault_reply};
 ghost use Rattle.nav_session.specs.Requests.{docs_of_line, docs_of_request, quits, is_quit};
 ghost use Rattle.nav_session.specs.Sessions.{IsAnswered};
+ghost use Rattle.nav_session.specs.Transcripts.{with_newline};
 ghost use Rattle.nav_session.specs.Desks.{HasItsView, KeepsDocs, Answers, Replies, GoesOn, IsLeftOff, moment};
 ghost use Rattle.nav_session.specs.Inside.{AnswersWith};
 
@@ -13,7 +14,7 @@ use crate::desk::Desk;
 use crate::judging::rule;
 use crate::pinning::{hello, pin};
 use crate::refusals::fault_reply;
-use crate::room::{Room, print};
+use crate::room::{Room, ended, print};
 use crate::step::Step;
 use graph_nodes::Steps;
 use nav_io::Gate;
@@ -32,11 +33,13 @@ use version_tree::Edit;
 /// that `hello` and `pin` pin; what a query finds among the files that the user may see of the pinned version.
 ///
 /// The one error is want of memory: then no entry of the line is in the log, and the desk isn't meant to be used again.
-/// The memory of the reply to a change is taken before it is committed.
+/// The memory of the reply to a change is taken before it is committed, with its newline, so that no entry is left without
+/// its reply for want of memory.
 ///
 /// A commit's documents are indexed, unless the desk keeps them, and are kept; after an accepted one the oldest go until
 /// all cost at most `MAX_COST`. Each walk that is made counts a step. The first query after `hello`, `pin` or a change
 /// looks at all files of the version once, the others only where their runs go.
+#[tactic(auto, using(crate::proofs::Kept::adds_none))]
 pub fn answer_line<R: Threads + Sync, B: Commits<R>, G: Gate + Sync, L: Ledger>(
     rt: &R,
     alloc: Global,
@@ -73,16 +76,17 @@ pub fn answer_line<R: Threads + Sync, B: Commits<R>, G: Gate + Sync, L: Ledger>(
 
 /// What a line that is no request is answered with.
 fn refuse(alloc: Global, fault: ProtoFault) -> Result<Step, AllocError>
-    ensures reply { IfOk result (λ step. step.reply ≡ reply_text (fault_reply fault)) }
+    ensures reply { IfOk result (λ step. step.reply ≡ with_newline (reply_text (fault_reply fault))) }
     ensures quit { IfOk result (λ step. step.quit ≡ false) }
 {
     Ok(Step {
-        reply: print_reply(alloc, &fault_reply(fault))?,
+        reply: ended(print_reply(alloc, &fault_reply(fault))?)?,
         quit: false,
     })
 }
 
 /// What a request is answered with, where room is taken for the reply to an accepted change.
+#[tactic(auto, using(crate::proofs::Kept::kept_adds))]
 fn answer_request<R: Threads + Sync, B: Commits<R>, G: Gate + Sync, L: Ledger>(
     rt: &R,
     alloc: Global,
@@ -124,6 +128,7 @@ fn quits(request: &Request) -> bool
 /// The reply to a request of a session, at the board of its seat: what `answer_line` says of a line that is that request.
 ///
 /// The one error is want of memory: then no entry of the request is in the log, and the desk isn't meant to be used again.
+#[tactic(auto, using(crate::proofs::Kept::adds_none))]
 pub fn reply_to<R: Threads + Sync, B: Commits<R>, G: Gate + Sync, L: Ledger>(
     rt: &R,
     alloc: Global,
@@ -151,10 +156,28 @@ pub fn reply_to<R: Threads + Sync, B: Commits<R>, G: Gate + Sync, L: Ledger>(
         Request::Hello { user } => Ok(hello(desk, board, user)),
         Request::Pin => Ok(pin(desk, board)),
         Request::Commit { base, edits } => commit(rt, alloc, desk, board, gate, base, edits, steps),
-        Request::Grant { user, prefix } => rule(rt, desk, board, Edit::Grant { user, prefix }),
-        Request::Revoke { user, prefix } => rule(rt, desk, board, Edit::Revoke { user, prefix }),
-        Request::Deny { user, prefix } => rule(rt, desk, board, Edit::Deny { user, prefix }),
-        Request::Undeny { user, prefix } => rule(rt, desk, board, Edit::Undeny { user, prefix }),
+        Request::Grant { user, prefix } => rule(
+            rt,
+            alloc,
+            desk,
+            board,
+            Edit::Grant { user, prefix },
+        ),
+        Request::Revoke { user, prefix } => rule(
+            rt,
+            alloc,
+            desk,
+            board,
+            Edit::Revoke { user, prefix },
+        ),
+        Request::Deny { user, prefix } => rule(rt, alloc, desk, board, Edit::Deny { user, prefix }),
+        Request::Undeny { user, prefix } => rule(
+            rt,
+            alloc,
+            desk,
+            board,
+            Edit::Undeny { user, prefix },
+        ),
         Request::Define { path, at, bounds } => define(
             alloc,
             desk,

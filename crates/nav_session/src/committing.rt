@@ -5,7 +5,7 @@ ghost use Rattle.nav_proto.specs.declared.reply.Reply.TheVariants.{BadFile};
 ghost use Rattle.nav_session.specs.BadFiles.{file_error};
 ghost use Rattle.nav_session.specs.Requests.{docs_in};
 ghost use Rattle.nav_session.specs.Sessions.{IfOperator, IsCommitted};
-ghost use Rattle.nav_session.specs.Desks.{Replies, GoesOn, IsLeftOff, HasItsView, AddsDocs, is_indexed, moment};
+ghost use Rattle.nav_session.specs.Desks.{Replies, GoesOn, IsLeftOff, HasItsView, AddsDocs, AddsOnly, is_indexed, moment};
 ghost use Rattle.nav_session.specs.Inside.{CommitsAs, PutsIn, filled};
 
 use crate::bad_file::file_error;
@@ -58,7 +58,7 @@ pub fn commit<R: Threads + Sync, B: Commits<R>, G: Gate + Sync, L: Ledger>(
 }
 
 /// The reply to a commit of a user that may change anything.
-#[tactic(auto, using(crate::proofs::Committed::bad_file, crate::proofs::Committed::judged))]
+#[tactic(auto, using(crate::proofs::Committed::bad_file, crate::proofs::Committed::judged, crate::proofs::Kept::adds))]
 fn commit_allowed<R: Threads + Sync, B: Commits<R>, G: Gate + Sync, L: Ledger>(
     rt: &R,
     alloc: Global,
@@ -75,6 +75,7 @@ fn commit_allowed<R: Threads + Sync, B: Commits<R>, G: Gate + Sync, L: Ledger>(
         (moment (B.seat board.old) (B.log board.old) (B.pin_at board.old) desk.old)
         (moment (B.seat board.new) (B.log board.new) (B.pin_at board.new) desk.new)) }
     ensures none { OnErr result (own (B.seat board.old) (B.log board.new) ≡ own (B.seat board.old) (B.log board.old)) }
+    ensures no_less { OnErr result (AddsOnly desk.old.store desk.new.store) }
     ensures steps { (total : ℕ) → AreDocWeights (missing (docs_of desk.old.store) (docs_in edits)) total
         → steps.new ≤ steps.old + total }
     ensures no_steps { OnOk result (docs_in edits ≡ [] → steps.new ≡ steps.old) }
@@ -113,9 +114,10 @@ fn put_in<R, B: Commits<R>>(
         (moment (B.seat board.old) (B.log board.old) (B.pin_at board.old) desk.old)
         (moment (B.seat board.new) (B.log board.new) (B.pin_at board.new) desk.new)) }
     ensures none { OnErr result (own (B.seat board.old) (B.log board.new) ≡ own (B.seat board.old) (B.log board.old)) }
+    ensures same { OnErr result (desk.new.store ≡ desk.old.store) }
 {
     let edits = edits_from(alloc, drafts, files)?;
-    let reply = judge(rt, desk, board, base, &edits)?;
+    let reply = judge(rt, alloc, desk, board, base, &edits)?;
     desk.sweep_after(&reply);
     Ok(reply)
 }

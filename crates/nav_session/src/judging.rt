@@ -6,14 +6,15 @@ ghost use Rattle.nav_session.specs.Desks.{Replies, GoesOn, IsLeftOff, HasItsView
 use crate::desk::Desk;
 use crate::refusals::edit_reply;
 use nav_proto::Reply;
-use std::alloc::AllocError;
+use std::alloc::{AllocError, Global};
 use version_board::{CommitFault, Commits};
 use version_tree::Edit;
 
 /// The reply to a change of who may see what, where the user may change anything. The one error is want of memory.
-#[tactic(auto, using(crate::proofs::Asked::operator_by, crate::proofs::Asked::refused_change))]
+#[tactic(auto, using(crate::proofs::Asked::operator_by, crate::proofs::Asked::refused_change, crate::proofs::Kept::adds_none))]
 pub fn rule<R, B: Commits<R>>(
     rt: &R,
+    alloc: Global,
     desk: &mut Desk,
     board: &mut B,
     edit: Edit,
@@ -30,7 +31,7 @@ pub fn rule<R, B: Commits<R>>(
 {
     match desk.change_refusal() {
         Some(error) => Ok(Reply::Plain(error)),
-        None => judge(rt, desk, board, None, &[edit]),
+        None => judge(rt, alloc, desk, board, None, &[edit]),
     }
 }
 
@@ -39,6 +40,7 @@ pub fn rule<R, B: Commits<R>>(
 #[tactic(auto, using(crate::proofs::Judged::accepted, crate::proofs::Judged::stale, crate::proofs::Judged::refused, crate::proofs::Judged::edits_indexed, crate::proofs::Seen::later_goes_on, crate::proofs::Judged::extended_moment))]
 pub fn judge<R, B: Commits<R>>(
     rt: &R,
+    alloc: Global,
     desk: &mut Desk,
     board: &mut B,
     base: Option<u32>,
@@ -56,7 +58,7 @@ pub fn judge<R, B: Commits<R>>(
     ensures desk { desk.new ≡ record { store = desk.old.store; user = desk.old.user; view = None } }
 {
     desk.forget_view();
-    match board.commit(rt, base, edits) {
+    match board.commit(rt, alloc, base, edits) {
         Ok(()) => Ok(Reply::Version(board.pinned().version.number())),
         Err(CommitFault::Stale(head)) => Ok(Reply::Stale(head)),
         Err(CommitFault::Edit(fault)) => Ok(edit_reply(fault)),

@@ -7,6 +7,7 @@ mod bad_file;
 mod committing;
 mod desk;
 mod drafts;
+mod exchange;
 mod halt;
 mod judging;
 mod laws;
@@ -20,8 +21,11 @@ mod step;
 pub use answering::{answer_line, reply_to};
 pub use bad_file::file_error;
 pub use desk::{Desk, MAX_COST};
+pub use exchange::Replied;
 pub use halt::{ANSWERED, BAD_WORDS, Halt};
-pub use laws::{first_lines_have_one_script, lines_have_one_script};
+pub use laws::{
+    first_lines_have_one_script, lines_have_one_script, queries_are_answered_at_the_pin,
+};
 pub use output::{reply_bytes, write_line};
 pub use serving::serve_session;
 pub use step::Step;

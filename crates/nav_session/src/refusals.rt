@@ -1,4 +1,4 @@
-ghost use Rattle.std.specs.Prelude.{◌≡◌, ◌≢◌, Err, IfOk};
+ghost use Rattle.std.specs.Prelude.{◌≡◌, ◌≢◌, Err, IfOk, OnErr};
 ghost use Rattle.nav_answers.specs.declared.found.AskFault.TheVariants as ask;
 ghost use Rattle.nav_session.specs.Refusals.{callers_reply, edit_reply, fault_reply, query_reply};
 
@@ -36,6 +36,7 @@ pub fn edit_reply(fault: EditFault) -> Reply
 pub fn query_reply(found: Result<Answer, AskFault>) -> Result<Reply, AllocError>
     ensures reply { IfOk result (λ reply. reply ≡ query_reply found) }
     ensures definite { IfOk result (λ _. found ≢ Err ask.NoMemory) }
+    ensures memory { OnErr result (found ≡ Err ask.NoMemory) }
 {
     match found {
         Ok(answer) => Ok(Reply::Rows(answer)),
@@ -47,6 +48,7 @@ pub fn query_reply(found: Result<Answer, AskFault>) -> Result<Reply, AllocError>
 pub fn callers_reply(found: Result<Rows, AskFault>) -> Result<Reply, AllocError>
     ensures reply { IfOk result (λ reply. reply ≡ callers_reply found) }
     ensures definite { IfOk result (λ _. found ≢ Err ask.NoMemory) }
+    ensures memory { OnErr result (found ≡ Err ask.NoMemory) }
 {
     match found {
         Ok(rows) => Ok(Reply::Callers(rows)),
@@ -58,6 +60,7 @@ pub fn callers_reply(found: Result<Rows, AskFault>) -> Result<Reply, AllocError>
 fn refusal(fault: AskFault) -> Result<Reply, AllocError>
     ensures reply { IfOk result (λ reply. reply ≡ query_reply (Err fault)) }
     ensures definite { IfOk result (λ _. fault ≢ ask.NoMemory) }
+    ensures memory { OnErr result (fault ≡ ask.NoMemory) }
 {
     match fault {
         AskFault::NoFile => Ok(Reply::Plain(PlainError::NoFile)),

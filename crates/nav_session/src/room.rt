@@ -2,6 +2,7 @@ ghost use Rattle.std.specs.Prelude.{◌≡◌, ◌≤◌, [], OnErr, IfOk, false
 ghost use Rattle.std.specs.String.{string_bytes, string_len, string_capacity};
 ghost use Rattle.nav_proto.specs.declared.reply.Reply.TheVariants.{Version};
 ghost use Rattle.nav_proto.specs.Replies.{reply_text};
+ghost use Rattle.nav_session.specs.Transcripts.{with_newline};
 ghost use Rattle.nav_session.specs.Desks.{is_accepted};
 
 use itoa::Buffer;
@@ -28,27 +29,37 @@ impl Room {
         })
     }
 
-    /// The reply that tells the version's number. It takes no memory.
+    /// The line that tells the version's number. It takes no memory.
     fn version(self, n: u32) -> ReplyText
-        ensures { result ≡ reply_text (Version n) }
+        ensures { result ≡ with_newline (reply_text (Version n)) }
     {
         let mut buffer = Buffer::new();
         let mut text = self.text;
         text.push_str("{\"version\":").unwrap();
         text.push_str(buffer.format(n)).unwrap();
         text.push_str("}").unwrap();
+        text.push_str("\n").unwrap();
         ReplyText::from_string(text)
     }
 }
 
-/// The reply's text, without a newline. That of an accepted change needs no more memory than the room; for another one
-/// the one error is want of memory.
+/// The reply's text with its newline. That of an accepted change needs no more memory than the room; for another one the
+/// one error is want of memory.
 pub fn print(alloc: Global, room: Room, reply: &Reply) -> Result<ReplyText, AllocError>
-    ensures text { IfOk result (λ text. text ≡ reply_text reply.now) }
+    ensures text { IfOk result (λ text. text ≡ with_newline (reply_text reply.now)) }
     ensures version { OnErr result (is_accepted reply.now ≡ false) }
 {
     match reply {
         Reply::Version(n) => Ok(room.version(*n)),
-        reply => print_reply(alloc, reply),
+        reply => ended(print_reply(alloc, reply)?),
     }
+}
+
+/// The text with a newline behind it; the one error is want of memory.
+pub fn ended(text: ReplyText) -> Result<ReplyText, AllocError>
+    ensures { IfOk result (λ line. line ≡ with_newline text) }
+{
+    let mut line = text.into_string();
+    line.push_str("\n")?;
+    Ok(ReplyText::from_string(line))
 }

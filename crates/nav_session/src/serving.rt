@@ -4,13 +4,13 @@ ghost use Rattle.std.specs.Option.{option_copied};
 ghost use Rattle.nav_io.specs.Faults.{HasRisen};
 ghost use Rattle.nav_session.specs.declared.halt.Halt.TheVariants as halt;
 ghost use Rattle.nav_session.specs.Desks.{HasItsView, moment};
-ghost use Rattle.nav_session.specs.Serving.{Serves, ends_session, ends_unhindered};
-ghost use Rattle.nav_session.specs.Turns.{TakesTurn, LooksOn, end_before, spot, status_at_end, status_of_end};
+ghost use Rattle.nav_session.specs.Serving.{ServesAtDesk, standing, ends_session, ends_unhindered};
+ghost use Rattle.nav_session.specs.Turns.{TakesTurn, LeavesStore, LooksOn, end_before, spot, status_at_end, status_of_end};
 
 use crate::answering::answer_line;
 use crate::desk::Desk;
 use crate::halt::{ANSWERED, Halt};
-use crate::output::write_line;
+use crate::output::write_reply;
 use crate::step::Step;
 use graph_nodes::Steps;
 use nav_io::{Gate, LineReader, Sink, Source};
@@ -50,7 +50,8 @@ impl End {
 /// input, a line that is too long, or 1,000,000 lines, and gives the status.
 ///
 /// Each reply and its newline are written at once, before the next line is read. Behind 1,000,000 lines one more byte is
-/// looked for. A session costs what its lines and their answers cost, and no line is copied.
+/// looked for. A session costs what its lines and their answers cost, and no line is copied. The desk keeps the documents
+/// that its lines left there, for the next session.
 ///
 /// - 0: all lines were answered up to the end of the input, or up to and with an accepted `quit`.
 /// - 3: the source failed; its count rose. All whole lines that were taken are answered.
@@ -75,8 +76,9 @@ pub fn serve_session<
     sink: &mut K,
     steps: &mut Steps<L>,
 ) -> u8
-    // What is answered and written, and the log.
-    ensures served { Serves (B.seat board.old) (B.log board.old) (B.log board.new)
+    // What is answered and written, the log, and what the desk keeps.
+    ensures served { ServesAtDesk (B.seat board.old)
+        (standing (B.log board.old) desk.old.store) (standing (B.log board.new) desk.new.store)
         (S.left source.old) (S.left source.new) (K.held sink.old) (K.held sink.new) result }
     ensures seat { B.seat board.new ≡ B.seat board.old }
 
@@ -111,7 +113,8 @@ fn serve_lines<R: Threads + Sync, B: Commits<R>, S: Source, K: Sink, G: Gate + S
 ) -> Result<End, Halt>
     requires nobody { desk.old.user ≡ None }
     requires no_view { desk.old.view ≡ None }
-    ensures served { Serves (B.seat board.old) (B.log board.old) (B.log board.new)
+    ensures served { ServesAtDesk (B.seat board.old)
+        (standing (B.log board.old) desk.old.store) (standing (B.log board.new) desk.new.store)
         (S.left source.old) (S.left source.new) (K.held sink.old) (K.held sink.new) (status_at_end result) }
     ensures seat { B.seat board.new ≡ B.seat board.old }
     ensures source_failed { result ≡ Err halt.SourceFailed → HasRisen (S.faults source.old) (S.faults source.new) }
@@ -126,7 +129,7 @@ fn serve_lines<R: Threads + Sync, B: Commits<R>, S: Source, K: Sink, G: Gate + S
             return Ok(End::Answered);
         };
         let quit = step.quit;
-        write_line(sink, step.reply.into_string().into_bytes())?;
+        write_reply(sink, &step.reply)?;
         if quit {
             return Ok(End::Answered);
         }
@@ -135,6 +138,7 @@ fn serve_lines<R: Threads + Sync, B: Commits<R>, S: Source, K: Sink, G: Gate + S
 }
 
 // Reads the next line and answers it; none where the input ends.
+#[tactic(auto, using(crate::proofs::Kept::stays_at))]
 fn answer_next<R: Threads + Sync, B: Commits<R>, S: Source, G: Gate + Sync, L: Ledger>(
     rt: &R,
     alloc: Global,
@@ -150,6 +154,7 @@ fn answer_next<R: Threads + Sync, B: Commits<R>, S: Source, G: Gate + Sync, L: L
         (spot (moment (B.seat board.old) (B.log board.old) (B.pin_at board.old) desk.old) reader.old (S.left source.old))
         (spot (moment (B.seat board.new) (B.log board.new) (B.pin_at board.new) desk.new) reader.new (S.left source.new))
         result }
+    ensures store { LeavesStore result desk.old.store desk.new.store }
     ensures count { S.faults source.old ≤ S.faults source.new }
     ensures cause { result ≡ Err halt.SourceFailed → HasRisen (S.faults source.old) (S.faults source.new) }
 {

@@ -66,7 +66,7 @@ fn all_seats<J: Naming, S: Drop>(
     for name in 0..count {
         let reader = factory.handle()?;
         let shared = Arc::try_clone(shared)?;
-        let seat = SeatOf::first(shared, reader, name, head.share()?, alloc);
+        let seat = SeatOf::first(shared, reader, name, head.share()?);
         all.push(seat)?;
     }
     Ok(all)

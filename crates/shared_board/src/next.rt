@@ -66,6 +66,7 @@ fn amended(alloc: Global, head: &Version, edits: &[Edit]) -> Result<Version, Com
 fn refused_by(fault: EditFault) -> CommitFault
     ensures edit { (e : Faults) → result ≡ why.Edit e → (e ≡ fault) × (e ≢ faults.NoMemory) }
     ensures stale { (n : ℕ) → result ≢ why.Stale n }
+    ensures memory { result ≡ why.NoMemory → fault ≡ faults.NoMemory }
 {
     match fault {
         EditFault::NoMemory => CommitFault::NoMemory,

@@ -17,8 +17,8 @@ use version_tree::Edit;
 /// A seat at the board that is named `J`. Its commits wait with the handle `R`; it pins without one.
 pub type Seat<J, R> = SeatOf<J, Shared<J, R>>;
 
-/// A seat that holds what its board shares as an `S`, of which it needs nothing for a pin. Contracts see the log that
-/// it has seen, its name and its pin.
+/// A seat that holds what its board shares as an `S`, of which it needs nothing for a pin, and no allocator, so that a pin
+/// can't ask for memory. Contracts see the log that it has seen, its name and its pin.
 #[derive(Drop)]
 pub struct SeatOf<J: Naming, S: Drop> {
     pub(crate) shared: Arc<S>,
@@ -27,7 +27,6 @@ pub struct SeatOf<J: Naming, S: Drop> {
     pub(crate) head: Head<J>,
     /// What is pinned, where it isn't the head.
     held: Option<Head<J>>,
-    alloc: Global,
 }
 
 impl<J: Naming, S: Drop> Model for SeatOf<J, S> {
@@ -49,7 +48,6 @@ impl<J: Naming, S: Drop> SeatOf<J, S> {
         reader: HeadReader<J>,
         seat: u32,
         head: Head<J>,
-        alloc: Global,
     ) -> SeatOf<J, S>
         requires named { seat < J.board.seats }
         requires empty { head ≡ [] }
@@ -61,7 +59,6 @@ impl<J: Naming, S: Drop> SeatOf<J, S> {
             seat,
             head,
             held: None,
-            alloc,
         }
     }
 
@@ -192,16 +189,14 @@ fn try_once<J: Naming, R: Wait + Drop>(
 
 impl<J: Naming, R: Wait + Drop> Commits<R> for SeatOf<J, Shared<J, R>> {
     #[tactic(auto, using(crate::proofs::Fronts::later_self, crate::proofs::Fronts::begins_self))]
-    fn commit(&mut self, rt: &R, base: Option<u32>, edits: &[Edit]) -> Result<(), CommitFault> {
-        match settle(
-            rt,
-            self.alloc,
-            &*self.shared,
-            &self.head,
-            self.seat,
-            base,
-            edits,
-        ) {
+    fn commit(
+        &mut self,
+        rt: &R,
+        alloc: Global,
+        base: Option<u32>,
+        edits: &[Edit],
+    ) -> Result<(), CommitFault> {
+        match settle(rt, alloc, &*self.shared, &self.head, self.seat, base, edits) {
             Ok(next) => {
                 self.held = None;
                 self.head = next;

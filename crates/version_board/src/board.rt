@@ -9,6 +9,7 @@ ghost use Rattle.version_board.specs.Logs.{version_of, IsLater, IsExtended, IsSt
 
 use crate::fault::CommitFault;
 use root_index::RootIndex;
+use std::alloc::Global;
 use std::sync::Arc;
 use version_tree::{Edit, Version};
 
@@ -19,7 +20,8 @@ pub struct Pinned {
     pub index: Arc<RootIndex>,
 }
 
-/// A seat at a board: what it has seen of the board's log, and which version of that it pins. It waits for nobody.
+/// A seat at a board: what it has seen of the board's log, and which version of that it pins. It waits for nobody, and
+/// takes no memory: neither a handle nor an allocator is given to it.
 pub trait Pins {
     /// The log that the seat has seen.
     ghost log: { Self → List Entry };
@@ -30,7 +32,7 @@ pub trait Pins {
     /// How many of the first entries make the pinned version.
     ghost pin_at: { Self → ℕ };
 
-    /// Sees what was committed by now, as far as it is told, and pins the newest version of it. It takes no memory.
+    /// Sees what was committed by now, as far as it is told, and pins the newest version of it.
     fn pin(&mut self)
         ensures seat { seat self.new ≡ seat self.old }
         ensures later { IsLater (seat self.old) (log self.old) (log self.new) }
@@ -48,7 +50,13 @@ pub trait Commits<R>: Pins {
     /// Appends an entry with these edits, and pins the version that it makes. It is refused as `Stale` where a base is
     /// given that isn't the head, then by the first fault of the edits on the head, or for want of memory; then
     /// nothing is appended, and the pin stays.
-    fn commit(&mut self, rt: &R, base: Option<u32>, edits: &[Edit]) -> Result<(), CommitFault>
+    fn commit(
+        &mut self,
+        rt: &R,
+        alloc: Global,
+        base: Option<u32>,
+        edits: &[Edit],
+    ) -> Result<(), CommitFault>
         ensures seat { Self.seat self.new ≡ Self.seat self.old }
         ensures ok { OnOk result (IsExtended (Self.seat self.old) base edits.now (Self.log self.old) (Self.log self.new)) }
         ensures pin { OnOk result (Self.pin_at self.new ≡ length (Self.log self.new)) }

@@ -9,5 +9,5 @@ mod plain;
 
 pub use board::{Commits, Pinned, Pins};
 pub use fault::CommitFault;
-pub use laws::seats_keep_their_entries;
+pub use laws::{Exchange, seats_keep_their_entries};
 pub use plain::PlainBoard;

@@ -23,7 +23,6 @@ use version_tree::{Edit, EditFault, Version};
 pub struct PlainBoard {
     log: History,
     pinned: Pinned,
-    alloc: Global,
 }
 
 impl Model for PlainBoard {
@@ -52,7 +51,6 @@ impl PlainBoard {
         Ok(PlainBoard {
             log: History::new(),
             pinned: Pinned { version, index },
-            alloc,
         })
     }
 
@@ -80,6 +78,7 @@ fn fits_head(base: Option<u32>, head: u32) -> bool
 fn refused_by(fault: EditFault) -> CommitFault
     ensures edit { (e : Faults) → result ≡ why.Edit e → (e ≡ fault) × (e ≢ faults.NoMemory) }
     ensures stale { (n : ℕ) → result ≢ why.Stale n }
+    ensures memory { result ≡ why.NoMemory → fault ≡ faults.NoMemory }
 {
     match fault {
         EditFault::NoMemory => CommitFault::NoMemory,
@@ -182,8 +181,13 @@ impl Pins for PlainBoard {
 }
 
 impl<R> Commits<R> for PlainBoard {
-    fn commit(&mut self, _rt: &R, base: Option<u32>, edits: &[Edit]) -> Result<(), CommitFault> {
-        let alloc = self.alloc;
+    fn commit(
+        &mut self,
+        _rt: &R,
+        alloc: Global,
+        base: Option<u32>,
+        edits: &[Edit],
+    ) -> Result<(), CommitFault> {
         self.extended(alloc, base, edits)
     }
 }

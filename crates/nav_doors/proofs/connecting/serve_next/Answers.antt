@@ -1,5 +1,6 @@
 use Rattle.std.proofs.Common.{◌∷◌, [], refl, ap, ◌∙◌, arith}
 use Rattle.nav_io.specs.Told.{append_told}
+use Rattle.nav_session.specs.Serving.{standing}
 use Rattle.nav_doors.proofs.connecting.serve_next.Goals as goal
 
 -- the connection is the pair that was given out, and the same pair after the session
@@ -8,8 +9,8 @@ returns-clause-served g c = record {
   next = record {
     given = (c.in_ok-source.source, c.in_ok-source.sink);
     back = (c.serve_session-status.new.source, c.serve_session-status.new.sink);
-    before = g.B.Pins.log c.args.seat.now;
-    after = g.B.Pins.log c.serve_session-status.new.board;
+    before = standing (g.B.Pins.log c.args.seat.now) c.args.desk.now.store;
+    after = standing (g.B.Pins.log c.serve_session-status.new.board) c.serve_session-status.new.desk.store;
     status = c.serve_session-status.result;
   };
   served = record {

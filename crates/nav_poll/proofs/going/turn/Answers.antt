@@ -1,11 +1,11 @@
 -- A line was answered, or none.
-use Rattle.std.proofs.Common.{◌≡◌, ◌<◌, arith, inl, inr, ap, ◌∙◌, sym, subst, drop, Ok, Err}
+use Rattle.std.proofs.Common.{◌≡◌, ◌<◌, arith, ap, ◌∙◌, sym, subst, drop, Ok, Err}
 use Rattle.nav_session.specs.Desks.{moment}
 use Rattle.nav_session.specs.Transcripts.{max_lines}
 use Rattle.nav_session.specs.Turns.{Spot, spot}
 use Rattle.nav_poll.specs.Polling.{StandsFor, seen}
 use Rattle.nav_poll.proofs.Standing.{at}
-use Rattle.nav_poll.proofs.Turned.{answered_by, unanswered_by, halted_by, quit_by}
+use Rattle.nav_poll.proofs.Turned.{answered_by, halted_by, quit_by}
 use Rattle.nav_poll.proofs.going.turn.Goals as goal
 
 pub returns-then-quit-clause-stands : goal.returns-then-quit-clause-stands
@@ -26,10 +26,9 @@ returns-in-Ok-Some-clause-stands g c s h =
     let none = ap (λ x. x.out) c.polled.view_is ∙ c.requires.pushed in
     let a = rw c.in-Ok-Some.field-0-is at c.in-Ok-Some.ensures.takes left in
     let before = subst (λ x. StandsFor s (seen g.B.Pins.seat g.B.Pins.log g.B.Pins.pin_at g.K.Link.left g.K.Link.held x)) (sym c.polled.view_is) h in
-    elim c.take_up.ensures.either [
-      | inl e ↦ rw e (answered_by s old new (g.K.Link.held p.link) (drop p.sent p.out.items) p.lines p.quit p.ended c.in-Ok-Some.step ended none c.if-quit.false c.take_up.ensures.few a.0 before)
-      | inr e ↦ rw e (unanswered_by s old new (g.K.Link.held p.link) (drop p.sent p.out.items) p.lines p.quit p.ended c.in-Ok-Some.step ended none c.if-quit.false c.take_up.ensures.few a.0 before)
-    ]
+    rw c.take_up.ensures.taken
+    (answered_by s old new (g.K.Link.held p.link) (drop p.sent p.out.items) p.lines p.quit p.ended c.in-Ok-Some.step ended none c.if-quit.false
+    c.take_up.ensures.few a.0 before)
 
 pub returns-in-Ok-None-clause-stands : goal.returns-in-Ok-None-clause-stands
 returns-in-Ok-None-clause-stands g c s h =
