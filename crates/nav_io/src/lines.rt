@@ -6,9 +6,11 @@ ghost use Rattle.nav_io.specs.Lines.{line_max, line_len, line_at_front, after_li
 ghost use Rattle.std.specs.Option.{option_copied, option_to_list};
 
 mod held;
+mod search;
 
 use crate::{Failed, Source};
-use held::{find_bytes, find_line, find_whole, put_behind, take_bytes, take_line};
+use held::{find_bytes, find_line, put_behind, take_bytes, take_line};
+use search::find_whole;
 use std::alloc::{AllocError, Global};
 use std::marker::Model;
 

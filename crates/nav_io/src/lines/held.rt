@@ -1,89 +1,14 @@
 //! The bytes that a line reader holds: taking more of the source, and lending a line.
-ghost use Rattle.std.specs.Prelude.{◌≡◌, ◌≢◌, ◌+◌, ◌<◌, ◌≤◌, ℕ, List, ◌++◌, length, vec_len, take, drop, IfOk, IfErr, OnOk, OnErr, MatchOption, ◌⊎◌, true, false};
+ghost use Rattle.std.specs.Prelude.{◌≡◌, ◌≢◌, ◌+◌, ◌<◌, ◌≤◌, ℕ, List, ◌++◌, length, vec_len, drop, IfOk, IfErr, OnOk, OnErr, MatchOption, ◌⊎◌, true, false};
 ghost use Rattle.std.specs.Io.KnownBytes.{prepend_known, IsAtEnd};
-ghost use Rattle.std.specs.List.{position};
 ghost use Rattle.std.specs.Option.{option_copied};
 ghost use Rattle.nav_io.specs.Faults.{HasRisen};
-ghost use Rattle.nav_io.specs.Lines.{line_max, line_len, line_at_front, after_line, is_newline};
+ghost use Rattle.nav_io.specs.Lines.{line_max, line_len, line_at_front, after_line};
 ghost use Rattle.nav_io.specs.Reading.{is_whole, has_bytes, bytes_at_front};
-ghost use Rattle.nav_io.specs.Search.{FindsNewline};
 
-use super::{CHUNK, LINE_MAX, LineError, NoMemory, TooLong};
+use super::search::{find_newline, newline_after, within_limit};
+use super::{CHUNK, LINE_MAX, LineError, NoMemory};
 use crate::Source;
-
-fn newline_in(bytes: &[u8]) -> Option<usize>
-    ensures { result ≡ position is_newline bytes.now }
-{
-    bytes.iter().position(|byte| *byte == b'\n')
-}
-
-/// How many bytes stand between `from` and the first newline after it, if there is one.
-#[tactic(auto, using(crate::proofs::Cuts::line_ends))]
-fn newline_after(held: &Vec<u8>, from: usize) -> Option<usize>
-    requires { from ≤ vec_len held.now }
-    ensures { FindsNewline result (drop from held.now.items) }
-{
-    newline_in(&held[from..])
-}
-
-/// Where the first newline stands from `start` on, if there is one. The first `searched` bytes from there are known to be
-/// none and aren't searched again, so that a line which comes in many pieces costs time in its length.
-fn find_newline(held: &Vec<u8>, start: usize, searched: &mut usize) -> Option<usize>
-    requires within { start ≤ vec_len held.now }
-    requires searched { searched.old ≤ line_len (drop start held.now.items) }
-    ensures found { FindsNewline result (drop start held.now.items) }
-    ensures searched { searched.new ≤ line_len (drop start held.now.items) }
-{
-    match newline_after(held, start + *searched) {
-        Some(n) => {
-            *searched += n;
-            Some(*searched)
-        }
-        None => {
-            *searched = held.len() - start;
-            None
-        }
-    }
-}
-
-/// A line of this many bytes, if that is within the limit, `LINE_MAX` included.
-fn within_limit(len: usize) -> Result<usize, TooLong>
-    ensures ok { IfOk result (λ n. (n ≡ len) × (n ≤ line_max)) }
-    ensures err { OnErr result (line_max < len) }
-{
-    if len > LINE_MAX {
-        return Err(TooLong);
-    }
-    Ok(len)
-}
-
-/// The length of the first line from `start` on, if it is whole. One that isn't is refused too once more bytes are there
-/// than a line may have, so that a caller can stop there.
-pub(super) fn find_whole(
-    held: &Vec<u8>,
-    start: usize,
-    searched: &mut usize,
-    ended: bool,
-) -> Result<Option<usize>, TooLong>
-    requires within { start ≤ vec_len held.now }
-    requires searched { searched.old ≤ line_len (drop start held.now.items) }
-    ensures searched { searched.new ≤ line_len (drop start held.now.items) }
-    ensures found { IfOk result (λ found. MatchOption found
-        (is_whole (record { front = drop start held.now.items; ended = ended }) ≡ false)
-        (λ n. (is_whole (record { front = drop start held.now.items; ended = ended }) ≡ true)
-        × (line_len (drop start held.now.items) ≡ n))) }
-    ensures short { OnOk result (line_len (drop start held.now.items) ≤ line_max) }
-    ensures too_long { OnErr result (line_max < line_len (drop start held.now.items)) }
-{
-    if let Some(len) = find_newline(held, start, searched) {
-        return Ok(Some(within_limit(len)?));
-    }
-    let len = within_limit(held.len() - start)?;
-    if ended {
-        return Ok(Some(len));
-    }
-    Ok(None)
-}
 
 /// Lets go of the bytes before `start`. Where they are more than those behind, as after a long line, it takes time that
 /// follows the number of those behind: std's `drain` turns all that is held round.

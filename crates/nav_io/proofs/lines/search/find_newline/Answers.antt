@@ -1,7 +1,7 @@
 -- The search begins behind bytes that are known to be no newline.
 use Rattle.std.proofs.Common.{arith, ◌+◌, length-drop}
 use Rattle.nav_io.proofs.Cuts.{line_len-searched, searched-within}
-use Rattle.nav_io.proofs.lines.held.find_newline.Goals as goal
+use Rattle.nav_io.proofs.lines.search.find_newline.Goals as goal
 
 pub overflow_add-start : goal.overflow_add-start
 overflow_add-start c = omega (arith, searched-within c.args.searched.now c.args.start c.args.held.now.items (omega (arith, c.requires.within, c.args.held.now.ok.0)) c.requires.searched, c.args.held.now.ok)
