@@ -1,13 +1,15 @@
-//! Values of JSON: the value that bytes are, whole numbers in a range, and objects that have no
-//! member but those of a form.
+//! Values of JSON: the value that bytes are, whole numbers in a range, strings taken and printed, and objects that have
+//! no member but those of a form.
 #![tactic(auto)]
 
 mod forms;
 mod lists;
 mod numbers;
 mod parsing;
+mod strings;
 
 pub use forms::{Form, has_only, other_member};
 pub use lists::{into_items, items};
 pub use numbers::{number, u16_of, u32_of};
 pub use parsing::{JsonFault, parse};
+pub use strings::{into_string, quoted_text};

@@ -1,10 +1,9 @@
 //! Which documents of an editor are modules of the project.
-ghost use Rattle.std.specs.Prelude.{◌≡◌, nat_le, IfOk, None, Some, if◌then◌else◌};
-ghost use Rattle.std.specs.List.{list_all, slice_split};
-ghost use Rattle.nav_proto.specs.Texts.{has_bytes, is_slash, is_part, is_path};
+ghost use Rattle.std.specs.Prelude.{◌≡◌, IfOk, None, Some, if◌then◌else◌};
 ghost use Rattle.lsp_answers.specs.Documents.{module_path, names_module, path_under};
 
 use lsp_wire::{inside, path_of_uri};
+use nav_proto::is_path;
 use std::alloc::{AllocError, Global};
 use std::str;
 use version_tree::PathText;
@@ -48,36 +47,4 @@ fn names_module(text: &str) -> bool
     ensures { result ≡ names_module text.now }
 {
     is_path(text) && text.as_bytes().ends_with(b".py")
-}
-
-/// Whether the text is a path as requests have them.
-#[tactic(auto, unfolding(nav_proto::specs::Texts::is_path))]
-fn is_path(text: &str) -> bool
-    ensures { result ≡ is_path text.now }
-{
-    has_bytes(text, 512) && has_no_control(text.as_bytes()) && has_parts(text.as_bytes())
-}
-
-fn has_bytes(text: &str, most: usize) -> bool
-    ensures { result ≡ has_bytes most text.now }
-{
-    1 <= text.len() && text.len() <= most
-}
-
-fn has_no_control(text: &[u8]) -> bool
-    ensures { result ≡ list_all (nat_le 32) text.now }
-{
-    text.iter().all(|byte| 32 <= *byte)
-}
-
-fn has_parts(text: &[u8]) -> bool
-    ensures { result ≡ list_all is_part (slice_split is_slash text.now) }
-{
-    text.split(|byte| *byte == b'/').all(|part| is_part(part))
-}
-
-fn is_part(part: &[u8]) -> bool
-    ensures { result ≡ is_part part.now }
-{
-    !(part.is_empty() || part == b".".as_slice() || part == b"..".as_slice())
 }

@@ -5,17 +5,17 @@ ghost use Rattle.serde_json.specs.View.{view};
 ghost use Rattle.lsp_wire.specs.Members.{member, i32_of, id_of, position_of, uri_in};
 
 use crate::{Id, Position, Text};
-use json_values::u32_of;
+use json_values::{into_string, u32_of};
 use serde_json::Value;
 use std::alloc::{AllocError, Global};
 
-/// The string of this value, whose bytes aren't copied.
-fn string_of(v: Value) -> Option<Text>
+/// The text of this value, whose bytes aren't copied.
+fn text_of(v: Value) -> Option<Text>
     ensures { result ≡ as_str (view v) }
 {
-    match v {
-        Value::String(text) => Some(Text::from_string(text)),
-        _ => None,
+    match into_string(v) {
+        Some(text) => Some(Text::from_string(text)),
+        None => None,
     }
 }
 
@@ -35,7 +35,7 @@ pub(crate) fn take_text(v: Value, name: &str) -> Option<Text>
 {
     let mut v = v;
     match take_member(&mut v, name) {
-        Some(found) => string_of(found),
+        Some(found) => text_of(found),
         None => None,
     }
 }

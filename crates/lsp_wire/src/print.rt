@@ -1,10 +1,9 @@
 //! The text of a reply.
 ghost use Rattle.std.specs.Prelude.{◌≡◌, string_bytes, IfOk};
-ghost use Rattle.json.specs.Print.{quoted};
 ghost use Rattle.lsp_wire.specs.Replies.{id_text, refusal_text, position_text, location_text, locations_text, capabilities_text, result_text, list_text, error_text, outcome_text, reply_text};
 
 use crate::{Id, Location, Outcome, Position, Refusal, Reply};
-use serde_json::Value;
+use json_values::quoted_text;
 use std::alloc::{AllocError, Global};
 
 /// The text of the reply, the body of a frame; the one error is want of memory. Its time follows the text's length.
@@ -115,11 +114,4 @@ fn position_text(alloc: Global, position: Position) -> Result<String, AllocError
 {
     let Position { line, character } = position;
     format!(in alloc; "{{\"character\":{character},\"line\":{line}}}")
-}
-
-/// The text as a JSON string.
-fn quoted_text(alloc: Global, text: &str) -> Result<String, AllocError>
-    ensures { IfOk result (λ s. string_bytes s ≡ quoted text.now) }
-{
-    Value::String(String::from_str(alloc, text)?).to_string(alloc)
 }

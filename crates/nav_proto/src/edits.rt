@@ -7,20 +7,10 @@ ghost use Rattle.nav_proto.specs.Edits.{path_in, put_of, remove_of, edit_of, all
 use crate::members::{Form, other};
 use crate::pieces::is_path;
 use crate::{DocText, Edits, FileEdit};
-use json_values::into_items;
+use json_values::{into_items, into_string};
 use serde_json::Value;
 use std::alloc::{AllocError, Global};
 use version_tree::PathText;
-
-/// The string of this value, whose bytes aren't copied.
-fn string_of(v: Value) -> Option<String>
-    ensures { option_map string_bytes result ≡ as_str (view v) }
-{
-    match v {
-        Value::String(text) => Some(text),
-        _ => None,
-    }
-}
 
 /// The string that is the member of this name. It is moved out, and leaves the member without it, so that a document's
 /// text isn't copied.
@@ -28,7 +18,7 @@ fn take_string(v: &mut Value, name: &str) -> Option<String>
     ensures { option_map string_bytes result ≡ option_and_then as_str (get name.now (view v.old)) }
 {
     match v.get_mut(name) {
-        Some(found) => string_of(found.take()),
+        Some(found) => into_string(found.take()),
         None => None,
     }
 }

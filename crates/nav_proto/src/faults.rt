@@ -1,8 +1,8 @@
 ghost use Rattle.std.specs.Prelude.{◌≡◌, string_bytes, IfOk};
 ghost use Rattle.nav_proto.specs.Faults.{fault_alone, number_first, number_inside, number_last, part_text, bad_file_text};
 
-use crate::print::quoted_text;
 use crate::reply::{FileError, ShapePart};
+use json_values::quoted_text;
 use std::alloc::{AllocError, Global};
 
 /// The reply on a bad file. Members stand in the order of their names' bytes, so a number's place hangs on its name.

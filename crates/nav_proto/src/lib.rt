@@ -18,6 +18,7 @@ mod words;
 
 pub use lines::{read_node, read_request};
 pub use partial_path::Bounds;
+pub use pieces::is_path;
 pub use print::print_reply;
 pub use proto_fault::ProtoFault;
 pub use reply::{FileError, PlainError, Reply, ShapePart};

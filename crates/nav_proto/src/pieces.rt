@@ -44,7 +44,7 @@ fn has_no_control(text: &[u8]) -> bool
 /// Whether the text is a path as requests have them: 1 to 512 bytes, none of them below 32, and no part between slashes that
 /// is empty, `.` or `..` (`docs/FORMATS.md`). It takes time that follows the length of the text.
 #[tactic(auto, unfolding(crate::specs::Texts::is_path))]
-pub(crate) fn is_path(text: &str) -> bool
+pub fn is_path(text: &str) -> bool
     ensures { result ≡ is_path text.now }
 {
     has_bytes(text, 512) && has_no_control(text.as_bytes()) && has_parts(text.as_bytes())

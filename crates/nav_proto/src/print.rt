@@ -1,11 +1,10 @@
 ghost use Rattle.std.specs.Prelude.{◌≡◌, string_bytes, IfOk};
-ghost use Rattle.json.specs.Print.{quoted};
 ghost use Rattle.nav_proto.specs.Replies.{plain_word, reply_text, IsOneLine};
 
 use crate::faults::bad_file_text;
 use crate::rows::{answer_text, callers_text};
 use crate::{PlainError, Reply, ReplyText};
-use serde_json::Value;
+use json_values::quoted_text;
 use std::alloc::{AllocError, Global};
 
 /// The reply's text, without a newline; the one error is want of memory. Its time follows the text's
@@ -70,11 +69,4 @@ fn plain_word(error: PlainError) -> &'static str
         PlainError::NoDefinition => "no_definition",
         PlainError::Crowded => "crowded",
     }
-}
-
-/// The text as a JSON string.
-pub fn quoted_text(alloc: Global, text: &str) -> Result<String, AllocError>
-    ensures { IfOk result (λ s. string_bytes s ≡ quoted text.now) }
-{
-    Value::String(String::from_str(alloc, text)?).to_string(alloc)
 }

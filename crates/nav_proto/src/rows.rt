@@ -1,8 +1,8 @@
 ghost use Rattle.std.specs.Prelude.{◌≡◌, string_bytes, IfOk};
 ghost use Rattle.nav_proto.specs.Rows.{answer_text, callers_text, rows_text, row_text, span_text};
 
-use crate::print::quoted_text;
 use graph_nodes::Span;
+use json_values::quoted_text;
 use std::alloc::{AllocError, Global};
 use version_tree::{Answer, Row, Rows};
 
