@@ -1,6 +1,5 @@
 ghost use Rattle.std.specs.Prelude.{◌≡◌, codes};
 ghost use Rattle.std.specs.Option.{option_copied};
-ghost use Rattle.graph_nodes.specs.Graph.{is_exported_kind};
 ghost use Rattle.graph_json.specs.Printed.{kind_text, symbol_of};
 
 use graph_nodes::NodeKind;
@@ -16,19 +15,6 @@ pub(crate) fn word(kind: &NodeKind) -> &'static str
         NodeKind::Pop { .. } => "pop",
         NodeKind::PopScoped { .. } => "pop_scoped",
         NodeKind::Drops => "drop",
-    }
-}
-
-pub(crate) fn is_exported(kind: &NodeKind) -> bool
-    ensures { result ≡ is_exported_kind kind.now }
-{
-    match kind {
-        NodeKind::Scope { exported } => *exported,
-        NodeKind::Push { .. }
-        | NodeKind::PushScoped { .. }
-        | NodeKind::Pop { .. }
-        | NodeKind::PopScoped { .. }
-        | NodeKind::Drops => false,
     }
 }
 

@@ -7,7 +7,7 @@ ghost use Rattle.json_values.specs.Numbers.{only_if};
 ghost use Rattle.graph_json.specs.Printed.{number_json, name_text, position_json, place_json, span_json, kind_text, symbol_of, scope_of, node_json, nodes_json, edge_json, edges_json, graph_json};
 ghost use Rattle.graph_json.specs.PrintSteps.{Adds, SpanFits, NodeFits, PlaceFits, EdgeFits, front_tokens, flag_tokens, value_tokens};
 
-use crate::kind::{is_exported, symbol, word};
+use crate::kind::{symbol, word};
 use graph_nodes::{Edge, Node, NodeKind, Place, Span};
 use json::Writer;
 use std::alloc::{AllocError, Global};
@@ -136,7 +136,7 @@ fn put_front(
     ensures { Adds result out.old out.new (front_tokens named n kind.now) }
 {
     put_flag(out, "definition", kind.is_definition())?;
-    put_flag(out, "exported", is_exported(kind))?;
+    put_flag(out, "exported", kind.is_exported())?;
     out.key("kind")?;
     out.string(word(kind))?;
     put_own_name(alloc, out, named, n)

@@ -1,7 +1,7 @@
 ghost use Rattle.std.specs.Prelude.{◌≡◌, ℕ, ◌<◌, ◌≤◌, ◌^◌, length, not, position, slice_get, nat_lt, IfSome, IsSomeAnd, OnSome};
 ghost use Rattle.graph_nodes.specs.declared.node.Node.{Node};
 ghost use Rattle.graph_nodes.specs.declared.node.Edge.{Edge};
-ghost use Rattle.graph_nodes.specs.Graph.{has_place, is_exported_kind, is_exported};
+ghost use Rattle.graph_nodes.specs.Graph.{has_place, is_exported};
 ghost use Rattle.graph_nodes.specs.Checked.{has_ends, is_jump, has_scope, graph_fault};
 
 use crate::fault::GraphFault;
@@ -99,20 +99,7 @@ pub fn is_exported_at(nodes: &[Node], n: usize) -> bool
     ensures { result ≡ is_exported nodes.now n }
 {
     match nodes.get(n) {
-        Some(node) => is_exported_scope(&node.kind),
+        Some(node) => node.kind.is_exported(),
         None => false,
-    }
-}
-
-fn is_exported_scope(kind: &NodeKind) -> bool
-    ensures { result ≡ is_exported_kind kind.now }
-{
-    match kind {
-        NodeKind::Scope { exported } => *exported,
-        NodeKind::Push { .. }
-        | NodeKind::PushScoped { .. }
-        | NodeKind::Pop { .. }
-        | NodeKind::PopScoped { .. }
-        | NodeKind::Drops => false,
     }
 }

@@ -133,7 +133,21 @@ pub enum NodeKind {
 
 impl NodeKind {
     ghost use Rattle.std.specs.Prelude.{◌≡◌};
-    ghost use Rattle.graph_nodes.specs.Graph.{is_reference_kind, is_definition_kind};
+    ghost use Rattle.graph_nodes.specs.Graph.{is_exported_kind, is_reference_kind, is_definition_kind};
+
+    /// Whether a node of this kind is an exported scope, which a push_scoped node may attach and where paths are cut.
+    pub fn is_exported(&self) -> bool
+        ensures { result ≡ is_exported_kind self.now }
+    {
+        match self {
+            NodeKind::Scope { exported } => *exported,
+            NodeKind::Push { .. }
+            | NodeKind::PushScoped { .. }
+            | NodeKind::Pop { .. }
+            | NodeKind::PopScoped { .. }
+            | NodeKind::Drops => false,
+        }
+    }
 
     /// Whether a node of this kind is a reference, where a search may start.
     pub fn is_reference(&self) -> bool
