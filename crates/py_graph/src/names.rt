@@ -5,6 +5,7 @@ ghost use Rattle.std.specs.List.{slice_split, list_all};
 ghost use Rattle.py_subset.specs.Pieces as byte;
 ghost use Rattle.py_graph.specs.Names as spec;
 
+use py_subset::{begins_name, is_in_name};
 use std::alloc::{AllocError, Global};
 
 /// The keywords of Python, all 35: also those that `py_subset` leaves out are no names of modules.
@@ -19,19 +20,6 @@ fn is_keyword(name: &str) -> bool
     ensures { result ≡ spec.is_keyword name.now }
 {
     KEYWORDS.contains(&name)
-}
-
-/// Whether the byte is an ASCII letter or `_`.
-fn begins_name(b: u8) -> bool
-    ensures { result ≡ byte.begins_name b }
-{
-    b.is_ascii_alphabetic() || b == b'_'
-}
-
-fn is_in_name(b: u8) -> bool
-    ensures { result ≡ byte.is_in_name b }
-{
-    begins_name(b) || b.is_ascii_digit()
 }
 
 fn are_in_name(bytes: &[u8]) -> bool

@@ -25,7 +25,7 @@ pub fn begins_name(b: u8) -> bool
 }
 
 /// Whether the byte is an ASCII letter, a digit or `_`, with which a name may go on.
-fn is_in_name(b: u8) -> bool
+pub fn is_in_name(b: u8) -> bool
     ensures { result ≡ spec.is_in_name b }
 {
     begins_name(b) || is_digit(b)

@@ -24,6 +24,7 @@ mod token_list;
 mod tree;
 mod whole;
 
+pub use bytes::{begins_name, is_in_name};
 pub use items::Items;
 pub use laws::{lookahead_reads_texts, texts_are_read_once};
 pub use piece::{Bracket, Flaw, Piece, PieceKind};
