@@ -133,7 +133,7 @@ fn suite(alloc: Global, draft: &mut Draft, c: &Frame, body: &[Stmt]) -> Result<(
 /// Conditions and their blocks, in text order: any of them may be the one that runs.
 #[tactic(auto, using(crate::proofs::Sound::standing))]
 #[cycle(stmts)]
-fn arms(alloc: Global, draft: &mut Draft, c: &Frame, arms: &[Arm]) -> Result<(), Stop>
+fn all_arms(alloc: Global, draft: &mut Draft, c: &Frame, arms: &[Arm]) -> Result<(), Stop>
     requires c { IsInside draft.old c.now }
     ensures gives { Gives result draft.new (blocks.suite (map row.arm arms.now) c.now draft.old) }
     ensures grows { Grows draft.old draft.new }
@@ -201,11 +201,8 @@ fn stmt(alloc: Global, draft: &mut Draft, c: &Frame, s: &Stmt) -> Result<(), Sto
         Stmt::Evaluate(es) => evaluate(alloc, draft, c, es),
         Stmt::Return(e) => return_row(alloc, draft, c, e),
         Stmt::Pass | Stmt::Break | Stmt::Continue => Ok(()),
-        Stmt::If {
-            arms: parts,
-            otherwise,
-        } => {
-            arms(alloc, draft, c, parts.items())?;
+        Stmt::If { arms, otherwise } => {
+            all_arms(alloc, draft, c, arms.items())?;
             suite(alloc, draft, c, otherwise.items())
         }
         Stmt::While {

@@ -11,5 +11,5 @@ invariant-block-loop-j l = (blocks.block (1 + l.j) (map row.stmt (drop l.j l.bod
 abbrev pub invariant-suite-loop-s : goal.invariant-suite-loop-s
 invariant-suite-loop-s l = (blocks.suite (map row.stmt (drop l.s-index l.body)) l.c l.draft ≡ blocks.suite (map row.stmt l.body) l.c l.fn.draft) × Grows l.fn.draft l.draft
 
-abbrev pub invariant-arms-loop-a : goal.invariant-arms-loop-a
-invariant-arms-loop-a l = (blocks.suite (map row.arm (drop l.a-index l.arms)) l.c l.draft ≡ blocks.suite (map row.arm l.arms) l.c l.fn.draft) × Grows l.fn.draft l.draft
+abbrev pub invariant-all_arms-loop-a : goal.invariant-all_arms-loop-a
+invariant-all_arms-loop-a l = (blocks.suite (map row.arm (drop l.a-index l.arms)) l.c l.draft ≡ blocks.suite (map row.arm l.arms) l.c l.fn.draft) × Grows l.fn.draft l.draft
