@@ -4,6 +4,8 @@ use Rattle.std.specs.Io.KnownBytes.{prepend_known, IsAtEnd}
 use Rattle.std.specs.Option.{option_map}
 use Rattle.lsp_frames.specs.Blocks.{block_len, lines_from, only_one, stated_length}
 use Rattle.nav_io.specs.Reading.{Reading}
+use Rattle.nav_io.specs.declared.taking.TakeError.{TakeError}
+use Rattle.nav_io.specs.declared.taking.TakeError.TheVariants.{ReadFault as take_fault, NoMemory as take_memory}
 use Rattle.lsp_frames.specs.Frames.{body_max, Malformed, Large, cut, is_short, body_of}
 use Rattle.lsp_frames.specs.declared.reader.FrameError.{FrameError}
 use Rattle.lsp_frames.specs.declared.reader.FrameError.TheVariants.{ReadFault, Broken, TooLong, NoMemory}
@@ -12,6 +14,11 @@ use Rattle.lsp_frames.specs.declared.lengths.Stated.TheVariants as stated
 use Rattle.lsp_frames.specs.declared.front.Front.{Front}
 use Rattle.lsp_frames.specs.declared.front.Front.TheVariants as front
 use Rattle.lsp_frames.specs.declared.front.Place.{Place}
+
+-- the error of a frame reader after an error of taking bytes
+abbrev pub frame_error_of : TakeError → FrameError
+frame_error_of take_fault = ReadFault
+frame_error_of take_memory = NoMemory
 
 -- the one length that a line states
 abbrev pub States : Stated → Option ℕ → Type 0

@@ -1,5 +1,5 @@
-//! The bytes that a frame reader holds: taking more of the source, and lending a body.
-ghost use Rattle.std.specs.Prelude.{◌≡◌, ◌≢◌, ◌<◌, ◌≤◌, ℕ, List, ◌++◌, length, vec_len, take, drop, IfOk, IfSome, OnOk, OnErr, IfErr, Ok, Err, true, false};
+//! The bytes that a frame reader holds: taking what is wanting of a frame, and lending its body.
+ghost use Rattle.std.specs.Prelude.{◌≡◌, ◌≢◌, ◌<◌, ◌≤◌, length, vec_len, drop, IfOk, IfSome, OnOk, OnErr, Ok, Err, true, false};
 ghost use Rattle.std.specs.Io.KnownBytes.{prepend_known, IsAtEnd};
 ghost use Rattle.std.specs.Option.{option_copied};
 ghost use Rattle.nav_io.specs.Faults.{HasRisen};
@@ -8,72 +8,8 @@ ghost use Rattle.lsp_frames.specs.Reading.{is_settled};
 ghost use Rattle.lsp_frames.specs.Inside.{IsFront, IsPlaceOf, FindsFront, FindsFrame, body_at, behind};
 
 use crate::front::{Front, Place, front_of};
-use crate::reader::{CHUNK, FrameError};
-use nav_io::Source;
-
-/// Lets go of the bytes before `start`, those of the frames that were answered.
-fn compact(held: &mut Vec<u8>, start: &mut usize)
-    requires { start.old ≤ vec_len held.old }
-    ensures items { held.new.items ≡ drop start.old held.old.items }
-    ensures start { start.new ≡ 0 }
-{
-    held.drain(..*start);
-    *start = 0;
-}
-
-/// Takes one chunk of the source behind what is held, and answers its length, which is 0 at the end of input alone.
-fn take_chunk<S: Source>(
-    held: &mut Vec<u8>,
-    chunk: &mut [u8],
-    source: &mut S,
-) -> Result<usize, FrameError>
-    requires { CHUNK ≤ length chunk.old }
-    ensures ok { IfOk result (λ n. (taken : List ℕ) × (length taken ≡ n)
-        × (held.new.items ≡ held.old.items ++ taken)
-        × (S.left source.old ≡ prepend_known taken (S.left source.new))) }
-    ensures end { IfOk result (λ n. n ≡ 0 → IsAtEnd (S.left source.new)) }
-    ensures err { OnErr result
-        ((held.new.items ≡ held.old.items) × (S.left source.new ≡ S.left source.old)) }
-    ensures kind { result ≢ Err FrameError.Broken × result ≢ Err FrameError.TooLong }
-
-    ensures count { S.faults source.old ≤ S.faults source.new }
-    ensures cause { result ≡ Err FrameError.ReadFault
-        → HasRisen (S.faults source.old) (S.faults source.new) }
-{
-    // The room comes first: once the source has given bytes, a refusal would lose them.
-    held.reserve(chunk.len())?;
-    let n = source.read(chunk)?;
-    held.extend_from_slice(&chunk[..n]).unwrap();
-    Ok(n)
-}
-
-/// Takes chunks until `n` bytes are held or the source is at its end, and answers whether it is.
-fn fill_to<S: Source>(
-    held: &mut Vec<u8>,
-    chunk: &mut [u8],
-    source: &mut S,
-    n: usize,
-) -> Result<bool, FrameError>
-    requires room { CHUNK ≤ length chunk.old }
-    ensures kept { prepend_known held.new.items (S.left source.new)
-        ≡ prepend_known held.old.items (S.left source.old) }
-    ensures grows { (more : List ℕ) × (held.new.items ≡ held.old.items ++ more) }
-    ensures enough { result ≡ Ok false → n ≤ vec_len held.new }
-    ensures end { result ≡ Ok true → (vec_len held.new < n) × IsAtEnd (S.left source.new) }
-    ensures err { OnErr result (vec_len held.new < n) }
-    ensures kind { result ≢ Err FrameError.Broken × result ≢ Err FrameError.TooLong }
-
-    ensures count { S.faults source.old ≤ S.faults source.new }
-    ensures cause { result ≡ Err FrameError.ReadFault
-        → HasRisen (S.faults source.old) (S.faults source.new) }
-{
-    while held.len() < n {
-        if take_chunk(held, chunk, source)? == 0 {
-            return Ok(true);
-        }
-    }
-    Ok(false)
-}
+use crate::reader::FrameError;
+use nav_io::{CHUNK, Source, let_go, take_until};
 
 /// Takes what is wanting of the first frame, and answers what stands at the front. It asks for as many bytes as are known
 /// to be wanting, so a body that has come in part isn't looked at again for each chunk.
@@ -99,7 +35,7 @@ fn fill<S: Source>(
 {
     while !*ended {
         match front_of(held) {
-            Front::Short(wants) => *ended = fill_to(held, chunk, source, wants)?,
+            Front::Short(wants) => *ended = take_until(held, chunk, source, wants)?,
             front => return Ok(front),
         }
     }
@@ -138,7 +74,7 @@ fn settle<S: Source>(
         return Ok(front);
     }
     // Only now, so that whole frames which came in one chunk are answered without a move.
-    compact(held, start);
+    let_go(held, start);
     fill(held, ended, chunk, source)
 }
 

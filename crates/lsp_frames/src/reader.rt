@@ -4,18 +4,14 @@ ghost use Rattle.std.specs.Option.{option_copied};
 ghost use Rattle.nav_io.specs.Faults.{HasRisen};
 ghost use Rattle.nav_io.specs.Reading.{ahead};
 ghost use Rattle.lsp_frames.specs.Frames.{body_max, cut, body_of};
-ghost use Rattle.lsp_frames.specs.declared.reader.FrameError.TheVariants.{ReadFault, NoMemory};
 
 use crate::held::{find_frame, take_body};
-use nav_io::{Failed, NoMemory, Source};
-use std::alloc::{AllocError, Global};
+use nav_io::{CHUNK, NoMemory, Source, TakeError};
+use std::alloc::Global;
 use std::marker::Model;
 
 /// The most bytes that a body may have.
 pub const BODY_MAX: usize = 8_388_608;
-
-/// How many bytes each read of the source is offered: as many as a pipe holds.
-pub(crate) const CHUNK: usize = 65_536;
 
 /// Why there is no next frame.
 #[derive(Clone, Copy, Debug, PartialEq, Eq)]
@@ -30,19 +26,16 @@ pub enum FrameError {
     NoMemory,
 }
 
-impl From<AllocError> for FrameError {
-    ghost from_gives = { λ _ e. e ≡ NoMemory };
+impl From<TakeError> for FrameError {
+    ghost use Rattle.lsp_frames.specs.Inside.{frame_error_of};
 
-    fn from(_: AllocError) -> Self {
-        FrameError::NoMemory
-    }
-}
+    ghost from_gives = { λ t e. e ≡ frame_error_of t };
 
-impl From<Failed> for FrameError {
-    ghost from_gives = { λ _ e. e ≡ ReadFault };
-
-    fn from(_: Failed) -> Self {
-        FrameError::ReadFault
+    fn from(error: TakeError) -> Self {
+        match error {
+            TakeError::ReadFault => FrameError::ReadFault,
+            TakeError::NoMemory => FrameError::NoMemory,
+        }
     }
 }
 
@@ -61,7 +54,7 @@ pub struct FrameReader {
 impl Model for FrameReader {
     ghost use Rattle.std.specs.Prelude.{◌≤◌, vec_len, drop};
     ghost use Rattle.nav_io.specs.Reading.{Reading};
-    ghost use Rattle.lsp_frames.specs.declared.reader.TheConstants.{CHUNK};
+    ghost use Rattle.nav_io.specs.declared.taking.TheConstants.{CHUNK};
 
     ghost Value = { Reading };
 

@@ -9,3 +9,4 @@ pub mod Doors
 pub mod Reading
 pub mod Over
 pub mod Guard
+pub mod Taking

@@ -10,6 +10,7 @@ mod notices;
 mod sink;
 mod source;
 mod std_io;
+mod taking;
 mod tcp;
 mod write;
 
@@ -22,5 +23,6 @@ pub use notices::{Cut, NoNotices, Notices};
 pub use sink::{Sink, SinkError};
 pub use source::{Failed, Source};
 pub use std_io::{StdSink, StdSource};
+pub use taking::{CHUNK, TakeError, let_go, take_chunk, take_until};
 pub use tcp::{TcpDoor, TcpHouse};
 pub use write::{WriteError, write_all};

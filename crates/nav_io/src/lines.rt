@@ -8,18 +8,15 @@ ghost use Rattle.std.specs.Option.{option_copied, option_to_list};
 mod held;
 mod search;
 
-use crate::{Failed, Source};
+use crate::Source;
+use crate::taking::{CHUNK, TakeError};
 use held::{find_bytes, find_line, put_behind, take_bytes, take_line};
 use search::find_whole;
-use std::alloc::{AllocError, Global};
+use std::alloc::Global;
 use std::marker::Model;
 
 /// The most bytes that a line may have, its newline not counted.
 pub const LINE_MAX: usize = 8_388_608;
-
-/// How many bytes each read of the source is offered: as many as a pipe holds. With fewer, who writes to a full pipe
-/// would be woken for each.
-const CHUNK: usize = 65_536;
 
 /// Why there is no next line, or not as many bytes.
 #[derive(Clone, Copy, Debug, PartialEq, Eq)]
@@ -32,19 +29,16 @@ pub enum LineError {
     NoMemory,
 }
 
-impl From<AllocError> for LineError {
-    ghost from_gives = { λ _ e. e ≡ NoMemory };
+impl From<TakeError> for LineError {
+    ghost use Rattle.nav_io.specs.Taking.{line_error_of};
 
-    fn from(_: AllocError) -> Self {
-        LineError::NoMemory
-    }
-}
+    ghost from_gives = { λ t e. e ≡ line_error_of t };
 
-impl From<Failed> for LineError {
-    ghost from_gives = { λ _ e. e ≡ ReadFault };
-
-    fn from(_: Failed) -> Self {
-        LineError::ReadFault
+    fn from(error: TakeError) -> Self {
+        match error {
+            TakeError::ReadFault => LineError::ReadFault,
+            TakeError::NoMemory => LineError::NoMemory,
+        }
     }
 }
 
@@ -80,7 +74,7 @@ pub struct LineReader {
 
 impl Model for LineReader {
     ghost use Rattle.std.specs.Prelude.{◌≤◌, vec_len, drop};
-    ghost use Rattle.nav_io.specs.declared.lines.TheConstants.{CHUNK};
+    ghost use Rattle.nav_io.specs.declared.taking.TheConstants.{CHUNK};
     ghost use Rattle.nav_io.specs.Lines.{line_len};
     ghost use Rattle.nav_io.specs.Reading.{Reading};
 

@@ -1,5 +1,5 @@
-//! The bytes that a line reader holds: taking more of the source, and lending a line.
-ghost use Rattle.std.specs.Prelude.{◌≡◌, ◌≢◌, ◌+◌, ◌<◌, ◌≤◌, ℕ, List, ◌++◌, length, vec_len, drop, IfOk, IfErr, OnOk, OnErr, MatchOption, ◌⊎◌, true, false};
+//! The bytes that a line reader holds: taking what is wanting of a line, and lending it.
+ghost use Rattle.std.specs.Prelude.{◌≡◌, ◌≢◌, ◌+◌, ◌<◌, ◌≤◌, ◌++◌, length, vec_len, drop, IfOk, IfErr, OnOk, OnErr, MatchOption, ◌⊎◌, true, false};
 ghost use Rattle.std.specs.Io.KnownBytes.{prepend_known, IsAtEnd};
 ghost use Rattle.std.specs.Option.{option_copied};
 ghost use Rattle.nav_io.specs.Faults.{HasRisen};
@@ -7,26 +7,9 @@ ghost use Rattle.nav_io.specs.Lines.{line_max, line_len, line_at_front, after_li
 ghost use Rattle.nav_io.specs.Reading.{is_whole, has_bytes, bytes_at_front};
 
 use super::search::{find_newline, newline_after, within_limit};
-use super::{CHUNK, LINE_MAX, LineError, NoMemory};
+use super::{LINE_MAX, LineError, NoMemory};
 use crate::Source;
-
-/// Lets go of the bytes before `start`. Where they are more than those behind, as after a long line, it takes time that
-/// follows the number of those behind: std's `drain` turns all that is held round.
-fn compact(held: &mut Vec<u8>, start: &mut usize)
-    requires { start.old ≤ vec_len held.old }
-    ensures items { held.new.items ≡ drop start.old held.old.items }
-    ensures start { start.new ≡ 0 }
-{
-    let left = held.len() - *start;
-    if left <= *start {
-        let (front, back) = held.split_at_mut(*start);
-        front[..left].copy_from_slice(back);
-        held.truncate(left);
-    } else {
-        held.drain(..*start);
-    }
-    *start = 0;
-}
+use crate::taking::{CHUNK, let_go, take_chunk, take_until};
 
 /// Lets go of the bytes before `start` where they are more than half, so that all calls together move no more
 /// bytes than they let go.
@@ -36,7 +19,7 @@ fn compact_large(held: &mut Vec<u8>, start: &mut usize)
     ensures same { drop start.new held.new.items ≡ drop start.old held.old.items }
 {
     if *start > held.len() / 2 {
-        compact(held, start);
+        let_go(held, start);
     }
 }
 
@@ -57,32 +40,6 @@ pub(super) fn put_behind(
         Ok(()) => Ok(()),
         Err(_) => Err(NoMemory),
     }
-}
-
-/// Takes one chunk of the source behind what is held, and answers its length, which is 0 at the end of input alone.
-fn take_chunk<S: Source>(
-    held: &mut Vec<u8>,
-    chunk: &mut [u8],
-    source: &mut S,
-) -> Result<usize, LineError>
-    requires { CHUNK ≤ length chunk.old }
-    ensures ok { IfOk result (λ n. (taken : List ℕ) × (length taken ≡ n)
-        × (held.new.items ≡ held.old.items ++ taken)
-        × (S.left source.old ≡ prepend_known taken (S.left source.new))) }
-    ensures end { IfOk result (λ n. n ≡ 0 → IsAtEnd (S.left source.new)) }
-    ensures err { OnErr result
-        ((held.new.items ≡ held.old.items) × (S.left source.new ≡ S.left source.old)) }
-
-    ensures count { S.faults source.old ≤ S.faults source.new }
-    ensures cause { result ≡ Err LineError.ReadFault
-        → HasRisen (S.faults source.old) (S.faults source.new) }
-    ensures long { result ≢ Err LineError.TooLong }
-{
-    // The room comes first: once the source has given bytes, a refusal would lose them.
-    held.reserve(chunk.len())?;
-    let n = source.read(chunk)?;
-    held.extend_from_slice(&chunk[..n]).unwrap();
-    Ok(n)
 }
 
 /// Takes chunks until a newline is held or the source is at its end, and answers the length of the first line. It takes
@@ -157,7 +114,7 @@ pub(super) fn find_line<S: Source>(
         return Ok(within_limit(len)?);
     }
     // Room is taken for what is unanswered alone, and behind a line that was answered there is mostly little.
-    compact(held, start);
+    let_go(held, start);
     if *ended {
         return Ok(within_limit(held.len())?);
     }
@@ -183,33 +140,6 @@ pub(super) fn take_line<'a>(held: &'a [u8], start: &mut usize, len: usize) -> Op
     let end = from + len;
     *start = held.len().min(end.saturating_add(1));
     Some(&held[from..end])
-}
-
-/// Takes chunks until `n` bytes are held or the source is at its end, and answers whether it is.
-fn fill_to<S: Source>(
-    held: &mut Vec<u8>,
-    chunk: &mut [u8],
-    source: &mut S,
-    n: usize,
-) -> Result<bool, LineError>
-    requires room { CHUNK ≤ length chunk.old }
-    ensures kept { prepend_known held.new.items (S.left source.new)
-        ≡ prepend_known held.old.items (S.left source.old) }
-    ensures enough { result ≡ Ok false → n ≤ vec_len held.new }
-    ensures end { result ≡ Ok true → (vec_len held.new < n) × IsAtEnd (S.left source.new) }
-    ensures err { OnErr result (vec_len held.new < n) }
-    ensures not_long { result ≢ Err LineError.TooLong }
-
-    ensures count { S.faults source.old ≤ S.faults source.new }
-    ensures cause { result ≡ Err LineError.ReadFault
-        → HasRisen (S.faults source.old) (S.faults source.new) }
-{
-    while held.len() < n {
-        if take_chunk(held, chunk, source)? == 0 {
-            return Ok(true);
-        }
-    }
-    Ok(false)
 }
 
 /// Takes what is wanting of `n` bytes. Past the end of input the source isn't asked, as in `find_line`.
@@ -246,8 +176,8 @@ pub(super) fn find_bytes<S: Source>(
     if *ended || held.len() - *start >= n {
         return Ok(());
     }
-    compact(held, start);
-    *ended = fill_to(held, chunk, source, n)?;
+    let_go(held, start);
+    *ended = take_until(held, chunk, source, n)?;
     Ok(())
 }
 

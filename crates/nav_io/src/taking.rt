@@ -1,0 +1,110 @@
+//! Taking the bytes of a source behind those that are held, for readers that cut an input into lines or frames. What is
+//! held is a vector, of which the bytes before a place are answered.
+ghost use Rattle.std.specs.Prelude.{◌≡◌, ◌<◌, ◌≤◌, ℕ, List, ◌++◌, length, vec_len, drop, IfOk, OnErr, true, false};
+ghost use Rattle.std.specs.Io.KnownBytes.{prepend_known, IsAtEnd};
+ghost use Rattle.nav_io.specs.declared.taking.TakeError.TheVariants.{ReadFault, NoMemory};
+ghost use Rattle.nav_io.specs.Faults.{HasRisen};
+
+use crate::{Failed, Source};
+use std::alloc::AllocError;
+
+/// How many bytes each read of the source is offered: as many as a pipe holds. With fewer, who writes to a full pipe
+/// would be woken for each.
+pub const CHUNK: usize = 65_536;
+
+/// Why no bytes were taken.
+#[derive(Clone, Copy, Debug, PartialEq, Eq)]
+pub enum TakeError {
+    /// The source failed; its count of faults rose.
+    ReadFault,
+    /// Memory was wanting.
+    NoMemory,
+}
+
+impl From<AllocError> for TakeError {
+    ghost from_gives = { λ _ e. e ≡ NoMemory };
+
+    fn from(_: AllocError) -> Self {
+        TakeError::NoMemory
+    }
+}
+
+impl From<Failed> for TakeError {
+    ghost from_gives = { λ _ e. e ≡ ReadFault };
+
+    fn from(_: Failed) -> Self {
+        TakeError::ReadFault
+    }
+}
+
+/// Lets go of the bytes before `start`. Where they are more than those behind, as after a long line, it takes time that
+/// follows the number of those behind: std's `drain` turns all that is held round.
+pub fn let_go(held: &mut Vec<u8>, start: &mut usize)
+    requires { start.old ≤ vec_len held.old }
+    ensures items { held.new.items ≡ drop start.old held.old.items }
+    ensures start { start.new ≡ 0 }
+{
+    let left = held.len() - *start;
+    if left <= *start {
+        let (front, back) = held.split_at_mut(*start);
+        front[..left].copy_from_slice(back);
+        held.truncate(left);
+    } else {
+        held.drain(..*start);
+    }
+    *start = 0;
+}
+
+/// Takes one chunk of the source behind what is held, and answers its length, which is 0 at the end of input alone.
+/// An error changes nothing.
+pub fn take_chunk<S: Source>(
+    held: &mut Vec<u8>,
+    chunk: &mut [u8],
+    source: &mut S,
+) -> Result<usize, TakeError>
+    requires { CHUNK ≤ length chunk.old }
+    ensures ok { IfOk result (λ n. (taken : List ℕ) × (length taken ≡ n)
+        × (held.new.items ≡ held.old.items ++ taken)
+        × (S.left source.old ≡ prepend_known taken (S.left source.new))) }
+    ensures end { IfOk result (λ n. n ≡ 0 → IsAtEnd (S.left source.new)) }
+    ensures err { OnErr result
+        ((held.new.items ≡ held.old.items) × (S.left source.new ≡ S.left source.old)) }
+
+    ensures count { S.faults source.old ≤ S.faults source.new }
+    ensures cause { result ≡ Err TakeError.ReadFault
+        → HasRisen (S.faults source.old) (S.faults source.new) }
+{
+    // The room comes first: once the source has given bytes, a refusal would lose them.
+    held.reserve(chunk.len())?;
+    let n = source.read(chunk)?;
+    held.extend_from_slice(&chunk[..n]).unwrap();
+    Ok(n)
+}
+
+/// Takes chunks until `n` bytes are held or the source is at its end, and answers whether it is. After an error what came
+/// before it is held.
+pub fn take_until<S: Source>(
+    held: &mut Vec<u8>,
+    chunk: &mut [u8],
+    source: &mut S,
+    n: usize,
+) -> Result<bool, TakeError>
+    requires room { CHUNK ≤ length chunk.old }
+    ensures kept { prepend_known held.new.items (S.left source.new)
+        ≡ prepend_known held.old.items (S.left source.old) }
+    ensures enough { result ≡ Ok false → n ≤ vec_len held.new }
+    ensures end { result ≡ Ok true → (vec_len held.new < n) × IsAtEnd (S.left source.new) }
+    ensures err { OnErr result (vec_len held.new < n) }
+    ensures grows { (more : List ℕ) × (held.new.items ≡ held.old.items ++ more) }
+
+    ensures count { S.faults source.old ≤ S.faults source.new }
+    ensures cause { result ≡ Err TakeError.ReadFault
+        → HasRisen (S.faults source.old) (S.faults source.new) }
+{
+    while held.len() < n {
+        if take_chunk(held, chunk, source)? == 0 {
+            return Ok(true);
+        }
+    }
+    Ok(false)
+}
