@@ -3,14 +3,14 @@ ghost use Rattle.partial_path.specs.Apply.{apply};
 ghost use Rattle.partial_path.specs.FileNumbers.{IsOfFileZero};
 ghost use Rattle.partial_path.specs.Moved.{moved};
 
-use partial_path::{Config, PartialPath, file_zero_moves};
+use partial_path::{Config, StoredPath, file_zero_moves};
 use std::alloc::{AllocError, Global};
 
 /// What a path of file 0 alone gives applied to the configuration; None where it gives nothing. The one
 /// error is want of memory.
 pub fn apply_inside(
     alloc: Global,
-    path: &PartialPath,
+    path: &StoredPath<'_>,
     at: &Config,
 ) -> Result<Option<Config>, AllocError>
     requires { IsOfFileZero path.now }

@@ -3,7 +3,7 @@ ghost use Rattle.root_index.specs.Roots.{IsIndexOf};
 
 use crate::paths::paths_of;
 use aux_graph_text::stacks_of;
-use partial_path::{PartialPath, Spot, Start};
+use partial_path::{Spot, Start, StoredPath};
 use root_index::RootIndex;
 use stacks_vars::SymbolStack;
 use std::alloc::Global;
@@ -82,8 +82,8 @@ fn edits_of(alloc: Global, line: &str) -> Result<Vec<Edit>, Fail> {
 
 /// A path that is offered, by its file's number in the view and by how many symbols it asks for, and how
 /// many edges it stands for.
-fn told(file: u32, path: &PartialPath) -> (u32, usize, usize) {
-    (file, path.pre().symbols.len(), path.edges().len())
+fn told(file: u32, path: &StoredPath<'_>) -> (u32, usize, usize) {
+    (file, path.asked().len(), path.edge_numbers().len())
 }
 
 /// What the index offers to the user and the stack, by file.
@@ -104,15 +104,15 @@ fn offered(
             break;
         };
         at = next.2;
-        found.push(told(next.0, next.1))?;
+        found.push(told(next.0, &next.1))?;
     }
     found.sort_unstable();
     Ok(found)
 }
 
 /// Whether the texts of the first six symbols that the path asks for are those of the stack's first ones.
-fn stands_first(path: &PartialPath, symbols: &SymbolStack) -> bool {
-    let asked = path.pre().symbols.items();
+fn stands_first(path: &StoredPath<'_>, symbols: &SymbolStack) -> bool {
+    let asked = path.asked();
     let items = symbols.reversed();
     for i in 0..asked.len().min(6) {
         if i >= items.len() {
@@ -135,9 +135,11 @@ fn filtered(
     let view = version.view(alloc, user)?;
     let mut found = Vec::new(alloc);
     for file in 0..view.row_count() {
-        for path in view.paths(file).get().paths() {
-            if path.start() == Start::After(Spot::Root) && stands_first(path, symbols) {
-                found.push(told(file, path))?;
+        let paths = view.paths(file).get().paths();
+        for place in 0..paths.len() {
+            let path = paths.at(place);
+            if path.start() == Start::After(Spot::Root) && stands_first(&path, symbols) {
+                found.push(told(file, &path))?;
             }
         }
     }

@@ -3,11 +3,11 @@ ghost use Rattle.std.specs.Prelude.{◌≡◌, []};
 
 use graph_nodes::{FileGraph, Node, NodeKind};
 use partial_path::{FilePaths, SharedPaths, no_edges_no_walks};
-use std::alloc::Global;
+use std::alloc::{AllocError, Global};
 use std::test::Fail;
 
-/// The file of this graph, which has no edges.
-fn without_edges(alloc: Global, graph: FileGraph) -> FilePaths
+/// The file of this graph, which has no edges. The one error is want of memory.
+fn without_edges(alloc: Global, graph: FileGraph) -> Result<FilePaths, AllocError>
     requires { graph.edges ≡ [] }
 {
     no_edges_no_walks();
@@ -27,7 +27,7 @@ pub(crate) fn paths_of(alloc: Global, count: u32) -> Result<SharedPaths, Fail> {
         return Err(Fail::new("too many nodes"));
     }
     match FileGraph::check(alloc, nodes, Vec::new(alloc)) {
-        Ok(graph) => Ok(SharedPaths::of(alloc, without_edges(alloc, graph))?),
+        Ok(graph) => Ok(SharedPaths::of(alloc, without_edges(alloc, graph)?)?),
         Err(_) => Err(Fail::new("the nodes make no graph")),
     }
 }

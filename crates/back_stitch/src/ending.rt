@@ -10,16 +10,16 @@ ghost use Rattle.back_stitch.specs.Cuts.{is_exported_of};
 ghost use Rattle.back_stitch.specs.Sources.{is_exported_spot, may_end_at};
 
 use graph_nodes::{Node, NodeKind};
-use partial_path::{End, FilePaths, PartialPath, Spot};
+use partial_path::{End, FilePaths, Spot, StoredPath};
 use stacks_vars::NodeAt;
 
 /// Whether the path of the file with that number may end at the spot.
-pub fn may_end(files: &[FilePaths], number: u32, path: &PartialPath, spot: Spot) -> bool
+pub fn may_end(files: &[FilePaths], number: u32, path: &StoredPath<'_>, spot: Spot) -> bool
     ensures { result ≡ may_end_at (graphs_of files.now) spot (moved number path.now) }
 {
     match path.end() {
         End::At(there) => is_moved_spot(number, there, spot),
-        End::ByStack => match path.post().scopes.scopes.items().get(0) {
+        End::ByStack => match path.scopes().get(0) {
             Some(scope) => is_moved_node(number, *scope, spot),
             None => is_exported_at(files, spot),
         },

@@ -15,7 +15,7 @@ use crate::fault::BackFault;
 use crate::join::{first_of, join_left};
 use crate::source::BackSource;
 use crate::tally::Tally;
-use partial_path::{PartialPath, Spot};
+use partial_path::{PartialPath, Spot, StoredPath};
 use stacks_vars::SymPat;
 use std::alloc::{AllocError, Global};
 
@@ -25,7 +25,7 @@ fn outcome<P: BackSource>(
     alloc: Global,
     source: &P,
     file: u32,
-    path: &PartialPath,
+    path: &StoredPath<'_>,
     behind: Option<&PartialPath>,
 ) -> Result<Option<PartialPath>, AllocError>
     requires sources { All IsSourceFile (P.files source.now) }
@@ -44,7 +44,7 @@ fn try_path<P: BackSource>(
     alloc: Global,
     source: &P,
     file: u32,
-    path: &PartialPath,
+    path: &StoredPath<'_>,
     behind: Option<&PartialPath>,
     work: &mut Vec<PartialPath>,
     tally: &mut Tally,
@@ -97,7 +97,7 @@ pub fn extend<P: BackSource>(
     let mut next = source.ends(&spot, symbols);
     while let Some(found) = source.next_end(symbols, next) {
         next = found.2;
-        try_path(alloc, source, found.0, found.1, behind, work, tally)?;
+        try_path(alloc, source, found.0, &found.1, behind, work, tally)?;
     }
     Ok(())
 }

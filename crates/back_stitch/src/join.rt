@@ -14,7 +14,7 @@ ghost use Rattle.back_stitch.specs.Held.{IsHeld, IsOutcome};
 
 use crate::kept::{MAX_DEPTH, MAX_EDGES, is_kept};
 use crate::source::BackSource;
-use partial_path::{PartialPath, file_zero_moves};
+use partial_path::{PartialPath, StoredPath, file_zero_moves};
 use path_join::join;
 use std::alloc::{AllocError, Global};
 
@@ -24,7 +24,7 @@ pub fn first_of<P: BackSource>(
     alloc: Global,
     source: &P,
     file: u32,
-    path: &PartialPath,
+    path: &StoredPath<'_>,
 ) -> Result<Option<PartialPath>, AllocError>
     requires sources { All IsSourceFile (P.files source.now) }
     requires stored { IsStoredIn (P.files source.now) (file, path.now) }
@@ -45,7 +45,7 @@ pub fn join_left<P: BackSource>(
     alloc: Global,
     source: &P,
     file: u32,
-    path: &PartialPath,
+    path: &StoredPath<'_>,
     behind: &PartialPath,
 ) -> Result<Option<PartialPath>, AllocError>
     requires sources { All IsSourceFile (P.files source.now) }
@@ -71,11 +71,11 @@ pub fn join_left<P: BackSource>(
 }
 
 /// Whether the path alone is within the bounds together with the edges of the other.
-fn is_within(path: &PartialPath, behind: &PartialPath) -> bool
+fn is_within(path: &StoredPath<'_>, behind: &PartialPath) -> bool
     requires { length behind.now.edges ≤ most_edges }
     ensures within { IsTrue result → (length path.now.edges + length behind.now.edges ≤ most_edges) × (path.now.peak ≤ most_depth) }
     ensures past { ¬ IsTrue result → (most_edges < length path.now.edges + length behind.now.edges) ⊎ (most_depth < path.now.peak) }
     ensures rules { IsRule path.now × IsRule behind.now }
 {
-    path.edges().len() <= MAX_EDGES - behind.edges().len() && path.peak() <= MAX_DEPTH
+    path.edge_numbers().len() <= MAX_EDGES - behind.edges().len() && path.peak() <= MAX_DEPTH
 }

@@ -1,12 +1,12 @@
 //! A source that goes over all paths at each look-up.
-ghost use Rattle.std.specs.Prelude.{◌≡◌, ◌≤◌, ◌^◌, [], ◌∷◌, List, length, slice_get, option_map, filter, drop, MatchOption};
+ghost use Rattle.std.specs.Prelude.{◌≡◌, ◌≤◌, ◌^◌, [], ◌∷◌, List, length, slice_get, filter, drop, MatchOption};
 ghost use Rattle.partial_path.specs.PathSets.{FileRules};
 ghost use Rattle.back_stitch.specs.Sources.{agrees, rules_to};
 ghost use Rattle.back_stitch.specs.Plain.{ends_in, ends_left, agreed_left};
 
 use crate::ending::{is_definition_in, is_exported_in, may_end};
 use crate::source::BackSource;
-use partial_path::{FilePaths, PartialPath, Spot};
+use partial_path::{FilePaths, Spot, StoredPath, StoredPaths};
 use stacks_vars::{NodeAt, SymOut, SymPat};
 use std::alloc::{AllocError, Global};
 use std::marker::Model;
@@ -89,7 +89,7 @@ impl BackSource for PlainSource {
 
     ghost listed = { λ l at. rules_to l at };
 
-    fn path_to(&self, spot: &Spot, k: usize) -> Option<(u32, &PartialPath)> {
+    fn path_to(&self, spot: &Spot, k: usize) -> Option<(u32, StoredPath<'_>)> {
         path_of(self.files.as_slice(), *spot, k)
     }
 
@@ -107,7 +107,7 @@ impl BackSource for PlainSource {
         &self,
         symbols: &[SymPat],
         at: PlainEnds,
-    ) -> Option<(u32, &PartialPath, PlainEnds)> {
+    ) -> Option<(u32, StoredPath<'_>, PlainEnds)> {
         next_agreed(self.files.as_slice(), symbols, at)
     }
 
@@ -128,9 +128,9 @@ fn first_end(spot: Spot) -> PlainEnds
 }
 
 /// The path at place `k` of those of the files that may end at the spot, with its file's number.
-fn path_of<'a>(files: &'a [FilePaths], spot: Spot, k: usize) -> Option<(u32, &'a PartialPath)>
+fn path_of<'a>(files: &'a [FilePaths], spot: Spot, k: usize) -> Option<(u32, StoredPath<'a>)>
     requires { length files.now ≤ 2 ^ 32 }
-    ensures { option_map (λ found. (found.0, found.1.now)) result ≡ slice_get (rules_to files.now spot) k }
+    ensures { result ≡ slice_get (rules_to files.now spot) k }
 {
     let mut at = first_end(spot);
     let mut left = k;
@@ -142,7 +142,7 @@ fn path_of<'a>(files: &'a [FilePaths], spot: Spot, k: usize) -> Option<(u32, &'a
         left -= 1;
     }
     match next_of(files, at) {
-        Some(found) => Some((found.0, found.1)),
+        Some((file, path, _)) => Some((file, path)),
         None => None,
     }
 }
@@ -152,13 +152,13 @@ fn next_agreed<'a>(
     files: &'a [FilePaths],
     symbols: &[SymPat],
     at: PlainEnds,
-) -> Option<(u32, &'a PartialPath, PlainEnds)>
+) -> Option<(u32, StoredPath<'a>, PlainEnds)>
     requires { length files.now ≤ 2 ^ 32 }
-    ensures { MatchOption result (agreed_left files.now symbols.now at ≡ []) (λ found. agreed_left files.now symbols.now at ≡ (found.0, found.1.now) ∷ agreed_left files.now symbols.now found.2) }
+    ensures { MatchOption result (agreed_left files.now symbols.now at ≡ []) (λ found. agreed_left files.now symbols.now at ≡ (found.0, found.1) ∷ agreed_left files.now symbols.now found.2) }
 {
     let mut next = at;
     while let Some(found) = next_of(files, next) {
-        if agrees(symbols, found.1.post().symbols.items()) {
+        if agrees(symbols, found.1.made()) {
             return Some(found);
         }
         next = found.2;
@@ -182,20 +182,20 @@ fn agrees(asked: &[SymPat], made: &[SymOut]) -> bool
 }
 
 /// The next of all paths that may end at the spot, with its file's number, and where the look-up stands after it.
-fn next_of<'a>(files: &'a [FilePaths], at: PlainEnds) -> Option<(u32, &'a PartialPath, PlainEnds)>
+fn next_of<'a>(files: &'a [FilePaths], at: PlainEnds) -> Option<(u32, StoredPath<'a>, PlainEnds)>
     requires { length files.now ≤ 2 ^ 32 }
-    ensures { MatchOption result (ends_left files.now at ≡ []) (λ found. ends_left files.now at ≡ (found.0, found.1.now) ∷ ends_left files.now found.2) }
+    ensures { MatchOption result (ends_left files.now at ≡ []) (λ found. ends_left files.now at ≡ (found.0, found.1) ∷ ends_left files.now found.2) }
 {
     let mut place = at.place;
     for file in at.file..files.len() {
         let paths = files[file].paths();
-        if let Some(found) = next_in(files, file as u32, paths, at.spot, place) {
+        if let Some((path, behind)) = next_in(files, file as u32, &paths, at.spot, place) {
             let after = PlainEnds {
                 spot: at.spot,
                 file,
-                place: found.1,
+                place: behind,
             };
-            return Some((file as u32, found.0, after));
+            return Some((file as u32, path, after));
         }
         place = 0;
     }
@@ -206,15 +206,16 @@ fn next_of<'a>(files: &'a [FilePaths], at: PlainEnds) -> Option<(u32, &'a Partia
 fn next_in<'a>(
     files: &[FilePaths],
     number: u32,
-    paths: &'a [PartialPath],
+    paths: &StoredPaths<'a>,
     spot: Spot,
     place: usize,
-) -> Option<(&'a PartialPath, usize)>
-    ensures { MatchOption result (filter (ends_in files.now spot number) (drop place paths.now) ≡ []) (λ found. filter (ends_in files.now spot number) (drop place paths.now) ≡ found.0.now ∷ filter (ends_in files.now spot number) (drop found.1 paths.now)) }
+) -> Option<(StoredPath<'a>, usize)>
+    ensures { MatchOption result (filter (ends_in files.now spot number) (drop place paths.now) ≡ []) (λ found. filter (ends_in files.now spot number) (drop place paths.now) ≡ found.0 ∷ filter (ends_in files.now spot number) (drop found.1 paths.now)) }
 {
     for next in place..paths.len() {
-        if may_end(files, number, &paths[next], spot) {
-            return Some((&paths[next], next + 1));
+        let path = paths.at(next);
+        if may_end(files, number, &path, spot) {
+            return Some((path, next + 1));
         }
     }
     None

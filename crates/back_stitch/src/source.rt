@@ -1,5 +1,5 @@
 //! Where a backward search takes its partial paths from.
-ghost use Rattle.std.specs.Prelude.{◌≡◌, [], ◌∷◌, ℕ, List, MatchOption, All, IsPermutation, option_map, slice_get};
+ghost use Rattle.std.specs.Prelude.{◌≡◌, [], ◌∷◌, ℕ, List, MatchOption, All, IsPermutation, slice_get};
 ghost use Rattle.stacks_vars.specs.declared.patterns.SymPat.{SymPat};
 ghost use Rattle.partial_path.specs.declared.config.Spot.{Spot};
 ghost use Rattle.partial_path.specs.Rules.{Rule};
@@ -8,7 +8,7 @@ ghost use Rattle.partial_path.specs.Sources.{IsSourceFile, graphs_of};
 ghost use Rattle.back_stitch.specs.Cuts.{is_exported_of};
 ghost use Rattle.back_stitch.specs.Sources.{AreEnds, rules_to};
 
-use partial_path::{PartialPath, Spot};
+use partial_path::{Spot, StoredPath};
 use stacks_vars::{NodeAt, SymPat};
 
 /// The path sets of a list of files, asked for paths by where they end. A spot and a node are told with the number of
@@ -23,8 +23,8 @@ pub trait BackSource {
     /// The path at place `k`, from 0, of those that may end at the spot, with its file's number; None past their end.
     /// A path that ends by the stack may end at the first scope that it makes, and where it makes none at every
     /// exported scope. The path's own end has file number 0. It takes no memory.
-    fn path_to(&self, spot: &Spot, k: usize) -> Option<(u32, &PartialPath)>
-        ensures value { option_map (λ found. (found.0, found.1.now)) result ≡ slice_get (listed self.now spot.now) k }
+    fn path_to(&self, spot: &Spot, k: usize) -> Option<(u32, StoredPath<'_>)>
+        ensures value { result ≡ slice_get (listed self.now spot.now) k }
         ensures exact { IsPermutation (rules_to (files self.now) spot.now) (listed self.now spot.now) }
         ensures sets { All IsSourceFile (files self.now) };
 
@@ -48,8 +48,8 @@ pub trait BackSource {
         &self,
         symbols: &[SymPat],
         at: Self::Ends,
-    ) -> Option<(u32, &PartialPath, Self::Ends)>
-        ensures { MatchOption result (given self.now symbols.now at ≡ []) (λ found. given self.now symbols.now at ≡ (found.0, found.1.now) ∷ given self.now symbols.now found.2) };
+    ) -> Option<(u32, StoredPath<'_>, Self::Ends)>
+        ensures { MatchOption result (given self.now symbols.now at ≡ []) (λ found. given self.now symbols.now at ≡ (found.0, found.1) ∷ given self.now symbols.now found.2) };
 
     /// Whether the node is an exported scope of its file; false where there is no such file or node.
     fn is_exported(&self, at: &NodeAt) -> bool

@@ -1,6 +1,6 @@
 use crate::marks::marks_made;
 use crate::place::{EndPlace, order};
-use partial_path::{End, PartialPath, Spot};
+use partial_path::{End, Spot, StoredPath, StoredPaths};
 use std::alloc::{AllocError, Global};
 use std::marker::Model;
 use version_tree::View;
@@ -35,7 +35,7 @@ impl EndIndex {
             stack: Vec::new(alloc),
         };
         for file in 0..view.row_count() {
-            ends.add_file(view.paths(file).get().paths(), file)?;
+            ends.add_file(&view.paths(file).get().paths(), file)?;
         }
         sort(&mut ends.root);
         sort(&mut ends.stack);
@@ -57,18 +57,18 @@ impl EndIndex {
     }
 
     /// Adds those of these paths of the file with that number that end so. The one error is want of memory.
-    fn add_file(&mut self, paths: &[PartialPath], file: u32) -> Result<(), AllocError>
+    fn add_file(&mut self, paths: &StoredPaths<'_>, file: u32) -> Result<(), AllocError>
         ensures root { OnOk result (self.new.root ≡ self.old.root ++ ends_in ends_at_root file 0 paths.now) }
         ensures stack { OnOk result (self.new.stack ≡ self.old.stack ++ ends_in ends_by_stack file 0 paths.now) }
     {
         for place in 0..paths.len() {
-            self.add(&paths[place], file, place)?;
+            self.add(&paths.at(place), file, place)?;
         }
         Ok(())
     }
 
     /// Adds the path at that place of the file where it ends so. The one error is want of memory.
-    fn add(&mut self, path: &PartialPath, file: u32, place: usize) -> Result<(), AllocError>
+    fn add(&mut self, path: &StoredPath<'_>, file: u32, place: usize) -> Result<(), AllocError>
         ensures root { OnOk result (self.new.root ≡ self.old.root ++ ends_in ends_at_root file place (path.now ∷ [])) }
         ensures stack { OnOk result (self.new.stack ≡ self.old.stack ++ ends_in ends_by_stack file place (path.now ∷ [])) }
     {
@@ -76,7 +76,7 @@ impl EndIndex {
             End::At(Spot::Root) => self.root.push(end_place(path, file, place))?,
             End::At(Spot::At(_)) => {}
             End::ByStack => {
-                if path.post().scopes.scopes.items().is_empty() {
+                if path.scopes().is_empty() {
                     self.stack.push(end_place(path, file, place))?;
                 }
             }
@@ -98,11 +98,11 @@ fn sort(places: &mut Vec<EndPlace>)
 }
 
 /// The path at that place of the file with that number.
-fn end_place(path: &PartialPath, file: u32, place: usize) -> EndPlace
+fn end_place(path: &StoredPath<'_>, file: u32, place: usize) -> EndPlace
     ensures { result ≡ end_place file place path.now }
 {
     EndPlace {
-        marks: marks_made(path.post().symbols.items()),
+        marks: marks_made(path.made()),
         file,
         place,
     }

@@ -1,5 +1,5 @@
 //! All paths that may end at a spot, one by one.
-ghost use Rattle.std.specs.Prelude.{◌≡◌, ◌+◌, length, filter, slice_get, option_map, option_copied, IfNone};
+ghost use Rattle.std.specs.Prelude.{◌≡◌, ◌+◌, length, filter, slice_get, IfNone};
 ghost use Rattle.partial_path.specs.Moved.{moved};
 ghost use Rattle.partial_path.specs.Sources.{graphs_of};
 ghost use Rattle.root_index.specs.Offers.{files_of};
@@ -8,17 +8,17 @@ ghost use Rattle.end_index.specs.Ends.{ends_by_stack};
 
 use crate::inside::ends_inside;
 use crate::nodes::is_exported_spot;
-use partial_path::{End, PartialPath, Spot};
+use partial_path::{End, Spot, StoredPath, StoredPaths};
 use version_tree::View;
 
 /// The path at place `k` of those that may end at the spot, with its file's number. It goes over all paths.
-pub(crate) fn path_to(view: &View, spot: Spot, k: usize) -> Option<(u32, &PartialPath)>
-    ensures { option_map (λ found. (found.0, found.1.now)) result ≡ slice_get (rules_to (files_of view.now) spot) k }
+pub(crate) fn path_to(view: &View, spot: Spot, k: usize) -> Option<(u32, StoredPath<'_>)>
+    ensures { result ≡ slice_get (rules_to (files_of view.now) spot) k }
 {
     let mut left = k;
     for file in 0..view.row_count() {
         let paths = view.paths(file).get().paths();
-        if let Some(path) = ending(view, file, paths, spot, &mut left) {
+        if let Some(path) = ending(view, file, &paths, spot, &mut left) {
             return Some((file, path));
         }
     }
@@ -30,15 +30,16 @@ pub(crate) fn path_to(view: &View, spot: Spot, k: usize) -> Option<(u32, &Partia
 fn ending<'a>(
     view: &View,
     file: u32,
-    paths: &'a [PartialPath],
+    paths: &StoredPaths<'a>,
     spot: Spot,
     left: &mut usize,
-) -> Option<&'a PartialPath>
-    ensures found { option_copied result ≡ slice_get (filter (λ rule. may_end_at (graphs_of (files_of view.now)) spot (moved file rule)) paths.now) left.old }
+) -> Option<StoredPath<'a>>
+    ensures found { result ≡ slice_get (filter (λ rule. may_end_at (graphs_of (files_of view.now)) spot (moved file rule)) paths.now) left.old }
     ensures rest { IfNone result (left.new + length (filter (λ rule. may_end_at (graphs_of (files_of view.now)) spot (moved file rule)) paths.now) ≡ left.old) }
 {
-    for path in paths {
-        if !may_end(view, file, path, spot) {
+    for place in 0..paths.len() {
+        let path = paths.at(place);
+        if !may_end(view, file, &path, spot) {
             continue;
         }
         if *left == 0 {
@@ -50,7 +51,7 @@ fn ending<'a>(
 }
 
 /// Whether the path of the file with that number may end at the spot.
-fn may_end(view: &View, file: u32, path: &PartialPath, spot: Spot) -> bool
+fn may_end(view: &View, file: u32, path: &StoredPath<'_>, spot: Spot) -> bool
     ensures { result ≡ may_end_at (graphs_of (files_of view.now)) spot (moved file path.now) }
 {
     if ends_by_stack(path) {
@@ -61,11 +62,11 @@ fn may_end(view: &View, file: u32, path: &PartialPath, spot: Spot) -> bool
 }
 
 /// Whether the path ends by the stack and makes no scope.
-fn ends_by_stack(path: &PartialPath) -> bool
+fn ends_by_stack(path: &StoredPath<'_>) -> bool
     ensures { result ≡ ends_by_stack path.now }
 {
     match path.end() {
         End::At(_) => false,
-        End::ByStack => path.post().scopes.scopes.items().is_empty(),
+        End::ByStack => path.scopes().is_empty(),
     }
 }

@@ -1,5 +1,5 @@
 //! The paths of an index that may make what is asked for.
-ghost use Rattle.std.specs.Prelude.{◌≡◌, [], ◌∷◌, option_copied, MatchOption};
+ghost use Rattle.std.specs.Prelude.{◌≡◌, [], ◌∷◌, MatchOption};
 ghost use Rattle.root_index.specs.Offers.{files_of};
 ghost use Rattle.end_index.specs.Runs.{AreByRank};
 ghost use Rattle.end_index.specs.Looks.{AreThere, outside_left, rule_in};
@@ -7,7 +7,7 @@ ghost use Rattle.end_index.specs.Looks.{AreThere, outside_left, rule_in};
 use crate::nodes::file_in;
 use crate::place::EndPlace;
 use crate::runs::{EndRuns, next_place};
-use partial_path::PartialPath;
+use partial_path::StoredPath;
 use version_tree::View;
 
 /// The path of the view that comes next in the look-up in these, with its file's number, and where the look-up stands
@@ -16,10 +16,10 @@ pub(crate) fn next_outside<'a>(
     view: &'a View,
     places: &[EndPlace],
     at: EndRuns,
-) -> Option<(u32, &'a PartialPath, EndRuns)>
+) -> Option<(u32, StoredPath<'a>, EndRuns)>
     requires order { AreByRank places.now }
     requires there { AreThere (files_of view.now) places.now }
-    ensures { MatchOption result (outside_left (files_of view.now) places.now at ≡ []) (λ found. outside_left (files_of view.now) places.now at ≡ (found.0, found.1.now) ∷ outside_left (files_of view.now) places.now found.2) }
+    ensures { MatchOption result (outside_left (files_of view.now) places.now at ≡ []) (λ found. outside_left (files_of view.now) places.now at ≡ (found.0, found.1) ∷ outside_left (files_of view.now) places.now found.2) }
 {
     let (place, after) = next_place(places, at)?;
     let path = path_at(view, place)?;
@@ -27,8 +27,8 @@ pub(crate) fn next_outside<'a>(
 }
 
 /// The path that an index names; None where the view has none there.
-fn path_at(view: &View, at: EndPlace) -> Option<&PartialPath>
-    ensures { option_copied result ≡ rule_in (files_of view.now) at }
+fn path_at(view: &View, at: EndPlace) -> Option<StoredPath<'_>>
+    ensures { result ≡ rule_in (files_of view.now) at }
 {
     let file = file_in(view, at.file as usize)?;
     file.paths().get(at.place)

@@ -13,7 +13,7 @@ use crate::nodes::is_exported;
 use crate::outside::next_outside;
 use crate::runs::{EndRuns, before_runs, behind_runs};
 use back_stitch::BackSource;
-use partial_path::{PartialPath, Spot};
+use partial_path::{Spot, StoredPath};
 use stacks_vars::{NodeAt, SymPat};
 use std::marker::Model;
 use version_tree::View;
@@ -72,7 +72,7 @@ impl<'a> BackSource for EndSource<'a> {
 
     ghost listed = { λ s at. rules_to (files_of s.rows) at };
 
-    fn path_to(&self, spot: &Spot, k: usize) -> Option<(u32, &PartialPath)> {
+    fn path_to(&self, spot: &Spot, k: usize) -> Option<(u32, StoredPath<'_>)> {
         are_sources(self.view);
         path_to(self.view, *spot, k)
     }
@@ -86,7 +86,7 @@ impl<'a> BackSource for EndSource<'a> {
         ends_of(self.view, self.ends, *spot, symbols)
     }
 
-    fn next_end(&self, _symbols: &[SymPat], at: EndLook) -> Option<(u32, &PartialPath, EndLook)> {
+    fn next_end(&self, _symbols: &[SymPat], at: EndLook) -> Option<(u32, StoredPath<'_>, EndLook)> {
         next_end(self.view, self.ends, at)
     }
 
@@ -125,9 +125,9 @@ fn next_end<'a>(
     view: &'a View,
     ends: &EndIndex,
     at: EndLook,
-) -> Option<(u32, &'a PartialPath, EndLook)>
+) -> Option<(u32, StoredPath<'a>, EndLook)>
     requires { IsEndIndexOf view.now ends.now }
-    ensures { MatchOption result (ends_left (files_of view.now) ends.now at ≡ []) (λ found. ends_left (files_of view.now) ends.now at ≡ (found.0, found.1.now) ∷ ends_left (files_of view.now) ends.now found.2) }
+    ensures { MatchOption result (ends_left (files_of view.now) ends.now at ≡ []) (λ found. ends_left (files_of view.now) ends.now at ≡ (found.0, found.1) ∷ ends_left (files_of view.now) ends.now found.2) }
 {
     match at {
         EndLook::Inside(node, place, stack) => match next_inside(view, node, place) {
@@ -146,9 +146,9 @@ fn next_at_root<'a>(
     view: &'a View,
     ends: &EndIndex,
     at: EndRuns,
-) -> Option<(u32, &'a PartialPath, EndLook)>
+) -> Option<(u32, StoredPath<'a>, EndLook)>
     requires { IsEndIndexOf view.now ends.now }
-    ensures { MatchOption result (outside_left (files_of view.now) ends.now.root at ≡ []) (λ found. outside_left (files_of view.now) ends.now.root at ≡ (found.0, found.1.now) ∷ ends_left (files_of view.now) ends.now found.2) }
+    ensures { MatchOption result (outside_left (files_of view.now) ends.now.root at ≡ []) (λ found. outside_left (files_of view.now) ends.now.root at ≡ (found.0, found.1) ∷ ends_left (files_of view.now) ends.now found.2) }
 {
     match next_outside(view, ends.root(), at) {
         Some((file, path, after)) => Some((file, path, EndLook::Root(after))),
@@ -161,9 +161,9 @@ fn next_by_stack<'a>(
     view: &'a View,
     ends: &EndIndex,
     at: EndRuns,
-) -> Option<(u32, &'a PartialPath, EndLook)>
+) -> Option<(u32, StoredPath<'a>, EndLook)>
     requires { IsEndIndexOf view.now ends.now }
-    ensures { MatchOption result (outside_left (files_of view.now) ends.now.stack at ≡ []) (λ found. outside_left (files_of view.now) ends.now.stack at ≡ (found.0, found.1.now) ∷ ends_left (files_of view.now) ends.now found.2) }
+    ensures { MatchOption result (outside_left (files_of view.now) ends.now.stack at ≡ []) (λ found. outside_left (files_of view.now) ends.now.stack at ≡ (found.0, found.1) ∷ ends_left (files_of view.now) ends.now found.2) }
 {
     match next_outside(view, ends.stack(), at) {
         Some((file, path, after)) => Some((file, path, EndLook::Stack(after))),

@@ -59,7 +59,7 @@ pub fn find_paths(alloc: Global, graph: FileGraph, walks: &mut u64) -> Result<Fi
     ensures fewer { (weight : ℕ) → IsWeight graph weight → walks.new ≤ weight }
 {
     let Found { paths, weight, .. } = find(alloc, &graph, walks)?;
-    let file = FilePaths::new(graph, paths, weight);
+    let file = FilePaths::new(graph, paths, weight)?;
     // Tells that what is stored is the path set.
     file.weight();
     Ok(file)
@@ -100,7 +100,6 @@ fn find(alloc: Global, graph: &FileGraph, steps: &mut u64) -> Result<Found, Path
     while let Some(path) = found.begun.pop() {
         follow(alloc, graph, path, &mut found, steps)?;
     }
-    found.paths.shrink_to_fit();
     Ok(found)
 }
 

@@ -1,4 +1,4 @@
-ghost use Rattle.std.specs.Prelude.{◌≡◌, ◌<◌, ◌^◌, IfSome, [], ◌∷◌, slice_get, option_copied, option_map, filter, false, MatchOption, IsPermutation, All};
+ghost use Rattle.std.specs.Prelude.{◌≡◌, ◌<◌, ◌^◌, IfSome, [], ◌∷◌, slice_get, option_copied, filter, false, MatchOption, IsPermutation, All};
 ghost use Rattle.partial_path.specs.Inside.{file_of, start_inside};
 ghost use Rattle.partial_path.specs.Offers.{offers_here, is_shared};
 ghost use Rattle.partial_path.specs.Sources.{IsSourceFile, asks_rule, rules_from, rules_offered};
@@ -7,7 +7,9 @@ ghost use Rattle.root_index.specs.Offers.{files_of};
 ghost use Rattle.root_index.specs.Roots.{IsIndexOfView, root};
 ghost use Rattle.nav_answers.specs.Sources.{offers_left, seen_of};
 
-use partial_path::{FileOffers, FilePaths, ListOffers, PartialPath, PathSource, Spot, Start, asks};
+use partial_path::{
+    FileOffers, FilePaths, ListOffers, PathSource, Spot, Start, StoredPath, StoredPaths, asks,
+};
 use root_index::{RootIndex, RootOffers};
 use stacks_vars::{NodeAt, Symbol, SymbolStack};
 use std::marker::Model;
@@ -67,7 +69,7 @@ impl<'a> PathSource for ViewSource<'a> {
         start: &Start,
         first: Option<&Symbol>,
         k: usize,
-    ) -> Option<(u32, &PartialPath)> {
+    ) -> Option<(u32, StoredPath<'_>)> {
         are_sources(self.view);
         path_at(self.view, self.index, *start, first, k)
     }
@@ -85,7 +87,7 @@ impl<'a> PathSource for ViewSource<'a> {
         &self,
         symbols: &SymbolStack,
         at: ViewOffers,
-    ) -> Option<(u32, &PartialPath, ViewOffers)> {
+    ) -> Option<(u32, StoredPath<'_>, ViewOffers)> {
         match at {
             ViewOffers::Inside(at) => match next_inside(self.view, symbols, at) {
                 Some((file, path, after)) => Some((file, path, ViewOffers::Inside(after))),
@@ -146,9 +148,9 @@ fn path_at<'a>(
     start: Start,
     first: Option<&Symbol>,
     k: usize,
-) -> Option<(u32, &'a PartialPath)>
+) -> Option<(u32, StoredPath<'a>)>
     requires { IsIndexOfView index.now view.now }
-    ensures { option_map (λ found. (found.0, found.1.now)) result ≡ slice_get (rules_from (files_of view.now) start (option_copied first.entry)) k }
+    ensures { result ≡ slice_get (rules_from (files_of view.now) start (option_copied first.entry)) k }
 {
     match start {
         Start::Before(node) => path_inside(view, start, node, first, k),
@@ -164,24 +166,25 @@ fn path_inside<'a>(
     node: NodeAt,
     first: Option<&Symbol>,
     k: usize,
-) -> Option<(u32, &'a PartialPath)>
+) -> Option<(u32, StoredPath<'a>)>
     requires alone { is_shared start ≡ false }
     requires file { node.file ≡ file_of start }
-    ensures { option_map (λ found. (found.0, found.1.now)) result ≡ slice_get (rules_from (files_of view.now) start (option_copied first.entry)) k }
+    ensures { result ≡ slice_get (rules_from (files_of view.now) start (option_copied first.entry)) k }
 {
     are_sources(view);
     let file = file_in(view, node.file as usize)?;
-    let path = asked(file.paths_from(inside(start)), first, k)?;
+    let path = asked(&file.paths_from(inside(start)), first, k)?;
     Some((node.file, path))
 }
 
 /// The path at place `k` of those that can be met with that symbol in front.
-fn asked<'a>(run: &'a [PartialPath], first: Option<&Symbol>, k: usize) -> Option<&'a PartialPath>
-    ensures { option_copied result ≡ slice_get (filter (asks_rule (option_copied first.entry)) run.now) k }
+fn asked<'a>(run: &StoredPaths<'a>, first: Option<&Symbol>, k: usize) -> Option<StoredPath<'a>>
+    ensures { result ≡ slice_get (filter (asks_rule (option_copied first.entry)) run.now) k }
 {
     let mut left = k;
-    for path in run {
-        if !asks(path, first) {
+    for place in 0..run.len() {
+        let path = run.at(place);
+        if !asks(&path, first) {
             continue;
         }
         if left == 0 {
@@ -198,15 +201,15 @@ fn path_of_root<'a>(
     index: &RootIndex,
     first: Option<&Symbol>,
     k: usize,
-) -> Option<(u32, &'a PartialPath)>
+) -> Option<(u32, StoredPath<'a>)>
     requires { IsIndexOfView index.now view.now }
-    ensures { option_map (λ found. (found.0, found.1.now)) result ≡ slice_get (rules_from (files_of view.now) root (option_copied first.entry)) k }
+    ensures { result ≡ slice_get (rules_from (files_of view.now) root (option_copied first.entry)) k }
 {
     let mut left = k;
     let mut at = index.look(first, view);
     while let Some(found) = index.next_path(first, view, at) {
         if left == 0 {
-            return Some((found.0, found.1));
+            return Some((found.0, found.1.again()));
         }
         left -= 1;
         at = found.2;
@@ -267,8 +270,8 @@ fn next_inside<'a>(
     view: &'a View,
     symbols: &SymbolStack,
     at: ListOffers,
-) -> Option<(u32, &'a PartialPath, ListOffers)>
-    ensures { MatchOption result (offers_here (files_of view.now) symbols.now at ≡ []) (λ found. offers_here (files_of view.now) symbols.now at ≡ (found.0, found.1.now) ∷ offers_here (files_of view.now) symbols.now found.2) }
+) -> Option<(u32, StoredPath<'a>, ListOffers)>
+    ensures { MatchOption result (offers_here (files_of view.now) symbols.now at ≡ []) (λ found. offers_here (files_of view.now) symbols.now at ≡ (found.0, found.1) ∷ offers_here (files_of view.now) symbols.now found.2) }
 {
     let file = file_in(view, at.file)?;
     match file.next_offer(symbols, at.inside) {

@@ -46,3 +46,5 @@ pub mod HighJoints
 pub mod CutJoints
 pub mod Returned
 pub mod OfferedStored
+mod Pooling
+mod Points

@@ -58,6 +58,13 @@ pub record RuleIn (F : ℕ → Type 0) (rule : Rule) : Type 0 where
   pub made_scopes : All (NodeIn F) rule.post.scopes.scopes
   pub edges : All (EdgeIn F) rule.edges
 
+-- the edge with that number of file 0, and the number of an edge
+abbrev pub own_edge : ℕ → EdgeAt
+own_edge edge = record { file = 0; edge = edge }
+
+abbrev pub edge_number : EdgeAt → ℕ
+edge_number e = e.edge
+
 -- the path is of file 0 alone
 abbrev pub IsOfFileZero : Rule → Type 0
 IsOfFileZero = RuleIn (λ (file : ℕ). file ≡ 0)

@@ -1,15 +1,16 @@
 -- What a `FilePaths` and a `FileList` keep of their parts, and how a rule is found. No public clause cites this.
-use Rattle.std.specs.Prelude.{ℕ, ◌≤◌, ◌^◌, List, length, All, Bool}
+use Rattle.std.specs.Prelude.{ℕ, ◌≤◌, ◌^◌, List, length, take, All, Bool}
 use Rattle.std.specs.Ordering.{is_lt, is_eq}
 use Rattle.std.specs.declared.cmp.Ordering.{Ordering}
 use Rattle.partial_path.specs.declared.config.Spot.TheVariants as spot
+use Rattle.stacks_vars.specs.declared.patterns.SymPat.{SymPat}
 use Rattle.partial_path.specs.declared.rule.Start.{Start}
 use Rattle.partial_path.specs.declared.rule.Start.TheVariants.{Before, After}
 use Rattle.partial_path.specs.Spots.{node_at}
 use Rattle.partial_path.specs.declared.offers.FileOffers.{FileOffers}
 use Rattle.partial_path.specs.Rules.{Rule}
 use Rattle.partial_path.specs.PathSets.{FileRules, AreFileRules}
-use Rattle.partial_path.specs.Keys.{IsByKey, slot_of, slot_cmp}
+use Rattle.partial_path.specs.Keys.{IsByKey, asked_texts, key_size, slot_of, slot_cmp}
 use Rattle.partial_path.specs.Sources.{IsSourceFile}
 
 -- the rules are the graph's path set, in the order of their starts and keys, and the weight is its weight
@@ -21,6 +22,10 @@ pub record IsStored (file : FileRules) : Type 0 where
 pub record AreStored (files : List FileRules) : Type 0 where
   pub sets : All IsSourceFile files
   pub few : length files ≤ 2 ^ 32
+
+-- the key of a rule that asks for these symbols
+abbrev pub asked_key : List SymPat → List (List ℕ)
+asked_key asked = asked_texts (take key_size asked)
 
 -- how a rule stands to a start and a key: before it, there, or behind it
 abbrev pub slot_side : Start → List (List ℕ) → Rule → Ordering

@@ -28,3 +28,8 @@ left_items (pat ∷ pats) (item ∷ items) = left_attached pat.scopes item.scope
 -- what the variables stand for
 abbrev pub left_in : Pre → Stacks → Rests
 left_in pre stacks = rests_of (left_scopes pre.scopes stacks.scopes) (left_items pre.symbols stacks.symbols)
+
+-- the same of a precondition of these symbols and scopes
+abbrev pub left_by : List SymPat → List NodeAt → Stacks → Rests
+left_by asked fixed stacks =
+    rests_of (drop (length fixed) stacks.scopes) (left_items asked stacks.symbols)

@@ -11,6 +11,7 @@ pub mod Moved
 pub mod FileNumbers
 pub mod Walks
 pub mod PathSets
+pub mod Pooled
 pub mod Starts
 pub mod Keys
 pub mod Inside

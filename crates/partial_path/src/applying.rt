@@ -1,20 +1,19 @@
-ghost use Rattle.std.specs.Prelude.{◌≡◌, ◌&&◌, drop, length, All, IfOk, IsTrue};
+ghost use Rattle.std.specs.Prelude.{◌≡◌, ◌&&◌, IfOk, IsTrue};
 ghost use Rattle.std.specs.Option.{is_some};
 ghost use Rattle.partial_path.specs.Same.{spot_eq};
 ghost use Rattle.partial_path.specs.Rules.{start_spot};
-ghost use Rattle.partial_path.specs.Apply.{match_stacks, fill, end_at, apply};
-ghost use Rattle.partial_path.specs.Left.{left_in};
-ghost use Rattle.partial_path.specs.Moved.{moved, moved_spot, moved_start, moved_pre, moved_post, moved_end, Fits, FitsSpot, FitsEnd, FitsSymbol, FitsNode};
+ghost use Rattle.partial_path.specs.Apply.{match_stacks, end_at, apply};
+ghost use Rattle.partial_path.specs.Moved.{moved, moved_spot, moved_start, moved_pre, moved_end, Fits, FitsSpot, FitsEnd};
 
 use crate::config::{Config, Spot};
 use crate::filling::{Met, filled_scopes, filled_symbols, moved_node};
 use crate::matching::{is_moved, meets_items, meets_scopes};
-use crate::path::PartialPath;
 use crate::rule::{End, Start};
-use stacks_vars::{Post, Stacks, jump};
+use crate::stored::StoredPath;
+use stacks_vars::{Stacks, jump};
 use std::alloc::{AllocError, Global};
 
-impl PartialPath {
+impl<'a> StoredPath<'a> {
     /// The path with `base` added to each file number, applied to the configuration; None where the
     /// configuration isn't at its start, doesn't meet its precondition, or has no scope by which the path
     /// could end. The one error is want of memory. What isn't met is refused at the cost of the pattern.
@@ -42,11 +41,13 @@ impl PartialPath {
         ensures { IfOk result (λ next. next ≡ apply (moved base self.now) at.now) }
     {
         let met = Met {
-            pre: self.pre(),
+            asked: self.asked(),
+            fixed: self.fixed(),
             stacks: &at.stacks,
         };
-        let stacks = fill_met(alloc, base, &met, self.post())?;
-        Ok(end_at(base, self.end(), stacks))
+        let symbols = filled_symbols(alloc, base, &met, self.made())?;
+        let scopes = filled_scopes(alloc, base, &met, self.scopes(), self.tail())?;
+        Ok(end_at(base, self.end(), Stacks { symbols, scopes }))
     }
 
     /// Whether the configuration is at the path's start, moved by `base`, and meets its precondition. It
@@ -55,8 +56,8 @@ impl PartialPath {
         ensures { result ≡ (spot_eq (start_spot (moved_start base self.now.start)) at.now.spot && is_some (match_stacks (moved_pre base self.now.pre) at.now.stacks)) }
     {
         begins_at(base, self.start(), at.spot)
-            && meets_scopes(base, &self.pre().scopes, &at.stacks.scopes)
-            && meets_items(base, self.pre().symbols.items(), &at.stacks.symbols)
+            && meets_scopes(base, self.fixed(), &at.stacks.scopes)
+            && meets_items(base, self.asked(), &at.stacks.symbols)
     }
 }
 
@@ -70,17 +71,6 @@ fn begins_at(base: u32, start: Start, at: Spot) -> bool
         (Start::After(Spot::Root), Spot::Root) => true,
         _ => false,
     }
-}
-
-/// What a rule of this postcondition, moved by `base`, makes of stacks that meet its precondition.
-fn fill_met(alloc: Global, base: u32, met: &Met, post: &Post) -> Result<Stacks, AllocError>
-    requires symbols { All (FitsSymbol base) post.now.symbols }
-    requires scopes { All (FitsNode base) post.now.scopes.scopes }
-    ensures { IfOk result (λ next. next ≡ fill (left_in met.now.pre.now met.now.stacks.now) (moved_post base post.now) (drop (length met.now.pre.now.symbols) met.now.stacks.now.symbols)) }
-{
-    let symbols = filled_symbols(alloc, base, met, post.symbols.items())?;
-    let scopes = filled_scopes(alloc, base, met, &post.scopes)?;
-    Ok(Stacks { symbols, scopes })
 }
 
 /// Where a path with this end, moved by `base`, stands with these stacks; None where it ends by the stack

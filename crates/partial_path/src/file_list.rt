@@ -1,9 +1,10 @@
 use crate::config::Spot;
 use crate::file_paths::FilePaths;
 use crate::offers::FileOffers;
-use crate::path::PartialPath;
 use crate::rule::Start;
 use crate::source::PathSource;
+use crate::stored::StoredPath;
+use crate::stored_paths::StoredPaths;
 use stacks_vars::{NodeAt, Pre, Symbol, SymbolStack};
 use std::alloc::{AllocError, Global};
 use std::marker::Model;
@@ -79,7 +80,7 @@ impl PathSource for FileList {
         start: &Start,
         first: Option<&Symbol>,
         k: usize,
-    ) -> Option<(u32, &PartialPath)> {
+    ) -> Option<(u32, StoredPath<'_>)> {
         path_of(self.files.as_slice(), *start, first, k)
     }
 
@@ -97,7 +98,7 @@ impl PathSource for FileList {
         &self,
         symbols: &SymbolStack,
         at: ListOffers,
-    ) -> Option<(u32, &PartialPath, ListOffers)> {
+    ) -> Option<(u32, StoredPath<'_>, ListOffers)> {
         offer_of(self.files.as_slice(), symbols, at)
     }
 
@@ -117,7 +118,7 @@ impl PathSource for FileList {
     }
 }
 
-ghost use Rattle.std.specs.Prelude.{◌≡◌, ◌≤◌, ◌+◌, ◌^◌, ℕ, List, [], ◌∷◌, length, slice_get, option_map, option_copied, filter, IfNone, IfSome, MatchOption, All, false};
+ghost use Rattle.std.specs.Prelude.{◌≡◌, ◌≤◌, ◌+◌, ◌^◌, List, [], ◌∷◌, length, slice_get, option_copied, filter, IfNone, IfSome, MatchOption, All, false};
 ghost use Rattle.stacks_vars.specs.declared.items.SymbolItem.{SymbolItem};
 ghost use Rattle.partial_path.specs.PathSets.{FileRules};
 ghost use Rattle.partial_path.specs.Spots.{node_at};
@@ -135,14 +136,14 @@ fn path_of<'a>(
     start: Start,
     first: Option<&Symbol>,
     k: usize,
-) -> Option<(u32, &'a PartialPath)>
+) -> Option<(u32, StoredPath<'a>)>
     requires { length files.now ≤ 2 ^ 32 }
-    ensures { option_map (λ found. (found.0, found.1.now)) result ≡ slice_get (rules_from files.now start (option_copied first.entry)) k }
+    ensures { result ≡ slice_get (rules_from files.now start (option_copied first.entry)) k }
 {
     let mut left = k;
     for number in 0..files.len() {
         let run = run_in(number as u32, &files[number], start);
-        if let Some(path) = asked(run, first, &mut left) {
+        if let Some(path) = asked(&run, first, &mut left) {
             return Some((number as u32, path));
         }
     }
@@ -150,12 +151,12 @@ fn path_of<'a>(
 }
 
 /// The paths of the file with that number that begin at the start.
-fn run_in(number: u32, file: &FilePaths, start: Start) -> &[PartialPath]
-    ensures { result.now ≡ filter (begins_in number start) file.now.rules }
+fn run_in(number: u32, file: &FilePaths, start: Start) -> StoredPaths<'_>
+    ensures { result ≡ filter (begins_in number start) file.now.rules }
 {
     match unmoved(number, start) {
         Some(start) => file.paths_from(start),
-        None => &file.paths()[..0],
+        None => file.paths().between(0, 0),
     }
 }
 
@@ -192,15 +193,16 @@ fn unmoved_node(number: u32, node: NodeAt) -> Option<NodeAt>
 /// The path at place `left` of those that can be met with that symbol in front. Where there is none, `left`
 /// falls by their number.
 fn asked<'a>(
-    run: &'a [PartialPath],
+    run: &StoredPaths<'a>,
     first: Option<&Symbol>,
     left: &mut usize,
-) -> Option<&'a PartialPath>
-    ensures found { option_copied result ≡ slice_get (filter (asks_rule (option_copied first.entry)) run.now) left.old }
+) -> Option<StoredPath<'a>>
+    ensures found { result ≡ slice_get (filter (asks_rule (option_copied first.entry)) run.now) left.old }
     ensures rest { IfNone result (left.new + length (filter (asks_rule (option_copied first.entry)) run.now) ≡ left.old) }
 {
-    for path in run {
-        if !asks(path, first) {
+    for place in 0..run.len() {
+        let path = run.at(place);
+        if !asks(&path, first) {
             continue;
         }
         if *left == 0 {
@@ -212,10 +214,10 @@ fn asked<'a>(
 }
 
 /// Whether the path's precondition asks for no symbol, or for that one first.
-pub fn asks(path: &PartialPath, first: Option<&Symbol>) -> bool
+pub fn asks(path: &StoredPath<'_>, first: Option<&Symbol>) -> bool
     ensures { result ≡ asks_rule (option_copied first.entry) path.now }
 {
-    match (path.pre().symbols.items().get(0), first) {
+    match (path.asked().get(0), first) {
         (None, _) => true,
         (Some(pat), Some(symbol)) => symbol.same(&pat.symbol),
         (Some(_), None) => false,
@@ -265,9 +267,9 @@ fn offer_of<'a>(
     files: &'a [FilePaths],
     symbols: &SymbolStack,
     at: ListOffers,
-) -> Option<(u32, &'a PartialPath, ListOffers)>
+) -> Option<(u32, StoredPath<'a>, ListOffers)>
     requires { length files.now ≤ 2 ^ 32 }
-    ensures { MatchOption result (list_offers_left files.now symbols.now at ≡ []) (λ found. list_offers_left files.now symbols.now at ≡ (found.0, found.1.now) ∷ list_offers_left files.now symbols.now found.2) }
+    ensures { MatchOption result (list_offers_left files.now symbols.now at ≡ []) (λ found. list_offers_left files.now symbols.now at ≡ (found.0, found.1) ∷ list_offers_left files.now symbols.now found.2) }
 {
     match offer_here(files, symbols, at) {
         Some(found) => Some(found),
@@ -280,9 +282,9 @@ fn offer_here<'a>(
     files: &'a [FilePaths],
     symbols: &SymbolStack,
     at: ListOffers,
-) -> Option<(u32, &'a PartialPath, ListOffers)>
+) -> Option<(u32, StoredPath<'a>, ListOffers)>
     requires { length files.now ≤ 2 ^ 32 }
-    ensures next { MatchOption result (offers_here files.now symbols.now at ≡ []) (λ found. offers_here files.now symbols.now at ≡ (found.0, found.1.now) ∷ offers_here files.now symbols.now found.2) }
+    ensures next { MatchOption result (offers_here files.now symbols.now at ≡ []) (λ found. offers_here files.now symbols.now at ≡ (found.0, found.1) ∷ offers_here files.now symbols.now found.2) }
     ensures start { IfSome result (λ found. found.2.inside.start ≡ at.inside.start) }
     ensures file { IfSome result (λ found. found.2.file ≡ at.file) }
 {
@@ -304,9 +306,9 @@ fn offer_behind<'a>(
     files: &'a [FilePaths],
     symbols: &SymbolStack,
     at: ListOffers,
-) -> Option<(u32, &'a PartialPath, ListOffers)>
+) -> Option<(u32, StoredPath<'a>, ListOffers)>
     requires { length files.now ≤ 2 ^ 32 }
-    ensures { MatchOption result (offers_behind files.now symbols.now at ≡ []) (λ found. offers_behind files.now symbols.now at ≡ (found.0, found.1.now) ∷ list_offers_left files.now symbols.now found.2) }
+    ensures { MatchOption result (offers_behind files.now symbols.now at ≡ []) (λ found. offers_behind files.now symbols.now at ≡ (found.0, found.1) ∷ list_offers_left files.now symbols.now found.2) }
 {
     let start = at.inside.start;
     if !is_shared(start) {

@@ -4,8 +4,11 @@ use crate::rule::Start;
 use crate::slots::run_within;
 use crate::sorting::sort_paths;
 use crate::start_table::StartTable;
+use crate::stored::StoredPath;
+use crate::stored_paths::{KeptPaths, StoredPaths};
 use graph_nodes::{FileGraph, Node, Place};
 use stacks_vars::SymbolStack;
+use std::alloc::AllocError;
 use std::marker::Model;
 
 /// The partial paths of one file, one for each landing walk of its graph, with the graph and its weight:
@@ -15,7 +18,7 @@ use std::marker::Model;
 pub struct FilePaths {
     graph: FileGraph,
     /// In the order of their starts, those of one start in the order of their keys.
-    paths: Vec<PartialPath>,
+    paths: KeptPaths,
     weight: u32,
     /// Where the paths of each start and first symbol stand.
     starts: StartTable,
@@ -27,13 +30,13 @@ impl Model for FilePaths {
 
     ghost Value = { FileRules };
 
-    ghost view = { λ f. file_rules f.graph f.paths.items f.weight };
+    ghost view = { λ f. file_rules f.graph f.paths f.weight };
 
-    ghost invariant = { λ f. IsStored (file_rules f.graph f.paths.items f.weight) };
+    ghost invariant = { λ f. IsStored (file_rules f.graph f.paths f.weight) };
 }
 
 impl FilePaths {
-    ghost use Rattle.std.specs.Prelude.{◌≡◌, ◌≤◌, ◌<◌, [], ◌∷◌, length, take, slice_get, option_map, Some, IfSome, MatchOption, IsPermutation};
+    ghost use Rattle.std.specs.Prelude.{◌≡◌, ◌≤◌, ◌<◌, [], ◌∷◌, length, take, slice_get, option_map, Some, IfOk, IfSome, MatchOption, IsPermutation};
     ghost use Rattle.graph_nodes.specs.Graph.{is_definition, is_reference};
     ghost use Rattle.graph_nodes.specs.Checked.{IsChecked};
     ghost use Rattle.graph_nodes.specs.Cut.{is_cut};
@@ -43,74 +46,89 @@ impl FilePaths {
     ghost use Rattle.partial_path.specs.Keys.{IsByKey, key_size, rules_asking, texts};
     ghost use Rattle.partial_path.specs.Offers.{offers_left};
 
-    /// The paths of this file, sorted by their starts, and those of one start by their keys. It takes memory
-    /// for the sort by starts, which moves each path once, and for a table of two numbers a node and one a path
-    /// that tells where the paths of a start and a first symbol stand; where that is refused it does without.
-    pub fn new(graph: FileGraph, mut paths: Vec<PartialPath>, weight: u32) -> FilePaths
+    /// The paths of this file, sorted by their starts, and those of one start by their keys, with their parts
+    /// put together in pools. The one error is want of memory for these, or of numbers for so many parts.
+    /// Where memory is refused for the sort by starts, which moves each path once, or for a table of two
+    /// numbers a node and one a path that tells where the paths of a start and a first symbol stand, it does
+    /// without.
+    pub fn new(
+        graph: FileGraph,
+        mut paths: Vec<PartialPath>,
+        weight: u32,
+    ) -> Result<FilePaths, AllocError>
         requires paths { IsPathSet graph paths.items }
         requires weight { IsWeight graph weight }
-        ensures graph { result.graph ≡ graph }
-        ensures weight { result.weight ≡ weight }
-        ensures paths { IsPermutation paths.items result.rules }
-        ensures order { IsByStart result.rules }
-        ensures keys { IsByKey result.rules }
+        ensures graph { IfOk result (λ file. file.graph ≡ graph) }
+        ensures weight { IfOk result (λ file. file.weight ≡ weight) }
+        ensures paths { IfOk result (λ file. IsPermutation paths.items file.rules) }
+        ensures order { IfOk result (λ file. IsByStart file.rules) }
+        ensures keys { IfOk result (λ file. IsByKey file.rules) }
     {
+        let alloc = *paths.allocator();
         sort_paths(&mut paths);
-        let starts = StartTable::of(*paths.allocator(), paths.as_slice(), graph.node_count());
-        FilePaths {
+        let paths = KeptPaths::of(alloc, paths)?;
+        let starts = StartTable::of(alloc, &paths.lent(), graph.node_count());
+        Ok(FilePaths {
             graph,
             paths,
             weight,
             starts,
-        }
+        })
     }
 
     /// All paths of the file, in the order of their starts, those of one start in the order of their keys.
-    pub fn paths(&self) -> &[PartialPath]
-        ensures value { result.now ≡ self.now.rules }
+    pub fn paths(&self) -> StoredPaths<'_>
+        ensures value { result ≡ self.now.rules }
         ensures order { IsByStart self.now.rules }
         ensures keys { IsByKey self.now.rules }
         ensures sets { AreFileRules self.now }
     {
-        self.paths.as_slice()
+        self.paths.lent()
     }
 
     /// The paths that begin there. It takes constant time where there was memory for the table of starts, and
     /// else halves over all paths.
-    pub fn paths_from(&self, start: Start) -> &[PartialPath]
-        ensures value { result.now ≡ rules_at start self.now.rules }
+    pub fn paths_from(&self, start: Start) -> StoredPaths<'_>
+        ensures value { result ≡ rules_at start self.now.rules }
         ensures sets { AreFileRules self.now }
     {
-        let (low, high) = self.starts.run(self.paths.as_slice(), start);
-        &self.paths.as_slice()[low..high]
+        let paths = self.paths.lent();
+        let (low, high) = self.starts.run(&paths, start);
+        paths.between(low, high)
     }
 
     /// The paths that begin there and whose key is made of the texts of the stack's first symbols, so many
     /// of them, found by halving among those that begin there, first over the heads of their first symbols.
-    pub fn paths_asking(&self, start: Start, symbols: &SymbolStack, count: usize) -> &[PartialPath]
+    pub fn paths_asking<'a>(
+        &'a self,
+        start: Start,
+        symbols: &SymbolStack,
+        count: usize,
+    ) -> StoredPaths<'a>
         requires { count ≤ key_size }
-        ensures value { result.now ≡ rules_asking start (take count (texts symbols.now)) self.now.rules }
+        ensures value { result ≡ rules_asking start (take count (texts symbols.now)) self.now.rules }
         ensures sets { AreFileRules self.now }
     {
-        let run = self.starts.run(self.paths.as_slice(), start);
+        let paths = self.paths.lent();
+        let run = self.starts.run(&paths, start);
         let heads = self.starts.heads(run.0, run.1);
-        let (place, end) = run_within(self.paths.as_slice(), heads, run, start, symbols, count);
-        &self.paths.as_slice()[place..end]
+        let (place, end) = run_within(&paths, heads, run, start, symbols, count);
+        paths.between(place, end)
     }
 
     /// The path that comes next in a look-up that stands there, and where the look-up stands after it; None
     /// where no more is offered. It takes constant time within a run of equal keys. The next run is found by
     /// halving among the paths that begin there, at most seven in a look-up.
-    pub fn next_offer(
-        &self,
+    pub fn next_offer<'a>(
+        &'a self,
         symbols: &SymbolStack,
         at: FileOffers,
-    ) -> Option<(&PartialPath, FileOffers)>
-        ensures next { MatchOption result (offers_left at symbols.now self.now.rules ≡ []) (λ found. offers_left at symbols.now self.now.rules ≡ found.0.now ∷ offers_left found.1 symbols.now self.now.rules) }
+    ) -> Option<(StoredPath<'a>, FileOffers)>
+        ensures next { MatchOption result (offers_left at symbols.now self.now.rules ≡ []) (λ found. offers_left at symbols.now self.now.rules ≡ found.0 ∷ offers_left found.1 symbols.now self.now.rules) }
         ensures start { IfSome result (λ found. found.1.start ≡ at.start) }
         ensures sets { AreFileRules self.now }
     {
-        next_offer(self.paths.as_slice(), &self.starts, symbols, at)
+        next_offer(&self.paths.lent(), &self.starts, symbols, at)
     }
 
     /// How many edges all walks of the file have together.

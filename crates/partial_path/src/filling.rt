@@ -1,20 +1,21 @@
-ghost use Rattle.std.specs.Prelude.{◌≡◌, ◌≤◌, ◌+◌, ◌++◌, [], map, drop, length, All, IfOk, OnOk, slice_get};
+ghost use Rattle.std.specs.Prelude.{◌≡◌, ◌+◌, ◌++◌, [], map, drop, length, All, IfOk, OnOk, slice_get};
 ghost use Rattle.std.specs.Option.{option_map_or};
 ghost use Rattle.partial_path.specs.Apply.{tail_scopes, fill_scopes, fill_item};
-ghost use Rattle.partial_path.specs.Left.{left_scopes, left_attached, left_items, left_in};
+ghost use Rattle.partial_path.specs.Left.{left_attached, left_items, left_by};
 ghost use Rattle.partial_path.specs.Moved.{moved_node, moved_scopes_out, moved_symbol_out, FitsNode, FitsSymbol};
 
 use stacks_vars::{
-    NodeAt, Pre, ScopeOut, ScopePat, ScopeStack, Stacks, SymOut, SymPat, SymbolItem, SymbolStack,
-    Tail,
+    NodeAt, ScopeOut, ScopeStack, Stacks, SymOut, SymPat, SymbolItem, SymbolStack, Tail,
 };
 use std::alloc::{AllocError, Global};
 
-/// A rule's precondition, and stacks that meet it: what the rule's variables stand for is there, and is copied where the
+/// What a rule asks for, and stacks that meet it: what the rule's variables stand for is there, and is copied where the
 /// postcondition names it.
 #[derive(Clone, Copy)]
 pub struct Met<'a> {
-    pub pre: &'a Pre,
+    /// The symbols, and the scopes with which the scope stack begins.
+    pub asked: &'a [SymPat],
+    pub fixed: &'a [NodeAt],
     pub stacks: &'a Stacks,
 }
 
@@ -27,9 +28,9 @@ pub fn filled_symbols(
     outs: &[SymOut],
 ) -> Result<SymbolStack, AllocError>
     requires { All (FitsSymbol base) outs.now }
-    ensures { IfOk result (λ symbols. symbols ≡ map (fill_item (left_in met.now.pre.now met.now.stacks.now)) (map (moved_symbol_out base) outs.now) ++ drop (length met.now.pre.now.symbols) met.now.stacks.now.symbols) }
+    ensures { IfOk result (λ symbols. symbols ≡ map (fill_item (left_by met.now.asked.now met.now.fixed.now met.now.stacks.now)) (map (moved_symbol_out base) outs.now) ++ drop (length met.now.asked.now) met.now.stacks.now.symbols) }
 {
-    let asked = met.pre.symbols.len();
+    let asked = met.asked.len();
     let left = met.stacks.symbols.len().saturating_sub(asked);
     let mut items = Vec::with_capacity(alloc, outs.len().saturating_add(left))?;
     put_made(alloc, base, met, outs, &mut items)?;
@@ -46,7 +47,7 @@ fn put_made(
     items: &mut Vec<SymbolItem>,
 ) -> Result<(), AllocError>
     requires { All (FitsSymbol base) outs.now }
-    ensures { OnOk result (items.new.items ≡ items.old.items ++ map (fill_item (left_in met.now.pre.now met.now.stacks.now)) (map (moved_symbol_out base) outs.now)) }
+    ensures { OnOk result (items.new.items ≡ items.old.items ++ map (fill_item (left_by met.now.asked.now met.now.fixed.now met.now.stacks.now)) (map (moved_symbol_out base) outs.now)) }
 {
     for out in outs {
         items.push(filled_item(alloc, base, met, out)?)?;
@@ -76,10 +77,10 @@ fn put_left(
 /// A symbol that a rule makes.
 fn filled_item(alloc: Global, base: u32, met: &Met, out: &SymOut) -> Result<SymbolItem, AllocError>
     requires { FitsSymbol base out.now }
-    ensures { IfOk result (λ item. item ≡ fill_item (left_in met.now.pre.now met.now.stacks.now) (moved_symbol_out base out.now)) }
+    ensures { IfOk result (λ item. item ≡ fill_item (left_by met.now.asked.now met.now.fixed.now met.now.stacks.now) (moved_symbol_out base out.now)) }
 {
     let scopes = match &out.scopes {
-        Some(scopes) => Some(filled_scopes(alloc, base, met, scopes.get())?),
+        Some(scopes) => Some(filled_held(alloc, base, met, scopes.get())?),
         None => None,
     };
     Ok(SymbolItem {
@@ -88,42 +89,51 @@ fn filled_item(alloc: Global, base: u32, met: &Met, out: &SymOut) -> Result<Symb
     })
 }
 
-/// The scopes that a rule makes, with a copy of what its variable stands for.
-pub fn filled_scopes(
+/// The scopes that are attached to a symbol that a rule makes.
+fn filled_held(
     alloc: Global,
     base: u32,
     met: &Met,
     out: &ScopeOut,
 ) -> Result<ScopeStack, AllocError>
     requires { All (FitsNode base) out.now.scopes }
-    ensures { IfOk result (λ scopes. scopes ≡ fill_scopes (left_in met.now.pre.now met.now.stacks.now) (moved_scopes_out base out.now)) }
+    ensures { IfOk result (λ scopes. scopes ≡ fill_scopes (left_by met.now.asked.now met.now.fixed.now met.now.stacks.now) (moved_scopes_out base out.now)) }
 {
-    let mut scopes = tail_copy(alloc, met, out.tail)?;
-    put_fixed(base, out.scopes.items(), &mut scopes)?;
+    filled_scopes(alloc, base, met, out.scopes.items(), out.tail)
+}
+
+/// The scopes that a rule makes, with a copy of what its variable stands for.
+pub fn filled_scopes(
+    alloc: Global,
+    base: u32,
+    met: &Met,
+    made: &[NodeAt],
+    tail: Tail,
+) -> Result<ScopeStack, AllocError>
+    requires { All (FitsNode base) made.now }
+    ensures { IfOk result (λ scopes. scopes ≡ map (moved_node base) made.now ++ tail_scopes (left_by met.now.asked.now met.now.fixed.now met.now.stacks.now) tail) }
+{
+    let mut scopes = tail_copy(alloc, met, tail)?;
+    put_fixed(base, made, &mut scopes)?;
     Ok(scopes)
 }
 
 /// A copy of what the variable stands for.
 fn tail_copy(alloc: Global, met: &Met, tail: Tail) -> Result<ScopeStack, AllocError>
-    ensures { IfOk result (λ scopes. scopes ≡ tail_scopes (left_in met.now.pre.now met.now.stacks.now) tail) }
+    ensures { IfOk result (λ scopes. scopes ≡ tail_scopes (left_by met.now.asked.now met.now.fixed.now met.now.stacks.now) tail) }
 {
     match tail {
         Tail::Nil => Ok(ScopeStack::new(alloc)),
-        Tail::Front => scopes_left(alloc, &met.pre.scopes, &met.stacks.scopes),
-        Tail::Item(place) => item_left(
-            alloc,
-            met.pre.symbols.items(),
-            &met.stacks.symbols,
-            place as usize,
-        ),
+        Tail::Front => scopes_left(alloc, met.fixed.len(), &met.stacks.scopes),
+        Tail::Item(place) => { item_left(alloc, met.asked, &met.stacks.symbols, place as usize) }
     }
 }
 
-/// A copy of the scopes behind as many as are asked for.
-fn scopes_left(alloc: Global, pat: &ScopePat, scopes: &ScopeStack) -> Result<ScopeStack, AllocError>
-    ensures { IfOk result (λ left. left ≡ left_scopes pat.now scopes.now) }
+/// A copy of the scopes behind the first so many.
+fn scopes_left(alloc: Global, asked: usize, scopes: &ScopeStack) -> Result<ScopeStack, AllocError>
+    ensures { IfOk result (λ left. left ≡ drop asked scopes.now) }
 {
-    let left = scopes.reversed().len().saturating_sub(pat.fixed.len());
+    let left = scopes.reversed().len().saturating_sub(asked);
     let mut copy = scopes.copy(alloc)?;
     copy.keep(left);
     Ok(copy)
@@ -151,7 +161,7 @@ fn attached_left(alloc: Global, pat: &SymPat, item: &SymbolItem) -> Result<Scope
     ensures { IfOk result (λ left. left ≡ left_attached pat.now.scopes item.now.scopes) }
 {
     match (&pat.scopes, &item.scopes) {
-        (Some(scopes), Some(attached)) => scopes_left(alloc, scopes.get(), attached),
+        (Some(scopes), Some(attached)) => scopes_left(alloc, scopes.get().fixed.len(), attached),
         _ => Ok(ScopeStack::new(alloc)),
     }
 }

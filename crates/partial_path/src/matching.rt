@@ -1,11 +1,10 @@
-ghost use Rattle.std.specs.Prelude.{◌≡◌, ◌≤◌, ◌+◌, ◌&&◌, map, drop, take, reverse, length, Some, None, IfOk, IfSome, if◌then◌else◌};
-ghost use Rattle.std.specs.Option.{option_map, option_and_then, is_some};
-ghost use Rattle.std.specs.Str.{bytes_eq};
+ghost use Rattle.std.specs.Prelude.{◌≡◌, ◌&&◌, map, take, reverse, Some, None};
+ghost use Rattle.std.specs.Option.{option_map, is_some};
 ghost use Rattle.stacks_vars.specs.Same.{node_eq};
-ghost use Rattle.partial_path.specs.Apply.{after_fixed, match_attached, match_item, match_items};
-ghost use Rattle.partial_path.specs.Moved.{moved_node, moved_scopes, moved_symbol};
+ghost use Rattle.partial_path.specs.Apply.{after_fixed, match_item, match_items};
+ghost use Rattle.partial_path.specs.Moved.{moved_node, moved_symbol};
 
-use stacks_vars::{NodeAt, ScopePat, ScopeStack, SymPat, SymbolItem, SymbolStack};
+use stacks_vars::{NodeAt, ScopeStack, SymPat, SymbolItem, SymbolStack};
 
 /// How many scopes follow the fixed ones, moved by `base`; None where the stack doesn't begin with them.
 /// The stack's front is the last of `scopes`.
@@ -41,16 +40,16 @@ pub fn meets_item(base: u32, pat: &SymPat, item: &SymbolItem) -> bool
     }
     match (&pat.scopes, &item.scopes) {
         (None, None) => true,
-        (Some(scopes), Some(attached)) => meets_scopes(base, scopes.get(), attached),
+        (Some(scopes), Some(attached)) => meets_scopes(base, scopes.get().fixed.items(), attached),
         _ => false,
     }
 }
 
 /// Whether the stack begins with the fixed scopes. It takes no memory, and time that follows the pattern.
-pub fn meets_scopes(base: u32, pat: &ScopePat, scopes: &ScopeStack) -> bool
-    ensures { result ≡ is_some (after_fixed (map (moved_node base) pat.now.fixed) scopes.now) }
+pub fn meets_scopes(base: u32, fixed: &[NodeAt], scopes: &ScopeStack) -> bool
+    ensures { result ≡ is_some (after_fixed (map (moved_node base) fixed.now) scopes.now) }
 {
-    left_after(base, pat.fixed.items(), scopes.reversed()).is_some()
+    left_after(base, fixed, scopes.reversed()).is_some()
 }
 
 /// Whether the first symbols are as they are asked for. It takes no memory, and time that follows the

@@ -1,13 +1,15 @@
 ghost use Rattle.std.specs.Prelude.{◌≡◌, ℕ, map, option_map, All, IfOk, IfSome};
 ghost use Rattle.partial_path.specs.Moved.{moved, moved_node, moved_edge, moved_start, moved_end, moved_scopes, moved_symbol, moved_pre, moved_scopes_out, moved_symbol_out, moved_post, Fits, FitsNode, FitsEnd};
-ghost use Rattle.partial_path.specs.FileNumbers.{FitsFile, EdgeIn, StartIn, AskedIn, MadeIn, CanMove, FileZeroMoves};
+ghost use Rattle.partial_path.specs.Pooled.{pre_of, post_of};
+ghost use Rattle.partial_path.specs.FileNumbers.{FitsFile, own_edge, StartIn, AskedIn, MadeIn, CanMove, FileZeroMoves};
 
 use crate::applying::moved_spot;
 use crate::config::EdgeAt;
 use crate::filling::moved_node;
 use crate::path::PartialPath;
 use crate::rule::{End, Start};
-use stacks_vars::{Held, Listed, NodeAt, Post, Pre, ScopeOut, ScopePat, SymOut, SymPat};
+use crate::stored::StoredPath;
+use stacks_vars::{Held, Listed, NodeAt, Post, Pre, ScopeOut, ScopePat, SymOut, SymPat, Tail};
 use std::alloc::{AllocError, Global};
 
 /// A law: a path of file 0 alone can be moved by every number of 32 bits, and applied there.
@@ -15,7 +17,7 @@ pub fn file_zero_moves()
     ensures { FileZeroMoves }
 {}
 
-impl PartialPath {
+impl<'a> StoredPath<'a> {
     /// The path with `base` added to each file number, to be applied as it is. The one error is want of memory; the cost follows
     /// the path's size, and no symbol is copied.
     pub fn moved(&self, alloc: Global, base: u32) -> Result<PartialPath, AllocError>
@@ -25,11 +27,65 @@ impl PartialPath {
     {
         let start = moved_start(base, self.start());
         let end = moved_end(base, self.end());
-        let pre = self.pre().moved(alloc, base)?;
-        let post = self.post().moved(alloc, base)?;
-        let edges = moved_list(alloc, base, self.edges())?.into_items();
+        let pre = moved_pre(alloc, base, self.asked(), self.fixed())?;
+        let post = moved_post(alloc, base, self.made(), self.scopes(), self.tail())?;
+        let edges = moved_edges(alloc, base, self.edge_numbers())?;
         Ok(PartialPath::of(start, end, pre, post, self.peak(), edges))
     }
+}
+
+/// What a moved path asks of the stacks. The one error is want of memory.
+fn moved_pre(
+    alloc: Global,
+    base: u32,
+    asked: &[SymPat],
+    fixed: &[NodeAt],
+) -> Result<Pre, AllocError>
+    requires symbols { All (AskedIn (FitsFile base)) asked.now }
+    requires scopes { All (FitsNode base) fixed.now }
+    ensures { IfOk result (λ pre. pre ≡ moved_pre base (pre_of asked.now fixed.now)) }
+{
+    Ok(Pre {
+        symbols: moved_list(alloc, base, asked)?,
+        scopes: ScopePat {
+            fixed: moved_list(alloc, base, fixed)?,
+        },
+    })
+}
+
+/// What a moved path makes of the stacks. The one error is want of memory.
+fn moved_post(
+    alloc: Global,
+    base: u32,
+    made: &[SymOut],
+    scopes: &[NodeAt],
+    tail: Tail,
+) -> Result<Post, AllocError>
+    requires symbols { All (MadeIn (FitsFile base)) made.now }
+    requires scopes { All (FitsNode base) scopes.now }
+    ensures { IfOk result (λ post. post ≡ moved_post base (post_of made.now scopes.now tail)) }
+{
+    Ok(Post {
+        symbols: moved_list(alloc, base, made)?,
+        scopes: ScopeOut {
+            scopes: moved_list(alloc, base, scopes)?,
+            tail,
+        },
+    })
+}
+
+/// The edges of file `base` with these numbers. The one error is want of memory.
+fn moved_edges(alloc: Global, base: u32, numbers: &[u32]) -> Result<Vec<EdgeAt>, AllocError>
+    ensures { IfOk result (λ edges. edges.items ≡ map (moved_edge base) (map own_edge numbers.now)) }
+{
+    let mut edges = Vec::with_capacity(alloc, numbers.len())?;
+    for edge in numbers {
+        edges.push(EdgeAt {
+            file: base,
+            edge: *edge,
+        })?;
+    }
+    Ok(edges)
 }
 
 /// The start with `base` added to its file's number.
@@ -103,33 +159,6 @@ impl Moves for NodeAt {
     }
 }
 
-impl Moves for EdgeAt {
-    ghost moved_by = { moved_edge };
-
-    ghost fits = { λ base. EdgeIn (FitsFile base) };
-
-    fn moved(&self, _alloc: Global, base: u32) -> Result<EdgeAt, AllocError> {
-        Ok(EdgeAt {
-            file: base + self.file,
-            edge: self.edge,
-        })
-    }
-}
-
-/// What a moved path asks of the stacks.
-impl Moves for Pre {
-    ghost moved_by = { moved_pre };
-
-    ghost fits = { λ base pre. All (AskedIn (FitsFile base)) pre.symbols × All (FitsNode base) pre.scopes.fixed };
-
-    fn moved(&self, alloc: Global, base: u32) -> Result<Pre, AllocError> {
-        Ok(Pre {
-            symbols: moved_list(alloc, base, self.symbols.items())?,
-            scopes: self.scopes.moved(alloc, base)?,
-        })
-    }
-}
-
 /// A symbol that a moved path asks for.
 impl Moves for SymPat {
     ghost moved_by = { moved_symbol };
@@ -153,20 +182,6 @@ impl Moves for ScopePat {
     fn moved(&self, alloc: Global, base: u32) -> Result<ScopePat, AllocError> {
         Ok(ScopePat {
             fixed: moved_list(alloc, base, self.fixed.items())?,
-        })
-    }
-}
-
-/// What a moved path makes of the stacks.
-impl Moves for Post {
-    ghost moved_by = { moved_post };
-
-    ghost fits = { λ base post. All (MadeIn (FitsFile base)) post.symbols × All (FitsNode base) post.scopes.scopes };
-
-    fn moved(&self, alloc: Global, base: u32) -> Result<Post, AllocError> {
-        Ok(Post {
-            symbols: moved_list(alloc, base, self.symbols.items())?,
-            scopes: self.scopes.moved(alloc, base)?,
         })
     }
 }

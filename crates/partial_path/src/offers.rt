@@ -1,12 +1,13 @@
 //! Taking what a file offers at a start to a stack of symbols, path by path.
-ghost use Rattle.std.specs.Prelude.{◌≡◌, ◌<◌, [], ◌∷◌, filter, slice_get, option_copied, IfSome, MatchOption};
+ghost use Rattle.std.specs.Prelude.{◌≡◌, ◌<◌, [], ◌∷◌, filter, slice_get, IfSome, MatchOption};
 ghost use Rattle.partial_path.specs.Keys.{IsByKey};
 ghost use Rattle.partial_path.specs.Offers.{is_later, next_rules, offers_left};
 
-use crate::path::PartialPath;
 use crate::rule::Start;
 use crate::slots::{KEY_SIZE, run_within};
 use crate::start_table::StartTable;
+use crate::stored::StoredPath;
+use crate::stored_paths::StoredPaths;
 use stacks_vars::SymbolStack;
 
 /// Where a look-up in the paths of one file stands.
@@ -59,13 +60,13 @@ impl FileOffers {
 /// The path that comes next, and where the look-up stands after it; None where no more is offered. The paths
 /// are in the order of their keys.
 pub fn next_offer<'a>(
-    paths: &'a [PartialPath],
+    paths: &StoredPaths<'a>,
     starts: &StartTable,
     symbols: &SymbolStack,
     at: FileOffers,
-) -> Option<(&'a PartialPath, FileOffers)>
+) -> Option<(StoredPath<'a>, FileOffers)>
     requires { IsByKey paths.now }
-    ensures next { MatchOption result (offers_left at symbols.now paths.now ≡ []) (λ found. offers_left at symbols.now paths.now ≡ found.0.now ∷ offers_left found.1 symbols.now paths.now) }
+    ensures next { MatchOption result (offers_left at symbols.now paths.now ≡ []) (λ found. offers_left at symbols.now paths.now ≡ found.0 ∷ offers_left found.1 symbols.now paths.now) }
     ensures start { IfSome result (λ found. found.1.start ≡ at.start) }
 {
     match next_here(paths, at) {
@@ -75,8 +76,8 @@ pub fn next_offer<'a>(
 }
 
 /// The next path of the present run; None where that is at its end.
-fn next_here(paths: &[PartialPath], at: FileOffers) -> Option<&PartialPath>
-    ensures value { option_copied result ≡ slice_get (next_rules at paths.now) 0 }
+fn next_here<'a>(paths: &StoredPaths<'a>, at: FileOffers) -> Option<StoredPath<'a>>
+    ensures value { result ≡ slice_get (next_rules at paths.now) 0 }
     ensures inside { IfSome result (λ _. at.place < at.end) }
 {
     if at.place < at.end {
@@ -88,13 +89,13 @@ fn next_here(paths: &[PartialPath], at: FileOffers) -> Option<&PartialPath>
 
 /// The first path of the runs to come, and where the look-up stands after it; None where they have none.
 fn next_run<'a>(
-    paths: &'a [PartialPath],
+    paths: &StoredPaths<'a>,
     starts: &StartTable,
     symbols: &SymbolStack,
     at: FileOffers,
-) -> Option<(&'a PartialPath, FileOffers)>
+) -> Option<(StoredPath<'a>, FileOffers)>
     requires { IsByKey paths.now }
-    ensures next { MatchOption result (filter (is_later at symbols.now) paths.now ≡ []) (λ found. filter (is_later at symbols.now) paths.now ≡ found.0.now ∷ offers_left found.1 symbols.now paths.now) }
+    ensures next { MatchOption result (filter (is_later at symbols.now) paths.now ≡ []) (λ found. filter (is_later at symbols.now) paths.now ≡ found.0 ∷ offers_left found.1 symbols.now paths.now) }
     ensures start { IfSome result (λ found. found.1.start ≡ at.start) }
 {
     let most = KEY_SIZE.min(symbols.len());
@@ -109,7 +110,7 @@ fn next_run<'a>(
                 end,
                 asked: asked + 1,
             };
-            return Some((&paths[place], after));
+            return Some((paths.at(place), after));
         }
     }
     None

@@ -1,5 +1,5 @@
 //! Where a search takes its partial paths from.
-ghost use Rattle.std.specs.Prelude.{◌≡◌, [], ◌∷◌, ℕ, List, Option, MatchOption, All, IsSome, IsPermutation, option_map, option_copied, slice_get};
+ghost use Rattle.std.specs.Prelude.{◌≡◌, [], ◌∷◌, ℕ, List, Option, MatchOption, All, IsSome, IsPermutation, option_copied, slice_get};
 ghost use Rattle.graph_nodes.specs.declared.node.Place.TheVariants.{At};
 ghost use Rattle.graph_nodes.specs.Whole.{node_of, is_cut_of, is_definition_of, is_reference_of};
 ghost use Rattle.stacks_vars.specs.declared.items.SymbolItem.{SymbolItem};
@@ -8,8 +8,8 @@ ghost use Rattle.partial_path.specs.Rules.{Rule};
 ghost use Rattle.partial_path.specs.PathSets.{FileRules};
 ghost use Rattle.partial_path.specs.Sources.{IsSourceFile, graphs_of, rules_from, rules_offered};
 
-use crate::path::PartialPath;
 use crate::rule::Start;
+use crate::stored::StoredPath;
 use stacks_vars::{NodeAt, Symbol, SymbolStack};
 
 /// The path sets of a list of files. A path, a start and a node are told with the number of their file, its
@@ -30,8 +30,8 @@ pub trait PathSource {
         start: &Start,
         first: Option<&Symbol>,
         k: usize,
-    ) -> Option<(u32, &PartialPath)>
-        ensures value { option_map (λ found. (found.0, found.1.now)) result ≡ slice_get (listed self.now start.now (option_copied first.entry)) k }
+    ) -> Option<(u32, StoredPath<'_>)>
+        ensures value { result ≡ slice_get (listed self.now start.now (option_copied first.entry)) k }
         ensures exact { IsPermutation (rules_from (files self.now) start.now (option_copied first.entry)) (listed self.now start.now (option_copied first.entry)) }
         ensures sets { All IsSourceFile (files self.now) };
 
@@ -56,8 +56,8 @@ pub trait PathSource {
         &self,
         symbols: &SymbolStack,
         at: Self::Offers,
-    ) -> Option<(u32, &PartialPath, Self::Offers)>
-        ensures { MatchOption result (offered self.now symbols.now at ≡ []) (λ found. offered self.now symbols.now at ≡ (found.0, found.1.now) ∷ offered self.now symbols.now found.2) };
+    ) -> Option<(u32, StoredPath<'_>, Self::Offers)>
+        ensures { MatchOption result (offered self.now symbols.now at ≡ []) (λ found. offered self.now symbols.now at ≡ (found.0, found.1) ∷ offered self.now symbols.now found.2) };
 
     /// Whether the node is a reference of its file; false where there is no such file or node.
     fn is_reference(&self, at: &NodeAt) -> bool

@@ -8,9 +8,11 @@ ghost use Rattle.partial_path.specs.Rules.{Rule};
 ghost use Rattle.partial_path.specs.Starts.{IsByStart, begins_at, is_before, rules_at, start_cmp};
 
 use crate::config::Spot;
-use crate::path::PartialPath;
+use crate::halving::middle_of;
 use crate::rule::Start;
 use crate::slots::first_head;
+use crate::stored::StoredPath;
+use crate::stored_paths::StoredPaths;
 use std::alloc::{AllocError, Global};
 use std::cmp::Ordering;
 
@@ -30,7 +32,7 @@ impl StartTable {
 
     /// The table of these paths, which are in the order of their starts, of a file with so many nodes. It
     /// takes memory for two numbers a node and one a path, and does without a table where that is refused.
-    pub fn of(alloc: Global, paths: &[PartialPath], nodes: u32) -> StartTable {
+    pub fn of(alloc: Global, paths: &StoredPaths<'_>, nodes: u32) -> StartTable {
         let before = match counts_of(alloc, paths, nodes) {
             Ok(before) => before,
             Err(_) => Vec::new(alloc),
@@ -57,7 +59,7 @@ impl StartTable {
 
     /// Where the paths stand that begin there: from which place on, and before which. It takes constant time
     /// where the table tells it, and halves over all paths where it doesn't.
-    pub fn run(&self, paths: &[PartialPath], start: Start) -> (usize, usize)
+    pub fn run(&self, paths: &StoredPaths<'_>, start: Start) -> (usize, usize)
         requires { IsByStart paths.now }
         ensures run { take (result.1 - result.0) (drop result.0 paths.now) ≡ rules_at start paths.now }
         ensures bounds { (result.0 ≤ result.1) × (result.1 ≤ length paths.now) }
@@ -80,11 +82,11 @@ impl StartTable {
 
 /// How many of the paths stand before those of each start, by the start's place. The one error is want of
 /// memory.
-fn counts_of(alloc: Global, paths: &[PartialPath], nodes: u32) -> Result<Vec<u32>, AllocError> {
+fn counts_of(alloc: Global, paths: &StoredPaths<'_>, nodes: u32) -> Result<Vec<u32>, AllocError> {
     let places = place_of(Start::After(Spot::Root), nodes) + nodes as usize + 2;
     let mut before = Vec::with_capacity(alloc, places)?;
     for i in 0..paths.len() {
-        let place = place_of(paths[i].start(), nodes);
+        let place = place_of(paths.at(i).start(), nodes);
         if before.len() <= place {
             before.resize(place + 1, count_of(i))?;
         }
@@ -96,10 +98,10 @@ fn counts_of(alloc: Global, paths: &[PartialPath], nodes: u32) -> Result<Vec<u32
 }
 
 /// The heads of the paths' first symbols. The one error is want of memory.
-fn heads_of(alloc: Global, paths: &[PartialPath]) -> Result<Vec<u64>, AllocError> {
+fn heads_of(alloc: Global, paths: &StoredPaths<'_>) -> Result<Vec<u64>, AllocError> {
     let mut heads = Vec::with_capacity(alloc, paths.len())?;
-    for path in paths {
-        heads.push(first_head(path))?;
+    for i in 0..paths.len() {
+        heads.push(first_head(&paths.at(i)))?;
     }
     Ok(heads)
 }
@@ -122,7 +124,7 @@ fn place_of(start: Start, nodes: u32) -> usize
 }
 
 /// Where the paths of the start stand, by a look whether that is between those two places.
-fn checked_run(paths: &[PartialPath], start: Start, low: usize, high: usize) -> (usize, usize)
+fn checked_run(paths: &StoredPaths<'_>, start: Start, low: usize, high: usize) -> (usize, usize)
     requires { IsByStart paths.now }
     ensures run { take (result.1 - result.0) (drop result.0 paths.now) ≡ rules_at start paths.now }
     ensures bounds { (result.0 ≤ result.1) × (result.1 ≤ length paths.now) }
@@ -134,7 +136,7 @@ fn checked_run(paths: &[PartialPath], start: Start, low: usize, high: usize) -> 
 }
 
 /// Whether the paths of the start stand between those two places.
-fn is_run(paths: &[PartialPath], start: Start, low: usize, high: usize) -> bool
+fn is_run(paths: &StoredPaths<'_>, start: Start, low: usize, high: usize) -> bool
     requires order { IsByStart paths.now }
     requires bounds { (low ≤ high) × (high ≤ length paths.now) }
     ensures { IsTrue result → take (high - low) (drop low paths.now) ≡ rules_at start paths.now }
@@ -149,75 +151,96 @@ fn is_run(paths: &[PartialPath], start: Start, low: usize, high: usize) -> bool
 }
 
 /// Whether the path before that place begins before the start; true where there is none.
-fn follows_others(paths: &[PartialPath], start: Start, low: usize) -> bool
+fn follows_others(paths: &StoredPaths<'_>, start: Start, low: usize) -> bool
     requires { low ≤ length paths.now }
     ensures { IsTrue result → 0 < low → (d : Rule) → is_lt (start_cmp (slice_index_or paths.now (low - 1) d).start start) ≡ true }
 {
-    low == 0 || side_of(&paths[low - 1], start).is_lt()
+    low == 0 || side_of(&paths.at(low - 1), start).is_lt()
 }
 
 /// Whether the path at that place begins behind the start; true where there is none.
-fn others_follow(paths: &[PartialPath], start: Start, high: usize) -> bool
+fn others_follow(paths: &StoredPaths<'_>, start: Start, high: usize) -> bool
     requires { high ≤ length paths.now }
     ensures { IsTrue result → high < length paths.now → (d : Rule) → is_gt (start_cmp (slice_index_or paths.now high d).start start) ≡ true }
 {
-    high == paths.len() || side_of(&paths[high], start).is_gt()
+    high == paths.len() || side_of(&paths.at(high), start).is_gt()
 }
 
 /// Whether the first and the last path between those places begin there; true where there is none.
-fn are_there(paths: &[PartialPath], start: Start, low: usize, high: usize) -> bool
+fn are_there(paths: &StoredPaths<'_>, start: Start, low: usize, high: usize) -> bool
     requires { (low ≤ high) × (high ≤ length paths.now) }
     ensures first { IsTrue result → low < high → (d : Rule) → is_eq (start_cmp (slice_index_or paths.now low d).start start) ≡ true }
     ensures last { IsTrue result → low < high → (d : Rule) → is_eq (start_cmp (slice_index_or paths.now (high - 1) d).start start) ≡ true }
 {
-    low == high || (side_of(&paths[low], start).is_eq() && side_of(&paths[high - 1], start).is_eq())
+    low == high
+        || (side_of(&paths.at(low), start).is_eq() && side_of(&paths.at(high - 1), start).is_eq())
 }
 
 /// How the path's start stands to the start.
-fn side_of(path: &PartialPath, start: Start) -> Ordering
+fn side_of(path: &StoredPath<'_>, start: Start) -> Ordering
     ensures { result ≡ start_cmp path.now.start start }
 {
     path.start().cmp(&start)
 }
 
 /// Where the paths of the start stand, found by halving.
-fn halved_run(paths: &[PartialPath], start: Start) -> (usize, usize)
+fn halved_run(paths: &StoredPaths<'_>, start: Start) -> (usize, usize)
     requires { IsByStart paths.now }
     ensures run { take (result.1 - result.0) (drop result.0 paths.now) ≡ rules_at start paths.now }
     ensures bounds { (result.0 ≤ result.1) × (result.1 ≤ length paths.now) }
 {
     let low = count_before(paths, start);
-    let many = count_at(&paths[low..], start);
+    let many = count_at(&paths.between(low, paths.len()), start);
     (low, low + many)
 }
 
 /// How many of the paths, which are in the order of their starts, begin before the start.
-fn count_before(paths: &[PartialPath], start: Start) -> usize
+pub fn count_before(paths: &StoredPaths<'_>, start: Start) -> usize
     requires { IsByStart paths.now }
     ensures value { result ≡ prefix_len (is_before start) paths.now }
     ensures bound { result ≤ length paths.now }
 {
-    paths.partition_point(|path| begins_before(path, start))
+    let mut low = 0;
+    let mut high = paths.len();
+    while low < high {
+        let middle = middle_of(low, high);
+        if begins_before(&paths.at(middle), start) {
+            low = middle + 1;
+            continue;
+        }
+        high = middle;
+    }
+    low
 }
 
 /// How many of the first paths begin there, of paths of which none begins there after one that doesn't.
-fn count_at(paths: &[PartialPath], start: Start) -> usize
+fn count_at(paths: &StoredPaths<'_>, start: Start) -> usize
     requires { IsPartitionedBy (begins_at start) paths.now }
     ensures value { result ≡ prefix_len (begins_at start) paths.now }
     ensures bound { result ≤ length paths.now }
 {
-    paths.partition_point(|path| begins_at(path, start))
+    let mut low = 0;
+    let mut high = paths.len();
+    while low < high {
+        let middle = middle_of(low, high);
+        if begins_at(&paths.at(middle), start) {
+            low = middle + 1;
+            continue;
+        }
+        high = middle;
+    }
+    low
 }
 
 /// Whether the path begins before the start, in the order of starts.
-fn begins_before(path: &PartialPath, start: Start) -> bool
+fn begins_before(path: &StoredPath<'_>, start: Start) -> bool
     ensures { result ≡ is_before start path.now }
 {
     path.start() < start
 }
 
 /// Whether the path begins there.
-fn begins_at(path: &PartialPath, start: Start) -> bool
+fn begins_at(path: &StoredPath<'_>, start: Start) -> bool
     ensures { result ≡ begins_at start path.now }
 {
     path.start() == start

@@ -4,7 +4,7 @@ use crate::groups::Groups;
 use crate::looks::{RootLook, next_looked};
 use crate::offers::{RootOffers, next_slot};
 use crate::slot::Slot;
-use partial_path::{PartialPath, Spot, Start};
+use partial_path::{Spot, Start, StoredPath, count_before};
 use stacks_vars::{Symbol, SymbolStack};
 use std::alloc::{AllocError, Global};
 use std::marker::Model;
@@ -36,7 +36,7 @@ impl Model for RootIndex {
 
 impl RootIndex {
     ghost use Rattle.std.specs.Prelude.{◌≡◌, [], ◌∷◌, IfOk, MatchOption, IsPermutation, option_copied};
-    ghost use Rattle.version_tree.specs.Contents.{AreRows, edited_all};
+    ghost use Rattle.version_tree.specs.Contents.{edited_all};
     ghost use Rattle.root_index.specs.Roots.{IsIndexOf, IsIndexOfView};
     ghost use Rattle.root_index.specs.Offers.{files_of, offers_left, roots_offered};
     ghost use Rattle.root_index.specs.Looks.{look_left, roots_looked};
@@ -134,8 +134,8 @@ impl RootIndex {
         symbol: Option<&Symbol>,
         view: &'a View,
         at: RootLook,
-    ) -> Option<(u32, &'a PartialPath, RootLook)>
-        ensures { MatchOption result (look_left (files_of view.now) (option_copied symbol.entry) at ≡ []) (λ found. look_left (files_of view.now) (option_copied symbol.entry) at ≡ (found.0, found.1.now) ∷ look_left (files_of view.now) (option_copied symbol.entry) found.2) }
+    ) -> Option<(u32, StoredPath<'a>, RootLook)>
+        ensures { MatchOption result (look_left (files_of view.now) (option_copied symbol.entry) at ≡ []) (λ found. look_left (files_of view.now) (option_copied symbol.entry) at ≡ (found.0, found.1) ∷ look_left (files_of view.now) (option_copied symbol.entry) found.2) }
     {
         next_looked(view, symbol, at)
     }
@@ -165,8 +165,8 @@ impl RootIndex {
         view: &View,
         symbols: &SymbolStack,
         at: RootOffers,
-    ) -> Option<(u32, &PartialPath, RootOffers)>
-        ensures { MatchOption result (offers_left at symbols.now view.now self.now ≡ []) (λ found. offers_left at symbols.now view.now self.now ≡ (found.0, found.1.now) ∷ offers_left found.2 symbols.now view.now self.now) }
+    ) -> Option<(u32, StoredPath<'_>, RootOffers)>
+        ensures { MatchOption result (offers_left at symbols.now view.now self.now ≡ []) (λ found. offers_left at symbols.now view.now self.now ≡ (found.0, found.1) ∷ offers_left found.2 symbols.now view.now self.now) }
     {
         let mut at = at;
         while let Some((slot, after)) = next_slot(&self.slots, symbols, at) {
@@ -179,15 +179,13 @@ impl RootIndex {
     }
 }
 
-ghost use Rattle.std.specs.Prelude.{◌≡◌, ◌≤◌, ◌++◌, Some, length, drop, take, IfOk, OnOk, IsTrue, IsPermutation, option_copied};
-ghost use Rattle.version_tree.specs.Contents.{FileRow};
+ghost use Rattle.std.specs.Prelude.{◌≡◌, ◌++◌, Some, IfOk, OnOk, IsTrue, IsPermutation, option_copied};
 ghost use Rattle.version_tree.specs.Views.{path_at};
-ghost use Rattle.root_index.specs.Roots.{AreByRank, IsIndexOf, all_roots, roots_of, roots_from, root};
+ghost use Rattle.root_index.specs.Roots.{AreByRank, IsIndexOf, all_roots, roots_of, root};
 ghost use Rattle.root_index.specs.Offers.{number_in};
 ghost use Rattle.root_index.specs.Amended.{AreFrom, AreOf, edit_path, names, is_touched, other_paths, rows_at, touched_rows, without_file};
 ghost use Rattle.root_index.specs.Blocks.{IsStrict, all_paths};
-ghost use Rattle.std.specs.List.{prefix_len};
-ghost use Rattle.partial_path.specs.Starts.{IsByStart, begins_at, is_before};
+ghost use Rattle.partial_path.specs.Starts.{begins_at};
 
 /// The number of the file at the path in the view: the one told where the file stands there, as in a view of all
 /// files, else found by halving; None where it isn't seen.
@@ -317,7 +315,7 @@ fn without_file(alloc: Global, groups: Groups, file: &FileHandle) -> Result<Grou
     let mut rest = groups;
     let paths = file.paths().get().paths();
     for place in 0..paths.len() {
-        if is_from_root(&paths[place]) {
+        if is_from_root(&paths.at(place)) {
             rest = rest.without(alloc, &Slot::of(file.share()?, place))?;
         }
     }
@@ -372,7 +370,7 @@ fn with_file(alloc: Global, groups: Groups, file: &FileHandle) -> Result<Groups,
     let mut more = groups;
     let paths = file.paths().get().paths();
     for place in 0..paths.len() {
-        if is_from_root(&paths[place]) {
+        if is_from_root(&paths.at(place)) {
             more = more.with(alloc, Slot::of(file.share()?, place))?;
         }
     }
@@ -473,8 +471,8 @@ fn add_slots(file: &FileHandle, slots: &mut Vec<Slot>) -> Result<(), AllocError>
     ensures { OnOk result (slots.new.items ≡ slots.old.items ++ roots_of file.now) }
 {
     let paths = file.paths().get().paths();
-    for place in count_before_root(paths)..paths.len() {
-        if !is_from_root(&paths[place]) {
+    for place in count_before(&paths, Start::After(Spot::Root))..paths.len() {
+        if !is_from_root(&paths.at(place)) {
             return Ok(());
         }
         slots.push(Slot::of(file.share()?, place))?;
@@ -482,24 +480,8 @@ fn add_slots(file: &FileHandle, slots: &mut Vec<Slot>) -> Result<(), AllocError>
     Ok(())
 }
 
-/// How many of the paths, which are in the order of their starts, begin before the root.
-fn count_before_root(paths: &[PartialPath]) -> usize
-    requires { IsByStart paths.now }
-    ensures value { result ≡ prefix_len (is_before root) paths.now }
-    ensures bound { result ≤ length paths.now }
-{
-    paths.partition_point(begins_before_root)
-}
-
-/// Whether the path begins before the root, in the order of starts.
-fn begins_before_root(path: &PartialPath) -> bool
-    ensures { result ≡ is_before root path.now }
-{
-    path.start() < Start::After(Spot::Root)
-}
-
 /// Whether the path begins at the root.
-fn is_from_root(path: &PartialPath) -> bool
+fn is_from_root(path: &StoredPath<'_>) -> bool
     ensures { result ≡ begins_at root path.now }
 {
     path.start() == Start::After(Spot::Root)

@@ -7,12 +7,12 @@ ghost use Rattle.std.specs.Cmp.Lexicographic.{slice_cmp};
 ghost use Rattle.partial_path.specs.Keys.{key, key_cmp, key_size, texts};
 ghost use Rattle.root_index.specs.Heads.{AreHeads, IsHeadAt};
 
-use partial_path::{KEY_SIZE, PartialPath};
+use partial_path::{KEY_SIZE, StoredPath};
 use stacks_vars::SymbolStack;
 use std::cmp::Ordering;
 
 /// The heads of the first six symbols that the path asks for; 0 where it asks for fewer.
-pub(crate) fn heads_of(path: &PartialPath) -> [u64; 6]
+pub(crate) fn heads_of(path: &StoredPath<'_>) -> [u64; 6]
     ensures { AreHeads result (key path.now) }
 {
     [
@@ -26,11 +26,11 @@ pub(crate) fn heads_of(path: &PartialPath) -> [u64; 6]
 }
 
 /// The head of the symbol that the path asks for at that place, from 0; 0 where it asks for fewer.
-fn head_at(path: &PartialPath, i: usize) -> u64
+fn head_at(path: &StoredPath<'_>, i: usize) -> u64
     requires { i < key_size }
     ensures { IsHeadAt result (slice_get (key path.now) i) }
 {
-    match path.pre().symbols.items().get(i) {
+    match path.asked().get(i) {
         Some(pat) => pat.symbol.head(),
         None => 0,
     }

@@ -1,11 +1,11 @@
 //! Going over a user's paths from the root, file by file.
-ghost use Rattle.std.specs.Prelude.{◌≡◌, ◌<◌, [], ◌∷◌, ◌+◌, drop, filter, length, option_copied, IfSome, MatchOption};
-ghost use Rattle.partial_path.specs.Sources.{asks_rule, rules_after};
+ghost use Rattle.std.specs.Prelude.{◌≡◌, ◌<◌, [], ◌∷◌, ◌+◌, drop, filter, option_copied, IfSome, MatchOption};
+ghost use Rattle.partial_path.specs.Sources.{asks_rule};
 ghost use Rattle.root_index.specs.Roots.{root};
 ghost use Rattle.root_index.specs.Offers.{files_of};
-ghost use Rattle.root_index.specs.Looks.{look_at, look_behind, look_here, look_left};
+ghost use Rattle.root_index.specs.Looks.{look_behind, look_here, look_left};
 
-use partial_path::{PartialPath, Spot, Start, asks};
+use partial_path::{Spot, Start, StoredPath, StoredPaths, asks};
 use stacks_vars::Symbol;
 use version_tree::View;
 
@@ -23,8 +23,8 @@ pub(crate) fn next_looked<'a>(
     view: &'a View,
     symbol: Option<&Symbol>,
     at: RootLook,
-) -> Option<(u32, &'a PartialPath, RootLook)>
-    ensures { MatchOption result (look_left (files_of view.now) (option_copied symbol.entry) at ≡ []) (λ found. look_left (files_of view.now) (option_copied symbol.entry) at ≡ (found.0, found.1.now) ∷ look_left (files_of view.now) (option_copied symbol.entry) found.2) }
+) -> Option<(u32, StoredPath<'a>, RootLook)>
+    ensures { MatchOption result (look_left (files_of view.now) (option_copied symbol.entry) at ≡ []) (λ found. look_left (files_of view.now) (option_copied symbol.entry) at ≡ (found.0, found.1) ∷ look_left (files_of view.now) (option_copied symbol.entry) found.2) }
 {
     match looked_here(view, symbol, at) {
         Some(found) => Some(found),
@@ -37,8 +37,8 @@ fn looked_here<'a>(
     view: &'a View,
     symbol: Option<&Symbol>,
     at: RootLook,
-) -> Option<(u32, &'a PartialPath, RootLook)>
-    ensures next { MatchOption result (look_here (files_of view.now) (option_copied symbol.entry) at ≡ []) (λ found. look_here (files_of view.now) (option_copied symbol.entry) at ≡ (found.0, found.1.now) ∷ look_here (files_of view.now) (option_copied symbol.entry) found.2) }
+) -> Option<(u32, StoredPath<'a>, RootLook)>
+    ensures next { MatchOption result (look_here (files_of view.now) (option_copied symbol.entry) at ≡ []) (λ found. look_here (files_of view.now) (option_copied symbol.entry) at ≡ (found.0, found.1) ∷ look_here (files_of view.now) (option_copied symbol.entry) found.2) }
     ensures file { IfSome result (λ found. found.2.file ≡ at.file) }
 {
     if at.file >= view.row_count() {
@@ -48,7 +48,7 @@ fn looked_here<'a>(
         .paths(at.file)
         .get()
         .paths_from(Start::After(Spot::Root));
-    match next_asked(paths, symbol, at.place) {
+    match next_asked(&paths, symbol, at.place) {
         Some((path, place)) => {
             let after = RootLook {
                 file: at.file,
@@ -65,8 +65,8 @@ fn looked_behind<'a>(
     view: &'a View,
     symbol: Option<&Symbol>,
     at: RootLook,
-) -> Option<(u32, &'a PartialPath, RootLook)>
-    ensures { MatchOption result (look_behind (files_of view.now) (option_copied symbol.entry) at ≡ []) (λ found. look_behind (files_of view.now) (option_copied symbol.entry) at ≡ (found.0, found.1.now) ∷ look_left (files_of view.now) (option_copied symbol.entry) found.2) }
+) -> Option<(u32, StoredPath<'a>, RootLook)>
+    ensures { MatchOption result (look_behind (files_of view.now) (option_copied symbol.entry) at ≡ []) (λ found. look_behind (files_of view.now) (option_copied symbol.entry) at ≡ (found.0, found.1) ∷ look_left (files_of view.now) (option_copied symbol.entry) found.2) }
 {
     let count = view.row_count();
     if at.file >= count {
@@ -83,15 +83,16 @@ fn looked_behind<'a>(
 /// The first of the paths from that place on that can be met with that symbol in front, and the place behind
 /// it.
 fn next_asked<'a>(
-    paths: &'a [PartialPath],
+    paths: &StoredPaths<'a>,
     symbol: Option<&Symbol>,
     place: usize,
-) -> Option<(&'a PartialPath, usize)>
-    ensures { MatchOption result (filter (asks_rule (option_copied symbol.entry)) (drop place paths.now) ≡ []) (λ found. filter (asks_rule (option_copied symbol.entry)) (drop place paths.now) ≡ found.0.now ∷ filter (asks_rule (option_copied symbol.entry)) (drop found.1 paths.now)) }
+) -> Option<(StoredPath<'a>, usize)>
+    ensures { MatchOption result (filter (asks_rule (option_copied symbol.entry)) (drop place paths.now) ≡ []) (λ found. filter (asks_rule (option_copied symbol.entry)) (drop place paths.now) ≡ found.0 ∷ filter (asks_rule (option_copied symbol.entry)) (drop found.1 paths.now)) }
 {
     for i in place..paths.len() {
-        if asks(&paths[i], symbol) {
-            return Some((&paths[i], i + 1));
+        let path = paths.at(i);
+        if asks(&path, symbol) {
+            return Some((path, i + 1));
         }
     }
     None

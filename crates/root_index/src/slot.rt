@@ -1,6 +1,6 @@
 use crate::file_handle::FileHandle;
 use crate::key_heads::{heads_of, heads_order, heads_side, stand_within};
-use partial_path::{PartialPath, key_side, keys_cmp};
+use partial_path::{StoredPath, key_side, keys_cmp};
 use stacks_vars::SymbolStack;
 use std::alloc::AllocError;
 use std::cmp::Ordering;
@@ -40,7 +40,7 @@ impl Slot {
         requires { place < length file.file.rules }
         ensures { result ≡ root_path file.path place (slice_get file.file.rules place) }
     {
-        let heads = heads_of(&file.paths().get().paths()[place]);
+        let heads = heads_of(&file.paths().get().paths().at(place));
         Slot { file, place, heads }
     }
 
@@ -63,10 +63,10 @@ impl Slot {
     }
 
     /// The partial path itself.
-    pub(crate) fn rule(&self) -> &PartialPath
-        ensures { self.now.rule ≡ Some result.now }
+    pub(crate) fn rule(&self) -> StoredPath<'_>
+        ensures { self.now.rule ≡ Some result }
     {
-        &self.file.paths().get().paths()[self.place]
+        self.file.paths().get().paths().at(self.place)
     }
 
     /// The number of its file's row in the version of which its file was taken up.
@@ -87,7 +87,7 @@ impl Slot {
     {
         match heads_side(&self.heads, symbols, count) {
             Some(order) => order,
-            None => key_side(self.rule(), symbols, count),
+            None => key_side(&self.rule(), symbols, count),
         }
     }
 
@@ -109,7 +109,7 @@ impl Slot {
     {
         match heads_order(&self.heads, &other.heads) {
             Some(order) => order,
-            None => keys_cmp(self.rule(), other.rule()),
+            None => keys_cmp(&self.rule(), &other.rule()),
         }
     }
 

@@ -36,11 +36,11 @@ all_with P xs x h p =
     All-from_recursion P (xs ++ x ∷ []) (all-append P xs (x ∷ []) (recursion_from_All P xs h) (p, tt))
 
 -- the level of a path that was joined stands behind the trail
-module _ (q : Asked) (trail : List Level) (at : Config) (level : Level) (here : IsHere q trail at) (offered : IsOffered q trail at (path_of level)) (applies : apply (moved level.file level.path.now) at ≡ Some level.at) where
+module _ (q : Asked) (trail : List Level) (at : Config) (level : Level) (here : IsHere q trail at) (offered : IsOffered q trail at (path_of level)) (applies : apply (moved level.file level.path) at ≡ Some level.at) where
   keeps_there : joined_by q (joined (paths_of trail) at) (path_of level) ≡ joined (with_path (paths_of trail) (path_of level)) level.at ∷ [] → keeps_straight q (paths_of trail) level.at ≡ true
   keeps_there one =
       let x = joined (with_path (paths_of trail) (path_of level)) level.at in
-      let r = landed_of q (joined (paths_of trail) at) x (path_of level) (apply (moved level.file level.path.now) at) (subst (IsIn x) (sym one) (inl refl)) in
+      let r = landed_of q (joined (paths_of trail) at) x (path_of level) (apply (moved level.file level.path) at) (subst (IsIn x) (sym one) (inl refl)) in
       subst (λ (n : Config). keeps_straight q (paths_of trail) n ≡ true) (ap (λ (y : Joined). y.at) r.3) r.2
 
   pub here_next : joined_by q (joined (paths_of trail) at) (path_of level) ≡ joined (with_path (paths_of trail) (path_of level)) level.at ∷ [] → IsTrue (is_at_cut q level.at) → IsHere q (trail ++ level ∷ []) level.at
@@ -77,7 +77,7 @@ added_more q trail a b c m n = (
   all-append (IsLast q trail) m.0 n.0 m.2 n.2,
 )
 
-pub last_of : (q : Asked) (trail : List Level) (edges : ℕ) (level : Level) (cut bounded : Bool) → cut ≡ is_at_cut q level.at → bounded ≡ is_bounded q (with_path (paths_of trail) (path_of level)) → (IsTrue (is_at_cut q level.at) → IsHere q (trail ++ level ∷ []) level.at) → edges ≡ edge_count (with_path (paths_of trail) (path_of level)) → All (λ (l : Level). Moves l.file l.path.now) trail → Moves level.file level.path.now → (cut && bounded) ≡ true → IsLast q trail (opened_at trail edges level)
+pub last_of : (q : Asked) (trail : List Level) (edges : ℕ) (level : Level) (cut bounded : Bool) → cut ≡ is_at_cut q level.at → bounded ≡ is_bounded q (with_path (paths_of trail) (path_of level)) → (IsTrue (is_at_cut q level.at) → IsHere q (trail ++ level ∷ []) level.at) → edges ≡ edge_count (with_path (paths_of trail) (path_of level)) → All (λ (l : Level). Moves l.file l.path) trail → Moves level.file level.path → (cut && bounded) ≡ true → IsLast q trail (opened_at trail edges level)
 last_of q trail edges level cut bounded c b here count moves one t =
     let both = and_parts cut bounded t in
     let there : is_at_cut q level.at ≡ true = sym c ∙ both.0 in
@@ -89,7 +89,7 @@ last_of q trail edges level cut bounded c b here count moves one t =
         goes = subst (λ (ps : List (ℕ × Rule)). goes_on q (joined ps level.at) ≡ true) (sym same)
             (or_right (is_none (with_path (paths_of trail) (path_of level))) (is_at_cut q level.at && is_bounded q (with_path (paths_of trail) (path_of level))) (and_from (is_at_cut q level.at) (is_bounded q (with_path (paths_of trail) (path_of level))) there within));
         edges = count ∙ ap edge_count (sym same);
-        moves = all_with (λ (l : Level). Moves l.file l.path.now) trail level moves one;
+        moves = all_with (λ (l : Level). Moves l.file l.path) trail level moves one;
       };
     }
 

@@ -79,7 +79,7 @@ pub record AreOpen (q : Asked) (levels : List Level) (o : Open) : Type 0 where
   pub here : IsHere q levels o.level.at
   pub goes : goes_on q (joined (paths_of levels) o.level.at) ≡ true
   pub edges : o.edges ≡ edge_count (paths_of levels)
-  pub moves : All (λ (l : Level). Moves l.file l.path.now) levels
+  pub moves : All (λ (l : Level). Moves l.file l.path) levels
 
 -- an open one of the trail, and one that has one level more than the whole trail
 pub record IsOpen (q : Asked) (trail : List Level) (o : Open) : Type 0 where

@@ -22,7 +22,7 @@ Moves file rule = All (EdgeIn (FitsFile file)) rule.edges
 
 -- the stored path that was joined, and where it landed
 abbrev pub path_of : Level → ℕ × Rule
-path_of l = (l.file, l.path.now)
+path_of l = (l.file, l.path)
 
 abbrev pub landed_at : Level → Config
 landed_at l = l.at

@@ -36,7 +36,7 @@ pub fn extend<'a, P: PathSource>(
     requires edges { edges ≡ edge_count (paths_of trail.now) }
     requires few_edges { edges ≤ query.bounds.edges }
     requires low { heights (origin (asked (P.files source.now) query)) (paths_of trail.now) ≤ query.bounds.depth }
-    requires trail { All (λ l. Moves l.file l.path.now) trail.now }
+    requires trail { All (λ l. Moves l.file l.path) trail.now }
     requires few { tally.old.counted ≤ max_runs }
     ensures extended { OnOk result (IsExtended (asked (P.files source.now) query) trail.now (joined (paths_of trail.now) at.now) tally.old tally.new work.old.items work.new.items) }
     ensures added { OnOk result (AreAdded (asked (P.files source.now) query) trail.now work.old.items work.new.items) }
@@ -47,7 +47,7 @@ pub fn extend<'a, P: PathSource>(
     while let Some(found) = source.next_offer(&at.stacks.symbols, next) {
         next = found.2;
         join(
-            alloc, source, query, trail, at, edges, found.0, found.1, work, tally,
+            alloc, source, query, trail, at, edges, found.0, &found.1, work, tally,
         )?;
     }
     Ok(())

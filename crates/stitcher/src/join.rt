@@ -25,7 +25,7 @@ use crate::query::Query;
 use crate::tally::Tally;
 use crate::trail::{Level, has_landed, is_back};
 use partial_path::{
-    Config, PartialPath, PathSource, file_zero_moves, joined_paths_are_runs, returns_are_starts,
+    Config, PathSource, StoredPath, file_zero_moves, joined_paths_are_runs, returns_are_starts,
     runs_end_in_files,
 };
 use stacks_vars::NodeAt;
@@ -55,7 +55,7 @@ pub fn landing_of<P: PathSource>(
     trail: &[Level],
     at: &Config,
     file: u32,
-    path: &PartialPath,
+    path: &StoredPath<'_>,
     cut: Option<bool>,
 ) -> Result<Option<Landing>, AllocError>
     requires sources { All IsSourceFile (P.files source.now) }
@@ -97,7 +97,7 @@ pub fn join<'a, P: PathSource>(
     at: &Config,
     edges: usize,
     file: u32,
-    path: &'a PartialPath,
+    path: &StoredPath<'a>,
     work: &mut Vec<Open<'a>>,
     tally: &mut Tally,
 ) -> Result<(), StitchFault>
@@ -108,7 +108,7 @@ pub fn join<'a, P: PathSource>(
     requires edges { edges ≡ edge_count (paths_of trail.now) }
     requires few_edges { edges ≤ query.bounds.edges }
     requires low { heights (origin (asked (P.files source.now) query)) (paths_of trail.now) ≤ query.bounds.depth }
-    requires trail { All (λ l. Moves l.file l.path.now) trail.now }
+    requires trail { All (λ l. Moves l.file l.path) trail.now }
     requires few { tally.old.counted ≤ max_runs }
     ensures noted { OnOk result (IsNoted (asked (P.files source.now) query) (joined_by (asked (P.files source.now) query) (joined (paths_of trail.now) at.now) (file, path.now)) tally.old tally.new) }
     ensures opens { OnOk result (opens_of trail.now work.new.items ≡ opens_of trail.now work.old.items ++ filter (goes_on (asked (P.files source.now) query)) (joined_by (asked (P.files source.now) query) (joined (paths_of trail.now) at.now) (file, path.now))) }
@@ -120,7 +120,7 @@ pub fn join<'a, P: PathSource>(
     file_zero_moves();
     joined_paths_are_runs();
     runs_end_in_files();
-    let more = path.edges().len();
+    let more = path.edge_numbers().len();
     if !path.meets(file, at) {
         return Ok(());
     }
@@ -137,7 +137,7 @@ pub fn join<'a, P: PathSource>(
     };
     let level = Level {
         file,
-        path,
+        path: path.again(),
         at: landing.at,
     };
     note(

@@ -8,24 +8,24 @@ ghost use Rattle.partial_path.specs.Laws.{IsSpotOf};
 ghost use Rattle.stitcher.specs.Ends.{IsEndOf, end_cut, may_land};
 ghost use Rattle.stitcher.specs.Joins.{is_none};
 
-use partial_path::{Bounds, Config, End, PartialPath, PathSource, Spot};
+use partial_path::{Bounds, Config, End, PathSource, Spot, StoredPath};
 use stacks_vars::NodeAt;
 
 /// Whether runs are within the bounds with a path more, which meets the configuration where they stand: whether they
 /// have few enough edges with it, and it isn't too high there.
-pub fn is_within(bounds: Bounds, edges: usize, path: &PartialPath, at: &Config) -> bool
+pub fn is_within(bounds: Bounds, edges: usize, path: &StoredPath<'_>, at: &Config) -> bool
     requires met { length path.now.pre.symbols ≤ length at.now.stacks.symbols }
     requires few { edges ≤ bounds.edges }
     ensures { (base : ℕ) → result ≡ (nat_le (edges + length path.now.edges) bounds.edges && nat_le (height (moved base path.now) at.now) bounds.depth) }
 {
-    let left = at.stacks.symbols.len() - path.pre().symbols.len();
-    path.edges().len() <= bounds.edges as usize - edges
+    let left = at.stacks.symbols.len() - path.asked().len();
+    path.edge_numbers().len() <= bounds.edges as usize - edges
         && path.peak() <= bounds.depth
         && left <= (bounds.depth - path.peak()) as usize
 }
 
 /// Whether runs are cut where a path of the file ends; None where the stack tells where that is.
-pub fn is_cut_end<P: PathSource>(source: &P, file: u32, path: &PartialPath) -> Option<bool>
+pub fn is_cut_end<P: PathSource>(source: &P, file: u32, path: &StoredPath<'_>) -> Option<bool>
     requires fits { FitsEnd file path.now.end }
     requires spot { IsEndOf (graphs_of (P.files source.now)) (moved_end file path.now.end) }
     ensures { result ≡ end_cut (graphs_of (P.files source.now)) (moved_end file path.now.end) }
@@ -42,11 +42,10 @@ pub fn is_cut_end<P: PathSource>(source: &P, file: u32, path: &PartialPath) -> O
 
 /// Whether anything can come of a run with the path, told whether it ends at a cut, where that is known. It costs two
 /// comparisons.
-pub fn may_land(cut: Option<bool>, path: &PartialPath, at: &Config) -> bool
+pub fn may_land(cut: Option<bool>, path: &StoredPath<'_>, at: &Config) -> bool
     ensures { result ≡ may_land cut path.now at.now }
 {
-    cut.unwrap_or(true)
-        || (path.post().symbols.is_empty() && path.pre().symbols.len() == at.stacks.symbols.len())
+    cut.unwrap_or(true) || (path.made().is_empty() && path.asked().len() == at.stacks.symbols.len())
 }
 
 /// Whether a run that lands there is cut there; it may be known.

@@ -37,8 +37,8 @@ pub fn note<'a, P: PathSource>(
     requires cut { cut ≡ is_cut_spot_of (graphs_of (P.files source.now)) level.at.spot }
     requires here { IsTrue (is_cut_spot_of (graphs_of (P.files source.now)) level.at.spot) → IsHere (asked (P.files source.now) query) (trail.now ++ level ∷ []) level.at }
     requires edges { edges ≡ edge_count (with_path (paths_of trail.now) (path_of level)) }
-    requires trail { All (λ l. Moves l.file l.path.now) trail.now }
-    requires level { Moves level.file level.path.now }
+    requires trail { All (λ l. Moves l.file l.path) trail.now }
+    requires level { Moves level.file level.path }
     requires few { tally.old.counted ≤ max_runs }
     ensures noted { OnOk result (IsNoted (asked (P.files source.now) query) (joined (with_path (paths_of trail.now) (path_of level.entry)) level.entry.at ∷ []) tally.old tally.new) }
     ensures opens { OnOk result (opens_of trail.now work.new.items ≡ opens_of trail.now work.old.items ++ filter (goes_on (asked (P.files source.now) query)) (joined (with_path (paths_of trail.now) (path_of level.entry)) level.entry.at ∷ [])) }

@@ -1,12 +1,12 @@
 //! The paths that are joined at the moment, in their order.
-ghost use Rattle.std.specs.Prelude.{◌≡◌, ◌↔◌, ◌++◌, ◌||◌, map, IsTrue, IfOk, All};
+ghost use Rattle.std.specs.Prelude.{◌≡◌, ◌↔◌, ◌++◌, map, IsTrue, IfOk, All};
 ghost use Rattle.std.specs.List.{list_any};
 ghost use Rattle.partial_path.specs.Same.{config_eq};
 ghost use Rattle.partial_path.specs.Laws.{IsAtStart};
 ghost use Rattle.partial_path.specs.Cutting.{path_edges, edges_in};
 ghost use Rattle.stitcher.specs.Trail.{Moves, paths_of, landed_at};
 
-use partial_path::{Config, EdgeAt, PartialPath, Spot};
+use partial_path::{Config, EdgeAt, Spot, StoredPath};
 use stacks_vars::NodeAt;
 use std::alloc::{AllocError, Global};
 
@@ -15,7 +15,7 @@ use std::alloc::{AllocError, Global};
 pub struct Level<'a> {
     /// The number of the path's file.
     pub file: u32,
-    pub path: &'a PartialPath,
+    pub path: StoredPath<'a>,
     pub at: Config,
 }
 
@@ -39,27 +39,28 @@ pub fn has_landed(levels: &[Level], at: &Config) -> bool
 }
 
 /// Adds the edges of a stored path, moved by its file's number.
-pub fn push_edges(edges: &mut Vec<EdgeAt>, file: u32, path: &PartialPath) -> Result<(), AllocError>
+pub fn push_edges(
+    edges: &mut Vec<EdgeAt>,
+    file: u32,
+    path: &StoredPath<'_>,
+) -> Result<(), AllocError>
     requires { Moves file path.now }
     ensures { IfOk result (λ _. edges.new.items ≡ edges.old.items ++ edges_in (file, path.now)) }
 {
-    for edge in path.edges() {
-        edges.push(EdgeAt {
-            file: file + edge.file,
-            edge: edge.edge,
-        })?;
+    for edge in path.edge_numbers() {
+        edges.push(EdgeAt { file, edge: *edge })?;
     }
     Ok(())
 }
 
 /// The edges of the paths, in their order.
 pub fn edges_of(alloc: Global, levels: &[Level]) -> Result<Vec<EdgeAt>, AllocError>
-    requires { All (λ l. Moves l.file l.path.now) levels.now }
+    requires { All (λ l. Moves l.file l.path) levels.now }
     ensures { IfOk result (λ edges. edges.items ≡ path_edges (paths_of levels.now)) }
 {
     let mut edges = Vec::new(alloc);
     for level in levels {
-        push_edges(&mut edges, level.file, level.path)?;
+        push_edges(&mut edges, level.file, &level.path)?;
     }
     Ok(edges)
 }

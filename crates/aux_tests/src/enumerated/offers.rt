@@ -1,7 +1,7 @@
 //! Which paths a list of files offers to a symbol stack, asked as any source of paths is.
 use crate::paths::paths_in;
 use aux_graph_text::{files_of, stacks_of};
-use partial_path::{FileList, PartialPath, PathSource, Spot, Start};
+use partial_path::{FileList, PathSource, Spot, Start, StoredPath};
 use stacks_vars::{NodeAt, SymbolStack};
 use std::alloc::Global;
 use std::test::Fail;
@@ -40,18 +40,24 @@ fn offered<P: PathSource>(
         let Some((file, path, next)) = source.next_offer(symbols, at) else {
             break;
         };
-        push_path(alloc, &mut text, file, path)?;
+        push_path(alloc, &mut text, file, &path)?;
         at = next;
     }
     Ok(text)
 }
 
 /// Puts a path behind the text, as its file and the positions of its edges: ` 0:2+3`.
-fn push_path(alloc: Global, text: &mut String, file: u32, path: &PartialPath) -> Result<(), Fail> {
+fn push_path(
+    alloc: Global,
+    text: &mut String,
+    file: u32,
+    path: &StoredPath<'_>,
+) -> Result<(), Fail> {
     text.push_str(format!(in alloc; " {file}")?.as_str())?;
     let mut mark = ':';
-    for edge in path.edges() {
-        text.push_str(format!(in alloc; "{mark}{}", edge.edge)?.as_str())?;
+    for edge in path.edge_numbers() {
+        let number = *edge;
+        text.push_str(format!(in alloc; "{mark}{number}")?.as_str())?;
         mark = '+';
     }
     Ok(())

@@ -22,14 +22,14 @@ pub try_path-requires-clause-stored : goal.try_path-requires-clause-stored
 try_path-requires-clause-stored g c =
     (listed_next (g.P.BackSource.files c.args.source.now) (record { file = 0; node = 0 }) c.requires.sources c.args.spot c.asked-symbols.result.now
     (g.P.BackSource.given c.args.source.now c.asked-symbols.result.now c.ends-next.result) c.loop-found.invariant.so_far.0
-    (g.P.BackSource.given c.args.source.now c.asked-symbols.result.now c.in-Some.found.2) (c.in-Some.found.0, c.in-Some.found.1.now) c.ends-next.ensures.exact
+    (g.P.BackSource.given c.args.source.now c.asked-symbols.result.now c.in-Some.found.2) (c.in-Some.found.0, c.in-Some.found.1) c.ends-next.ensures.exact
     (ap (λ (xs : List (ℕ × Rule)). c.loop-found.invariant.so_far.0 ++ xs) (sym c.in-Some.ensures) ∙ c.loop-found.invariant.so_far.1)).0
 
 pub loop-found-preserved : goal.loop-found-preserved
 loop-found-preserved g c =
     let files = g.P.BackSource.files c.args.source.now in
     let given = g.P.BackSource.given c.args.source.now c.asked-symbols.result.now in
-    let p : ℕ × Rule = (c.in-Some.found.0, c.in-Some.found.1.now) in
+    let p : ℕ × Rule = (c.in-Some.found.0, c.in-Some.found.1) in
     let gone = c.loop-found.invariant.so_far.0 in
     let whole : gone ++ p ∷ given c.in-Some.found.2 ≡ given c.ends-next.result =
     ap (λ (xs : List (ℕ × Rule)). gone ++ xs) (sym c.in-Some.ensures) ∙ c.loop-found.invariant.so_far.1 in record {
@@ -49,7 +49,7 @@ pub returns-in_err-try_path-clause-many : goal.returns-in_err-try_path-clause-ma
 returns-in_err-try_path-clause-many g c h =
     let files = g.P.BackSource.files c.args.source.now in
     let given = g.P.BackSource.given c.args.source.now c.asked-symbols.result.now in
-    let p : ℕ × Rule = (c.in-Some.found.0, c.in-Some.found.1.now) in
+    let p : ℕ × Rule = (c.in-Some.found.0, c.in-Some.found.1) in
     let gone = c.loop-found.invariant.so_far.0 in
     let whole : gone ++ p ∷ given c.in-Some.found.2 ≡ given c.ends-next.result =
     ap (λ (xs : List (ℕ × Rule)). gone ++ xs) (sym c.in-Some.ensures) ∙ c.loop-found.invariant.so_far.1 in

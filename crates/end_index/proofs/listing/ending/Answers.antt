@@ -6,29 +6,29 @@ use Rattle.root_index.specs.Offers.{files_of}
 use Rattle.end_index.proofs.Listed.{may_in}
 use Rattle.end_index.proofs.listing.ending.Goals as goal
 
-pub loop-path-init : goal.loop-path-init
-loop-path-init c = record { same = refl; passed = refl }
+pub loop-place-init : goal.loop-place-init
+loop-place-init c = record { same = refl; passed = refl }
 
-pub loop-path-preserved-then-not-may_end : goal.loop-path-preserved-then-not-may_end
-loop-path-preserved-then-not-may_end c =
-    left_skipped (may_in (graphs_of (files_of c.args.view.now)) c.args.spot c.args.file) c.args.paths.now c.args.paths.now c.loop-path.path-index c.args.left.now c.loop-path.left c.path-item.result c.loop-path-test.true
-    (ap (may_in (graphs_of (files_of c.args.view.now)) c.args.spot c.args.file) (sym c.path-item.is) ∙ sym c.may_end.ensures ∙ c.if-not-may_end.true) c.loop-path.invariant
+pub loop-place-preserved-then-not-may_end : goal.loop-place-preserved-then-not-may_end
+loop-place-preserved-then-not-may_end c =
+    left_skipped (may_in (graphs_of (files_of c.args.view.now)) c.args.spot c.args.file) c.args.paths.now c.args.paths.now c.loop-place.place c.args.left.now c.loop-place.left c.at-path.result (omega (arith, c.loop-place-test.true, c.len.ensures))
+    (ap (may_in (graphs_of (files_of c.args.view.now)) c.args.spot c.args.file) (sym c.at-path.ensures.is) ∙ sym c.may_end.ensures ∙ c.if-not-may_end.true) c.loop-place.invariant
 
 pub returns-then-left-eq0-clause-found : goal.returns-then-left-eq0-clause-found
 returns-then-left-eq0-clause-found c =
-    ap Some c.path-item.is
-    ∙ left_found (may_in (graphs_of (files_of c.args.view.now)) c.args.spot c.args.file) c.args.paths.now c.args.paths.now c.loop-path.path-index c.args.left.now c.loop-path.left c.path-item.result c.loop-path-test.true
-    (ap (may_in (graphs_of (files_of c.args.view.now)) c.args.spot c.args.file) (sym c.path-item.is) ∙ sym c.may_end.ensures ∙ c.if-not-may_end.false) c.if-left-eq0.true c.loop-path.invariant
+    ap Some c.at-path.ensures.is
+    ∙ left_found (may_in (graphs_of (files_of c.args.view.now)) c.args.spot c.args.file) c.args.paths.now c.args.paths.now c.loop-place.place c.args.left.now c.loop-place.left c.at-path.result (omega (arith, c.loop-place-test.true, c.len.ensures))
+    (ap (may_in (graphs_of (files_of c.args.view.now)) c.args.spot c.args.file) (sym c.at-path.ensures.is) ∙ sym c.may_end.ensures ∙ c.if-not-may_end.false) c.if-left-eq0.true c.loop-place.invariant
 
-pub loop-path-preserved : goal.loop-path-preserved
-loop-path-preserved c =
-    left_counted (may_in (graphs_of (files_of c.args.view.now)) c.args.spot c.args.file) c.args.paths.now c.args.paths.now c.loop-path.path-index c.args.left.now c.loop-path.left c.path-item.result c.loop-path-test.true
-    (ap (may_in (graphs_of (files_of c.args.view.now)) c.args.spot c.args.file) (sym c.path-item.is) ∙ sym c.may_end.ensures ∙ c.if-not-may_end.false) (omega arith) c.loop-path.invariant
+pub loop-place-preserved : goal.loop-place-preserved
+loop-place-preserved c =
+    left_counted (may_in (graphs_of (files_of c.args.view.now)) c.args.spot c.args.file) c.args.paths.now c.args.paths.now c.loop-place.place c.args.left.now c.loop-place.left c.at-path.result (omega (arith, c.loop-place-test.true, c.len.ensures))
+    (ap (may_in (graphs_of (files_of c.args.view.now)) c.args.spot c.args.file) (sym c.at-path.ensures.is) ∙ sym c.may_end.ensures ∙ c.if-not-may_end.false) (omega arith) c.loop-place.invariant
 
 pub returns-clause-found : goal.returns-clause-found
 returns-clause-found c =
-    (left_none (may_in (graphs_of (files_of c.args.view.now)) c.args.spot c.args.file) c.args.paths.now c.args.paths.now c.loop-path.path-index c.args.left.now c.loop-path.left (omega arith) c.loop-path.invariant).0
+    (left_none (may_in (graphs_of (files_of c.args.view.now)) c.args.spot c.args.file) c.args.paths.now c.args.paths.now c.loop-place.place c.args.left.now c.loop-place.left (omega (arith, c.loop-place-test.false, c.len.ensures)) c.loop-place.invariant).0
 
 pub returns-clause-rest : goal.returns-clause-rest
 returns-clause-rest c =
-    (left_none (may_in (graphs_of (files_of c.args.view.now)) c.args.spot c.args.file) c.args.paths.now c.args.paths.now c.loop-path.path-index c.args.left.now c.loop-path.left (omega arith) c.loop-path.invariant).1
+    (left_none (may_in (graphs_of (files_of c.args.view.now)) c.args.spot c.args.file) c.args.paths.now c.args.paths.now c.loop-place.place c.args.left.now c.loop-place.left (omega (arith, c.loop-place-test.false, c.len.ensures)) c.loop-place.invariant).1

@@ -6,5 +6,5 @@ use Rattle.end_index.proofs.Listed.{may_in}
 use Rattle.end_index.proofs.listing.ending.Given as goal
 
 -- what is asked for among all is what is left to ask for among those left
-abbrev pub invariant-loop-path : goal.invariant-loop-path
-invariant-loop-path l = IsLeft (may_in (graphs_of (files_of l.view)) l.spot l.file) l.paths (drop l.path-index l.paths) l.fn.left l.left
+abbrev pub invariant-loop-place : goal.invariant-loop-place
+invariant-loop-place l = IsLeft (may_in (graphs_of (files_of l.view)) l.spot l.file) l.paths (drop l.place l.paths) l.fn.left l.left

@@ -12,16 +12,16 @@ use Rattle.end_index.proofs.listing.path_to.Goals as goal
 pub returns-in-Some : goal.returns-in-Some
 returns-in-Some c =
     let found : slice_get (files_of c.args.view.now) c.loop-file.file ≡ Some c.paths.result.now = slice_get-map (λ (row : FileRow). row.file) c.args.view.now c.loop-file.file ∙ c.paths.ensures in
-    let same : c.paths-paths.result.now ≡ c.paths.result.now.rules = c.paths-paths.ensures.value ∙ ap (λ (f : FileRules). f.rules) c.get.ensures.value in
+    let same : c.paths-paths.result ≡ c.paths.result.now.rules = c.paths-paths.ensures.value ∙ ap (λ (f : FileRules). f.rules) c.get.ensures.value in
     sym (c.loop-file.invariant
-    ∙ to_found (graphs_of (files_of c.args.view.now)) c.args.spot (files_of c.args.view.now) c.loop-file.file c.paths.result.now c.paths-paths.result.now c.loop-file.left c.in-Some.path.now found same c.in-Some.ensures.found)
+    ∙ to_found (graphs_of (files_of c.args.view.now)) c.args.spot (files_of c.args.view.now) c.loop-file.file c.paths.result.now c.paths-paths.result c.loop-file.left c.in-Some.path found same c.in-Some.ensures.found)
 
 pub loop-file-preserved : goal.loop-file-preserved
 loop-file-preserved c =
     let found : slice_get (files_of c.args.view.now) c.loop-file.file ≡ Some c.paths.result.now = slice_get-map (λ (row : FileRow). row.file) c.args.view.now c.loop-file.file ∙ c.paths.ensures in
-    let same : c.paths-paths.result.now ≡ c.paths.result.now.rules = c.paths-paths.ensures.value ∙ ap (λ (f : FileRules). f.rules) c.get.ensures.value in
+    let same : c.paths-paths.result ≡ c.paths.result.now.rules = c.paths-paths.ensures.value ∙ ap (λ (f : FileRules). f.rules) c.get.ensures.value in
     c.loop-file.invariant
-    ∙ to_passed (graphs_of (files_of c.args.view.now)) c.args.spot (files_of c.args.view.now) c.loop-file.file c.paths.result.now c.paths-paths.result.now c.loop-file.left c.ending.new.left found same c.in_default.ensures.rest
+    ∙ to_passed (graphs_of (files_of c.args.view.now)) c.args.spot (files_of c.args.view.now) c.loop-file.file c.paths.result.now c.paths-paths.result c.loop-file.left c.ending.new.left found same c.in_default.ensures.rest
 
 pub returns : goal.returns
 returns c =

@@ -11,4 +11,4 @@ returns-in_err-path c =
 
 pub returns : goal.returns
 returns c =
-    next_given (files_of c.args.view.now) c.args.at c.in_ok-place.after c.args.places.now c.in_ok-place.place c.in_ok-path.path.now c.in_ok-place.ensures c.in_ok-path.ensures
+    next_given (files_of c.args.view.now) c.args.at c.in_ok-place.after c.args.places.now c.in_ok-place.place c.in_ok-path.path c.in_ok-place.ensures c.in_ok-path.ensures

@@ -1,7 +1,6 @@
 -- The last begun path is taken and followed; in the end there is none left.
-use Rattle.std.proofs.Common.{◌+◌, sym, subst, arith}
+use Rattle.std.proofs.Common.{◌+◌, arith}
 use Rattle.std.specs.Vec.{vec_len}
-use Rattle.partial_path.specs.PathSets.{IsPathSet}
 use Rattle.file_paths.specs.declared.fault.TheConstants.{MAX_WEIGHT}
 use Rattle.file_paths.proofs.CountingLaws.{counting_begins, counting_few, counting_within, takes, counted_set, counted_weight, counted_steps, short_last, none_left, least, one_above}
 use Rattle.file_paths.proofs.enumerating.find.Goals as goal
@@ -36,9 +35,8 @@ loop-path-smaller c =
 
 pub returns-clause-paths : goal.returns-clause-paths
 returns-clause-paths c =
-    subst (IsPathSet c.args.graph.now) (sym c.shrink_to_fit.ensures.items)
-    (counted_set c.args.graph.now c.loop-path.found.paths.items c.loop-path.found.begun.items c.loop-path.found.weight c.loop-path.steps
-    (none_left (vec_len c.loop-path.found.begun) c.loop-path.found.begun.items c.pop.new.self.items c.in_default.ensures.cases.0 c.in_default.ensures.items c.in_default.ensures.rest) c.loop-path.invariant.finding)
+    counted_set c.args.graph.now c.loop-path.found.paths.items c.loop-path.found.begun.items c.loop-path.found.weight c.loop-path.steps
+    (none_left (vec_len c.loop-path.found.begun) c.loop-path.found.begun.items c.pop.new.self.items c.in_default.ensures.cases.0 c.in_default.ensures.items c.in_default.ensures.rest) c.loop-path.invariant.finding
 
 pub returns-clause-weight : goal.returns-clause-weight
 returns-clause-weight c =

@@ -12,3 +12,6 @@ returns-in_err-paths-clause-fewer c = λ weight is. let few = c.find.ensures.few
 
 pub returns-clause-fewer : goal.returns-clause-fewer
 returns-clause-fewer c = λ weight is. let few = c.find.ensures.fewer weight is in omega (arith, few, c.requires)
+
+pub returns-in_err-file-clause-fewer : goal.returns-in_err-file-clause-fewer
+returns-in_err-file-clause-fewer c = λ weight is. let few = c.find.ensures.fewer weight is in omega (arith, few, c.requires)

@@ -13,10 +13,10 @@ returns-in_err-file c =
 pub returns-in_err-path : goal.returns-in_err-path
 returns-in_err-path c =
     rw c.from_residual-in_err-path.ensures
-    (asked_in (files_of c.args.view.now) c.args.node.file c.in_ok-file.file.now c.args.start (option_copied c.args.first) c.args.k c.paths_from.result.now None c.are_sources.ensures c.requires.alone c.requires.file
+    (asked_in (files_of c.args.view.now) c.args.node.file c.in_ok-file.file.now c.args.start (option_copied c.args.first) c.args.k c.paths_from.result None c.are_sources.ensures c.requires.alone c.requires.file
     c.in_ok-file.ensures.value (c.paths_from.ensures.value ∙ ap (λ s. rules_at s c.in_ok-file.file.now.rules) c.inside.ensures) c.in_err-path.ensures)
 
 pub returns : goal.returns
 returns c =
-    asked_in (files_of c.args.view.now) c.args.node.file c.in_ok-file.file.now c.args.start (option_copied c.args.first) c.args.k c.paths_from.result.now (Some c.in_ok-path.path.now) c.are_sources.ensures c.requires.alone c.requires.file
+    asked_in (files_of c.args.view.now) c.args.node.file c.in_ok-file.file.now c.args.start (option_copied c.args.first) c.args.k c.paths_from.result (Some c.in_ok-path.path) c.are_sources.ensures c.requires.alone c.requires.file
     c.in_ok-file.ensures.value (c.paths_from.ensures.value ∙ ap (λ s. rules_at s c.in_ok-file.file.now.rules) c.inside.ensures) c.in_ok-path.ensures

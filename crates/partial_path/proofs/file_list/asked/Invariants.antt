@@ -5,5 +5,5 @@ use Rattle.partial_path.proofs.Asking.{IsLeft}
 use Rattle.partial_path.proofs.file_list.asked.Given as goal
 
 -- what is asked for among all is what is left to ask for among those left
-abbrev pub invariant-loop-path : goal.invariant-loop-path
-invariant-loop-path l = IsLeft (asks_rule (option_copied l.first)) l.run (drop l.path-index l.run) l.fn.left l.left
+abbrev pub invariant-loop-place : goal.invariant-loop-place
+invariant-loop-place l = IsLeft (asks_rule (option_copied l.first)) l.run (drop l.place l.run) l.fn.left l.left

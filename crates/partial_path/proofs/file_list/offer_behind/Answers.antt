@@ -8,7 +8,7 @@ loop-file-init c = files_behind c.args.files.now c.args.symbols.now c.args.at (s
 pub returns-in-Some : goal.returns-in-Some
 returns-in-Some c =
     c.loop-file.invariant
-    ∙ found_behind c.args.files.now c.args.symbols.now c.args.at.inside.start c.loop-file.file c.at-inside.result c.in-Some.found.2 (c.in-Some.found.0, c.in-Some.found.1.now)
+    ∙ found_behind c.args.files.now c.args.symbols.now c.args.at.inside.start c.loop-file.file c.at-inside.result c.in-Some.found.2 (c.in-Some.found.0, c.in-Some.found.1)
     (sym c.is_shared.ensures ∙ c.if-not-is_shared.false) (c.at-inside.ensures.all c.args.symbols.now) c.at-inside.ensures.start c.in-Some.ensures.start c.in-Some.ensures.file c.in-Some.ensures.next
 
 pub loop-file-preserved : goal.loop-file-preserved

@@ -7,8 +7,8 @@ pub returns-then-place-end-clause-next : goal.returns-then-place-end-clause-next
 returns-then-place-end-clause-next c =
     let few : c.loop-asked.asked ≤ length c.args.symbols.now = omega (arith, c.loop-asked-test.true, c.min-most.ensures, c.len.ensures) in
     c.loop-asked.invariant
-    ∙ run_begun c.args.paths.now c.args.at.start c.args.symbols.now c.loop-asked.asked c.run_within-place.result.0 c.run_within-place.result.1 c.index-paths-place.result
-    c.requires few c.run_within-place.ensures.run c.if-place-end.true c.run_within-place.ensures.bounds.1 c.index-paths-place.is
+    ∙ run_begun c.args.paths.now c.args.at.start c.args.symbols.now c.loop-asked.asked c.run_within-place.result.0 c.run_within-place.result.1 c.at.result
+    c.requires few c.run_within-place.ensures.run c.if-place-end.true c.run_within-place.ensures.bounds.1 c.at.ensures.is
 
 -- it has none
 pub loop-asked-preserved : goal.loop-asked-preserved

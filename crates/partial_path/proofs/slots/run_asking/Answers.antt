@@ -12,13 +12,15 @@ use Rattle.partial_path.proofs.slots.run_asking.Goals as goal
 pub count_at-many-requires-clause-parted : goal.count_at-many-requires-clause-parted
 count_at-many-requires-clause-parted c =
     let asked = take c.args.count (texts c.args.symbols.now) in
-    let rest = take_rest c.args.paths.now c.count_before-low.result ∙ ap (λ n. drop n c.args.paths.now) c.count_before-low.ensures.value in
+    let rest = c.between.ensures.value ∙ ap (λ n. take (n - c.count_before-low.result) (drop c.count_before-low.result c.args.paths.now)) c.len.ensures
+    ∙ take_rest c.args.paths.now c.count_before-low.result ∙ ap (λ n. drop n c.args.paths.now) c.count_before-low.ensures.value in
     subst (IsPartitionedBy (is_at_slot c.args.start (take c.args.count (texts c.args.symbols.now)))) (sym rest)
     (parted_there (slot_side c.args.start (take c.args.count (texts c.args.symbols.now))) c.args.paths.now (slots_rise c.args.paths.now c.args.start (take c.args.count (texts c.args.symbols.now)) c.requires.order))
 
 pub returns-clause-run : goal.returns-clause-run
 returns-clause-run c =
-    let rest = take_rest c.args.paths.now c.count_before-low.result ∙ ap (λ n. drop n c.args.paths.now) c.count_before-low.ensures.value in
+    let rest = c.between.ensures.value ∙ ap (λ n. take (n - c.count_before-low.result) (drop c.count_before-low.result c.args.paths.now)) c.len.ensures
+    ∙ take_rest c.args.paths.now c.count_before-low.result ∙ ap (λ n. drop n c.args.paths.now) c.count_before-low.ensures.value in
     let many : (c.count_before-low.result + c.count_at-many.result) - c.count_before-low.result ≡ c.count_at-many.result = omega arith in
     ap (λ n. take n (drop c.count_before-low.result c.args.paths.now)) (many ∙ c.count_at-many.ensures.value)
     ∙ ap (λ (rs : List Rule). take (prefix_len (is_at_slot c.args.start (take c.args.count (texts c.args.symbols.now))) rs) (drop c.count_before-low.result c.args.paths.now)) rest

@@ -9,12 +9,14 @@ use Rattle.partial_path.proofs.start_table.halved_run.Goals as goal
 
 pub count_at-many-requires : goal.count_at-many-requires
 count_at-many-requires c =
-    let rest = take_rest c.args.paths.now c.count_before-low.result ∙ ap (λ n. drop n c.args.paths.now) c.count_before-low.ensures.value in
+    let rest = c.between.ensures.value ∙ ap (λ n. take (n - c.count_before-low.result) (drop c.count_before-low.result c.args.paths.now)) c.len.ensures
+    ∙ take_rest c.args.paths.now c.count_before-low.result ∙ ap (λ n. drop n c.args.paths.now) c.count_before-low.ensures.value in
     subst (IsPartitionedBy (begins_at c.args.start)) (sym rest) (parted_at c.args.paths.now c.args.start c.requires)
 
 pub returns-clause-run : goal.returns-clause-run
 returns-clause-run c =
-    let rest = take_rest c.args.paths.now c.count_before-low.result ∙ ap (λ n. drop n c.args.paths.now) c.count_before-low.ensures.value in
+    let rest = c.between.ensures.value ∙ ap (λ n. take (n - c.count_before-low.result) (drop c.count_before-low.result c.args.paths.now)) c.len.ensures
+    ∙ take_rest c.args.paths.now c.count_before-low.result ∙ ap (λ n. drop n c.args.paths.now) c.count_before-low.ensures.value in
     let many : (c.count_before-low.result + c.count_at-many.result) - c.count_before-low.result ≡ c.count_at-many.result = omega arith in
     ap (λ n. take n (drop c.count_before-low.result c.args.paths.now)) (many ∙ c.count_at-many.ensures.value)
     ∙ ap (λ (rs : List Rule). take (prefix_len (begins_at c.args.start) rs) (drop c.count_before-low.result c.args.paths.now)) rest

@@ -1,4 +1,4 @@
-use Rattle.std.proofs.Common.{◌≡◌, sym, ◌∙◌, ap, subst, ◌+◌, ◌++◌, List, drop, slice_get}
+use Rattle.std.proofs.Common.{◌≡◌, sym, ◌∙◌, ap, subst, ◌+◌, ◌++◌, List, drop, slice_get, arith}
 use Rattle.std.specs.List.{insert, prefix_len}
 use Rattle.std.specs.List.Sorted.{IsPermutation}
 use Rattle.partial_path.specs.Rules.{Rule}
@@ -14,27 +14,27 @@ use Rattle.root_index.proofs.index.with_file.Goals.{then-is_from_root+in_ok-shar
 -- a path from the root is put in, another passed over
 pub loop-place-preserved : goal.loop-place-preserved
 loop-place-preserved c =
-    let rules_are : c.paths-paths.result.now ≡ c.args.file.now.file.rules
+    let rules_are : c.paths-paths.result ≡ c.args.file.now.file.rules
     = c.paths-paths.ensures.value ∙ ap (λ (f : FileRules). f.rules) (c.get.ensures.value ∙ c.paths.ensures) in
     let whole : List RootPath = roots_of c.args.file.now ++ all_paths c.args.groups in
     elim c.if-is_from_root.branch [
       | then-is_from_root+in_ok-share+in_ok-more w ↦
-          let slot_is : w.of.result ≡ root_path c.args.file.now.path c.loop-place.place (slice_get c.paths-paths.result.now c.loop-place.place)
+          let slot_is : w.of.result ≡ root_path c.args.file.now.path c.loop-place.place (slice_get c.paths-paths.result c.loop-place.place)
           = w.of.ensures ∙ ap (λ (f : FileRow). root_path f.path c.loop-place.place (slice_get f.file.rules c.loop-place.place)) w.in_ok-share.ensures
           ∙ ap (λ (rs : List Rule). root_path c.args.file.now.path c.loop-place.place (slice_get rs c.loop-place.place)) (sym rules_are) in
           let added = ap all_paths w.more-is ∙ w.in_ok-more.ensures in
           record {
             order = subst AreByRank (sym added) (order_with (all_paths c.loop-place.more) w.of.result c.loop-place.invariant.order);
-            all = subst (λ ps. IsPermutation whole (roots_from c.args.file.now.path (c.loop-place.place + 1) (drop (c.loop-place.place + 1) c.paths-paths.result.now) ++ ps))
+            all = subst (λ ps. IsPermutation whole (roots_from c.args.file.now.path (c.loop-place.place + 1) (drop (c.loop-place.place + 1) c.paths-paths.result) ++ ps))
                 (sym (added ∙ ap (insert (all_paths c.loop-place.more) (prefix_len (is_up_to w.of.result) (all_paths c.loop-place.more))) slot_is))
-                (one_in c.args.file.now.path c.loop-place.place c.paths-paths.result.now c.index-paths-place.result whole (all_paths c.loop-place.more) c.loop-place-test.true c.loop-place.invariant.all
-                (ap (begins_at root) (sym c.index-paths-place.is) ∙ sym c.is_from_root.ensures ∙ w.if-is_from_root.true) (prefix_len (is_up_to w.of.result) (all_paths c.loop-place.more)));
+                (one_in c.args.file.now.path c.loop-place.place c.paths-paths.result c.at.result whole (all_paths c.loop-place.more) (omega (arith, c.loop-place-test.true, c.len.ensures)) c.loop-place.invariant.all
+                (ap (begins_at root) (sym c.at.ensures.is) ∙ sym c.is_from_root.ensures ∙ w.if-is_from_root.true) (prefix_len (is_up_to w.of.result) (all_paths c.loop-place.more)));
           }
       | else-is_from_root w ↦ record {
         order = subst AreByRank (sym (ap all_paths w.more-is)) c.loop-place.invariant.order;
-        all = subst (λ ps. IsPermutation whole (roots_from c.args.file.now.path (c.loop-place.place + 1) (drop (c.loop-place.place + 1) c.paths-paths.result.now) ++ ps))
+        all = subst (λ ps. IsPermutation whole (roots_from c.args.file.now.path (c.loop-place.place + 1) (drop (c.loop-place.place + 1) c.paths-paths.result) ++ ps))
             (sym (ap all_paths w.more-is))
-            (none_in c.args.file.now.path c.loop-place.place c.paths-paths.result.now c.index-paths-place.result whole (all_paths c.loop-place.more) c.loop-place-test.true c.loop-place.invariant.all
-            (ap (begins_at root) (sym c.index-paths-place.is) ∙ sym c.is_from_root.ensures ∙ w.if-is_from_root.false));
+            (none_in c.args.file.now.path c.loop-place.place c.paths-paths.result c.at.result whole (all_paths c.loop-place.more) (omega (arith, c.loop-place-test.true, c.len.ensures)) c.loop-place.invariant.all
+            (ap (begins_at root) (sym c.at.ensures.is) ∙ sym c.is_from_root.ensures ∙ w.if-is_from_root.false));
       }
     ]

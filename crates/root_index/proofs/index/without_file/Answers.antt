@@ -24,7 +24,7 @@ without-requires-clause-strict c =
 -- a path from the root is taken out; at another's place none stands
 pub loop-place-preserved : goal.loop-place-preserved
 loop-place-preserved c =
-    let rules_are : c.paths-paths.result.now ≡ c.args.file.now.file.rules
+    let rules_are : c.paths-paths.result ≡ c.args.file.now.file.rules
     = c.paths-paths.ensures.value ∙ ap (λ (f : FileRules). f.rules) (c.get.ensures.value ∙ c.paths.ensures) in
     elim c.if-is_from_root.branch [
       | then-is_from_root+in_ok-share+in_ok-rest w ↦
@@ -35,16 +35,16 @@ loop-place-preserved c =
           ∙ one_out c.args.file.now c.loop-place.place (all_paths c.args.groups) c.requires.from
       | else-is_from_root w ↦
           let count = ap length rules_are in
-          let inside : c.loop-place.place < length c.args.file.now.file.rules = omega (arith, c.loop-place-test.true, count) in
+          let inside : c.loop-place.place < length c.args.file.now.file.rules = omega (arith, c.loop-place-test.true, c.len.ensures, count) in
           ap all_paths w.rest-is ∙ c.loop-place.invariant
-          ∙ none_out c.args.file.now c.loop-place.place (all_paths c.args.groups) c.requires.from c.index-paths-place.result inside
-          (ap (begins_at root) (sym (c.index-paths-place.is ∙ ap (λ (rs : List Rule). get_or rs c.loop-place.place c.index-paths-place.result) rules_are))
+          ∙ none_out c.args.file.now c.loop-place.place (all_paths c.args.groups) c.requires.from c.at.result inside
+          (ap (begins_at root) (sym (c.at.ensures.is ∙ ap (λ (rs : List Rule). get_or rs c.loop-place.place c.at.result) rules_are))
           ∙ sym c.is_from_root.ensures ∙ w.if-is_from_root.false)
     ]
 
 pub returns : goal.returns
 returns c =
-    let rules_are : c.paths-paths.result.now ≡ c.args.file.now.file.rules
+    let rules_are : c.paths-paths.result ≡ c.args.file.now.file.rules
     = c.paths-paths.ensures.value ∙ ap (λ (f : FileRules). f.rules) (c.get.ensures.value ∙ c.paths.ensures) in
     let count = ap length rules_are in
-    c.loop-place.invariant ∙ all_out c.args.file.now (all_paths c.args.groups) c.loop-place.place c.requires.from (omega (arith, c.loop-place-test.false, count))
+    c.loop-place.invariant ∙ all_out c.args.file.now (all_paths c.args.groups) c.loop-place.place c.requires.from (omega (arith, c.loop-place-test.false, c.len.ensures, count))

@@ -29,7 +29,7 @@ loop-found-init g c = record {
 
 pub join-requires-clause-offered : goal.join-requires-clause-offered
 join-requires-clause-offered g c =
-    one_offered (asked (g.P.PathSource.files c.args.source.now) c.args.query) c.args.trail.now c.args.at.now c.loop-found.invariant.tried.0 _ _ (c.in-Some.found.0, c.in-Some.found.1.now)
+    one_offered (asked (g.P.PathSource.files c.args.source.now) c.args.query) c.args.trail.now c.args.at.now c.loop-found.invariant.tried.0 _ _ (c.in-Some.found.0, c.in-Some.found.1)
     (ap (λ (xs : List (ℕ × Rule)). c.loop-found.invariant.tried.0 ++ xs) (sym c.in-Some.ensures) ∙ c.loop-found.invariant.tried.1)
     (subst (λ (s : Start). IsPermutation (rules_offered (g.P.PathSource.files c.args.source.now) s c.args.at.now.stacks.symbols) (g.P.PathSource.offered c.args.source.now c.args.at.now.stacks.symbols c.offers-next.result)) c.requires.begin c.offers-next.ensures.exact)
 
@@ -38,10 +38,10 @@ loop-found-preserved g c = record {
   added = added_more (asked (g.P.PathSource.files c.args.source.now) c.args.query) c.args.trail.now _ _ _ c.loop-found.invariant.added c.in_ok-join.ensures.added;
   few = c.in_ok-join.ensures.few;
   tried = (
-    c.loop-found.invariant.tried.0 ++ (c.in-Some.found.0, c.in-Some.found.1.now) ∷ [],
-    (append_assoc c.loop-found.invariant.tried.0 ((c.in-Some.found.0, c.in-Some.found.1.now) ∷ []) (g.P.PathSource.offered c.args.source.now c.args.at.now.stacks.symbols c.in-Some.found.2)
+    c.loop-found.invariant.tried.0 ++ (c.in-Some.found.0, c.in-Some.found.1) ∷ [],
+    (append_assoc c.loop-found.invariant.tried.0 ((c.in-Some.found.0, c.in-Some.found.1) ∷ []) (g.P.PathSource.offered c.args.source.now c.args.at.now.stacks.symbols c.in-Some.found.2)
         ∙ (ap (λ (xs : List (ℕ × Rule)). c.loop-found.invariant.tried.0 ++ xs) (sym c.in-Some.ensures) ∙ c.loop-found.invariant.tried.1)),
-    tried_more (asked (g.P.PathSource.files c.args.source.now) c.args.query) c.args.trail.now (joined (paths_of c.args.trail.now) c.args.at.now) c.loop-found.invariant.tried.0 (c.in-Some.found.0, c.in-Some.found.1.now) _ _ _ _ _ _
+    tried_more (asked (g.P.PathSource.files c.args.source.now) c.args.query) c.args.trail.now (joined (paths_of c.args.trail.now) c.args.at.now) c.loop-found.invariant.tried.0 (c.in-Some.found.0, c.in-Some.found.1) _ _ _ _ _ _
         c.loop-found.invariant.tried.2 c.in_ok-join.ensures.noted c.in_ok-join.ensures.opens,
   );
 }
@@ -50,7 +50,7 @@ pub returns-in_err-join-clause-crowded : goal.returns-in_err-join-clause-crowded
 returns-in_err-join-clause-crowded g c h =
     let fault = err_from_is_err_and c.from_residual.result c.from_residual.ensures.1 in
     let was : c.join.result ≡ Err Crowded = cc (fault.1, fault.2, c.in_err-join.was, h) in
-    overfull (asked (g.P.PathSource.files c.args.source.now) c.args.query) c.args.trail.now (joined (paths_of c.args.trail.now) c.args.at.now) c.loop-found.invariant.tried.0 (g.P.PathSource.offered c.args.source.now c.args.at.now.stacks.symbols c.in-Some.found.2) (g.P.PathSource.offered c.args.source.now c.args.at.now.stacks.symbols c.offers-next.result) (c.in-Some.found.0, c.in-Some.found.1.now) c.args.tally.now c.loop-found.tally c.args.work.now.items c.loop-found.work.items
+    overfull (asked (g.P.PathSource.files c.args.source.now) c.args.query) c.args.trail.now (joined (paths_of c.args.trail.now) c.args.at.now) c.loop-found.invariant.tried.0 (g.P.PathSource.offered c.args.source.now c.args.at.now.stacks.symbols c.in-Some.found.2) (g.P.PathSource.offered c.args.source.now c.args.at.now.stacks.symbols c.offers-next.result) (c.in-Some.found.0, c.in-Some.found.1) c.args.tally.now c.loop-found.tally c.args.work.now.items c.loop-found.work.items
     (ap (λ (xs : List (ℕ × Rule)). c.loop-found.invariant.tried.0 ++ xs) (sym c.in-Some.ensures) ∙ c.loop-found.invariant.tried.1)
     (subst (λ (s : Start). IsPermutation (rules_offered (g.P.PathSource.files c.args.source.now) s c.args.at.now.stacks.symbols) (g.P.PathSource.offered c.args.source.now c.args.at.now.stacks.symbols c.offers-next.result)) c.requires.begin c.offers-next.ensures.exact)
     c.loop-found.invariant.tried.2 (c.join.ensures.full was) (c.join.ensures.crowded was)

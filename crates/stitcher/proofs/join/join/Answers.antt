@@ -25,14 +25,14 @@ returns-then-not-bounded-clause-noted g c =
     past_noted (asked (g.P.PathSource.files c.args.source.now) c.args.query) c.args.trail.now c.args.at.now (c.args.file, c.args.path.now) c.args.tally.now c.if-tally.true
     (λ next applies.
     sym (within_is (asked (g.P.PathSource.files c.args.source.now) c.args.query) c.args.trail.now c.args.at.now next (c.args.file, c.args.path.now) c.args.edges c.is_within-bounded.result c.requires.here applies
-    c.edges-more.ensures.rule c.requires.edges c.requires.low (c.is_within-bounded.ensures c.args.file)) ∙ c.if-not-bounded.true)
+    c.edge_numbers-more.ensures.rule c.requires.edges c.requires.low (c.is_within-bounded.ensures c.args.file)) ∙ c.if-not-bounded.true)
 
 pub returns-then-not-bounded-clause-opens : goal.returns-then-not-bounded-clause-opens
 returns-then-not-bounded-clause-opens g c =
     past_opens (asked (g.P.PathSource.files c.args.source.now) c.args.query) c.args.trail.now c.args.at.now (c.args.file, c.args.path.now) (opens_of c.args.trail.now c.args.work.now.items)
     (λ next applies.
     sym (within_is (asked (g.P.PathSource.files c.args.source.now) c.args.query) c.args.trail.now c.args.at.now next (c.args.file, c.args.path.now) c.args.edges c.is_within-bounded.result c.requires.here applies
-    c.edges-more.ensures.rule c.requires.edges c.requires.low (c.is_within-bounded.ensures c.args.file)) ∙ c.if-not-bounded.true)
+    c.edge_numbers-more.ensures.rule c.requires.edges c.requires.low (c.is_within-bounded.ensures c.args.file)) ∙ c.if-not-bounded.true)
 
 pub is_cut_end-cut-requires-clause-fits : goal.is_cut_end-cut-requires-clause-fits
 is_cut_end-cut-requires-clause-fits g c =
@@ -61,23 +61,23 @@ pub landing_of-requires-clause-met : goal.landing_of-requires-clause-met
 landing_of-requires-clause-met g c = sym c.meets.ensures ∙ c.if-not-meets.false
 
 pub note-requires-clause-bounded : goal.note-requires-clause-bounded
-note-requires-clause-bounded g c =
+note-requires-clause-bounded g c = rw c.again.ensures (
     within_is (asked (g.P.PathSource.files c.args.source.now) c.args.query) c.args.trail.now c.args.at.now c.in-Some.landing.at (c.args.file, c.args.path.now) c.args.edges c.is_within-bounded.result c.requires.here
     (subst (λ (o : Option Landing). IfSome o (λ (landing : Landing). apply (moved c.args.file c.args.path.now) c.args.at.now ≡ Some landing.at)) c.in-Some.is c.in_ok-landing.ensures.applies)
-    c.edges-more.ensures.rule c.requires.edges c.requires.low (c.is_within-bounded.ensures c.args.file)
+    c.edge_numbers-more.ensures.rule c.requires.edges c.requires.low (c.is_within-bounded.ensures c.args.file))
 
 pub note-requires-clause-level : goal.note-requires-clause-level
-note-requires-clause-level g c =
-    stored_moves c.file_zero_moves.ensures (asked (g.P.PathSource.files c.args.source.now) c.args.query) c.args.trail.now c.args.at.now (c.args.file, c.args.path.now) c.requires.sources c.ranges.file.fits c.requires.offered
+note-requires-clause-level g c = rw c.again.ensures (
+    stored_moves c.file_zero_moves.ensures (asked (g.P.PathSource.files c.args.source.now) c.args.query) c.args.trail.now c.args.at.now (c.args.file, c.args.path.now) c.requires.sources c.ranges.file.fits c.requires.offered)
 
 pub note-requires-clause-here : goal.note-requires-clause-here
-note-requires-clause-here g c =
+note-requires-clause-here g c = rw c.again.ensures (
     here_next (asked (g.P.PathSource.files c.args.source.now) c.args.query) c.args.trail.now c.args.at.now _ c.requires.here c.requires.offered
     (subst (λ (o : Option Landing). IfSome o (λ (landing : Landing). apply (moved c.args.file c.args.path.now) c.args.at.now ≡ Some landing.at)) c.in-Some.is c.in_ok-landing.ensures.applies)
     (c.in_ok-landing.ensures.joined
-    ∙ ap (λ (o : Option Landing). option_map_or (λ (landing : Landing). joined (with_path (paths_of c.args.trail.now) (c.args.file, c.args.path.now)) landing.at ∷ []) o []) c.in-Some.is)
+    ∙ ap (λ (o : Option Landing). option_map_or (λ (landing : Landing). joined (with_path (paths_of c.args.trail.now) (c.args.file, c.args.path.now)) landing.at ∷ []) o []) c.in-Some.is))
 
 pub note-requires-clause-edges : goal.note-requires-clause-edges
-note-requires-clause-edges g c =
-    (λ i. c.requires.edges i + length (c.edges-more.ensures.value i))
-    ∙ sym (edge_count-with (paths_of c.args.trail.now) (c.args.file, c.args.path.now))
+note-requires-clause-edges g c = rw c.again.ensures (
+    (λ i. c.requires.edges i + c.edge_numbers-more.ensures.count i)
+    ∙ sym (edge_count-with (paths_of c.args.trail.now) (c.args.file, c.args.path.now)))

@@ -1,7 +1,6 @@
 use Rattle.std.proofs.Common.{◌≡◌, sym, ◌∙◌, ap, arith, [], ◌∷◌, ◌++◌, length}
 use Rattle.std.proofs.lemmas.Bool.Decides.{nat_tests}
 use Rattle.std.proofs.lemmas.List.{nil_from_length}
-use Rattle.stacks_vars.specs.declared.patterns.Post.{Post}
 use Rattle.partial_path.specs.declared.rule.End.TheVariants as end
 use Rattle.end_index.specs.Ends.{Ends, ends_at_root, ends_by_stack, is_root_end, is_stack_end}
 use Rattle.end_index.proofs.Places.{put_behind}
@@ -18,8 +17,8 @@ returns-in_ok-push-in-At-Root-clause-root c =
 -- it ends by the stack and makes no scope
 pub returns-in_ok-push-in-ByStack-clause-stack : goal.returns-in_ok-push-in-ByStack-clause-stack
 returns-in_ok-push-in-ByStack-clause-stack c =
-    let none : length c.items.result.now ≡ 0 = grind (arith, nat_tests, c.if-is_empty.ensures) in
-    let scopes : c.args.path.now.post.scopes.scopes ≡ [] = sym (c.items.ensures ∙ ap (λ (p : Post). p.scopes.scopes) c.post.ensures.value) ∙ nil_from_length c.items.result.now none in
+    let none : length c.scopes.result.now ≡ 0 = grind (arith, nat_tests, c.if-is_empty.ensures) in
+    let scopes : c.args.path.now.post.scopes.scopes ≡ [] = sym c.scopes.ensures.value ∙ nil_from_length c.scopes.result.now none in
     let ends : c.args.path.now.end ≡ end.ByStack = sym c.end.ensures.value ∙ c.in-ByStack.is in
     put_behind ends_by_stack c.args.file c.args.place c.args.path.now c.args.self.now.stack c.push-then-is_empty.new.self.items c.end_place-then-is_empty.result
     (c.in_ok-push-in-ByStack.ensures.items ∙ ap (λ (x : Ends). x.stack ++ c.end_place-then-is_empty.result ∷ []) c.self.view_is)

@@ -14,10 +14,10 @@ use Rattle.end_index.proofs.index.EndIndex.of.Goals as goal
 pub loop-file-preserved : goal.loop-file-preserved
 loop-file-preserved c =
     let found : slice_get (files_of c.args.view.now) c.loop-file.file ≡ Some c.paths.result.now = slice_get-map (λ (row : FileRow). row.file) c.args.view.now c.loop-file.file ∙ c.paths.ensures in
-    let same : c.paths-in-loop-file.result.now ≡ c.paths.result.now.rules = c.paths-in-loop-file.ensures.value ∙ ap (λ (f : FileRules). f.rules) c.get.ensures.value in
+    let same : c.paths-in-loop-file.result ≡ c.paths.result.now.rules = c.paths-in-loop-file.ensures.value ∙ ap (λ (f : FileRules). f.rules) c.get.ensures.value in
     record {
-      root = file_added ends_at_root (files_of c.args.view.now) c.loop-file.file c.paths.result.now c.paths-in-loop-file.result.now c.loop-file.ends.root _ _ found same c.in_ok-add_file.ensures.root c.loop-file.invariant.root;
-      stack = file_added ends_by_stack (files_of c.args.view.now) c.loop-file.file c.paths.result.now c.paths-in-loop-file.result.now c.loop-file.ends.stack _ _ found same c.in_ok-add_file.ensures.stack c.loop-file.invariant.stack;
+      root = file_added ends_at_root (files_of c.args.view.now) c.loop-file.file c.paths.result.now c.paths-in-loop-file.result c.loop-file.ends.root _ _ found same c.in_ok-add_file.ensures.root c.loop-file.invariant.root;
+      stack = file_added ends_by_stack (files_of c.args.view.now) c.loop-file.file c.paths.result.now c.paths-in-loop-file.result c.loop-file.ends.stack _ _ found same c.in_ok-add_file.ensures.stack c.loop-file.invariant.stack;
     }
 
 -- those of all files are, and then put in order

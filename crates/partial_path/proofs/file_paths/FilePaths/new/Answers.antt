@@ -1,15 +1,31 @@
+use Rattle.std.proofs.Common.{sym, subst}
+use Rattle.std.specs.Prelude.{IsPermutation}
+use Rattle.partial_path.specs.Starts.{IsByStart}
+use Rattle.partial_path.specs.Keys.{IsByKey}
+use Rattle.partial_path.specs.PathSets.{IsPathSet}
 use Rattle.partial_path.proofs.KeyOrders.{by_start_from_key}
-use Rattle.partial_path.proofs.Reordered.{path_set_reordered}
+use Rattle.partial_path.proofs.Reordered.{path_set_reordered, set_of_file_zero}
 use Rattle.partial_path.proofs.file_paths.FilePaths.new.Goals as goal
 
+-- what is kept is what was sorted
+pub of-paths-requires : goal.of-paths-requires
+of-paths-requires c =
+    set_of_file_zero c.args.graph _ (path_set_reordered c.args.graph c.args.paths.items _ c.sort_paths.ensures.permutation c.requires.paths)
+
+pub returns-clause-paths : goal.returns-clause-paths
+returns-clause-paths c = subst (IsPermutation c.args.paths.items) (sym c.in_ok-paths.ensures) c.sort_paths.ensures.permutation
+
 pub returns-clause-order : goal.returns-clause-order
-returns-clause-order c = by_start_from_key _ c.sort_paths.ensures.keys
+returns-clause-order c = subst IsByStart (sym c.in_ok-paths.ensures) (by_start_from_key _ c.sort_paths.ensures.keys)
+
+pub returns-clause-keys : goal.returns-clause-keys
+returns-clause-keys c = subst IsByKey (sym c.in_ok-paths.ensures) c.sort_paths.ensures.keys
 
 pub invariant_of-result : goal.invariant_of-result
 invariant_of-result c = record {
   sets = record {
-    rules = path_set_reordered c.args.graph c.args.paths.items _ c.sort_paths.ensures.permutation c.requires.paths;
+    rules = subst (IsPathSet c.args.graph) (sym c.in_ok-paths.ensures) (path_set_reordered c.args.graph c.args.paths.items _ c.sort_paths.ensures.permutation c.requires.paths);
     weight = c.requires.weight;
   };
-  order = c.sort_paths.ensures.keys;
+  order = subst IsByKey (sym c.in_ok-paths.ensures) c.sort_paths.ensures.keys;
 }

@@ -1,16 +1,17 @@
 -- The moved parts are those of a rule.
 use Rattle.std.proofs.Common.{◌≡◌, ◌∙◌, ap, sym, subst, rules}
 use Rattle.partial_path.specs.Moved.{moved, moved_pre, moved_post, Fits}
+use Rattle.partial_path.specs.Pooled.{pre_of, post_of}
 use Rattle.partial_path.proofs.FileNumberLaws.{moved-fits}
 use Rattle.partial_path.proofs.MovedRules.{moved-ruled}
-use Rattle.partial_path.proofs.path.PartialPath.moved.Goals as goal
+use Rattle.partial_path.proofs.stored.StoredPath.moved.Goals as goal
 
 pub of-requires : goal.of-requires
 of-requires c =
     moved-ruled c.args.base c.args.self.now c.moved_start-start.result c.moved_end-end.result c.in_ok-pre.pre c.in_ok-post.post c.peak.result
-    c.into_items-edges.result.items c.start.ensures.rule
-    (c.in_ok-pre.ensures ∙ ap (moved_pre c.args.base) c.pre.ensures.value)
-    (c.in_ok-post.ensures ∙ ap (moved_post c.args.base) c.post.ensures.value) c.peak.ensures.value
+    c.in_ok-edges.edges.items c.start.ensures.rule
+    (c.in_ok-pre.ensures ∙ (λ i. moved_pre c.args.base (pre_of (c.asked.ensures.value i) (c.fixed.ensures.value i))))
+    (c.in_ok-post.ensures ∙ (λ i. moved_post c.args.base (post_of (c.made.ensures.value i) (c.scopes.ensures.value i) (c.tail.ensures.value i)))) c.peak.ensures.value
 
 pub returns-clause-fits : goal.returns-clause-fits
 returns-clause-fits c =

@@ -1,0 +1,140 @@
+-- Parts that were put into pools, and what parts behind them change.
+use Rattle.std.proofs.Common.{◌≡◌, zero, refl, sym, ◌∙◌, ap, subst, ℕ, suc, ◌+◌, ◌-◌, ◌<◌, ◌≤◌, List, [], ◌∷◌, ◌++◌, length, map, take, drop, get_or, min, arith}
+use Rattle.std.specs.Prelude.{All}
+use Rattle.std.specs.List.{AllByRecursion}
+use Rattle.std.proofs.lemmas.List.{length-append, length-drop, length-map, length-take, take-map, drop-map, drop-append-le, take-append-le, take_more, map_push}
+use Rattle.std.proofs.lemmas.List.Elements.{All-from_recursion, recursion_from_All, All-push}
+use Rattle.stacks_vars.specs.declared.scopes.NodeAt.{NodeAt}
+use Rattle.stacks_vars.specs.declared.patterns.SymPat.{SymPat}
+use Rattle.stacks_vars.specs.declared.patterns.SymOut.{SymOut}
+use Rattle.stacks_vars.specs.declared.patterns.Tail.{Tail}
+use Rattle.partial_path.specs.declared.config.EdgeAt.{EdgeAt}
+use Rattle.partial_path.specs.declared.path_row.Part.{Part}
+use Rattle.partial_path.specs.declared.path_row.PathRow.{PathRow}
+use Rattle.partial_path.specs.declared.pools.Pools.{Pools}
+use Rattle.partial_path.specs.Rules.{Rule, IsRule, rule_of}
+use Rattle.partial_path.specs.FileNumbers.{EdgeIn, edge_number, own_edge}
+use Rattle.partial_path.specs.Pooled.{part_of, IsPartOf, start_of, end_of, pre_of, post_of, rule_in, rules_in, Begins, AreAddedTo, IsRowIn, IsKept}
+
+behind : {X : Type 0} (xs ys : List X) → drop (length xs) (xs ++ ys) ≡ ys
+behind [] ys = refl
+behind (x ∷ xs) ys = behind xs ys
+
+whole : {X : Type 0} (xs : List X) → take (length xs) xs ≡ xs
+whole [] = refl
+whole (x ∷ xs) = ap (λ ys. x ∷ ys) (whole xs)
+
+-- what is put behind the others is the part from there on
+pub part_put : {X : Type 0} (part : Part) (xs ys : List X) → part.from ≡ length xs → part.len ≡ length ys → part_of part (xs ++ ys) ≡ ys
+part_put part xs ys from len =
+    ap (λ n. take part.len (drop n (xs ++ ys))) from ∙ ap (take part.len) (behind xs ys) ∙ ap (λ n. take n ys) len ∙ whole ys
+
+pub part_within : {X : Type 0} (part : Part) (xs ys : List X) → part.from ≡ length xs → part.len ≡ length ys → IsPartOf part (xs ++ ys)
+part_within part xs ys from len = let all : length (xs ++ ys) ≡ length xs + length ys = length-append xs ys in omega (arith, from, len, all)
+
+-- the numbers of edges of file 0 tell these edges
+pub own_edges : (es : List EdgeAt) → All (EdgeIn (λ file. file ≡ 0)) es → map own_edge (map edge_number es) ≡ es
+own_edges es all = by_parts es (recursion_from_All (EdgeIn (λ file. file ≡ 0)) es all)
+  where
+    by_parts : (es : List EdgeAt) → AllByRecursion (EdgeIn (λ file. file ≡ 0)) es → map own_edge (map edge_number es) ≡ es
+    by_parts [] all = refl
+    by_parts (e ∷ es) all = λ i. record { file = sym all.0 i; edge = e.edge } ∷ by_parts es all.1 i
+
+pub edges_put : (part : Part) (ns : List ℕ) (es : List EdgeAt) → part.from ≡ length ns → part.len ≡ length es → All (EdgeIn (λ file. file ≡ 0)) es
+    → map own_edge (part_of part (ns ++ map edge_number es)) ≡ es
+edges_put part ns es from len own =
+    ap (map own_edge) (part_put part ns (map edge_number es) from (len ∙ sym (length-map es edge_number))) ∙ own_edges es own
+
+pub edges_within : (part : Part) (ns : List ℕ) (es : List EdgeAt) → part.from ≡ length ns → part.len ≡ length es → IsPartOf part (ns ++ map edge_number es)
+edges_within part ns es from len = part_within part ns (map edge_number es) from (len ∙ sym (length-map es edge_number))
+
+-- a part stays as it is when more is put behind
+part_more : {X : Type 0} (part : Part) (xs more : List X) → IsPartOf part xs → part_of part (xs ++ more) ≡ part_of part xs
+part_more part xs more h =
+    let len : length (drop part.from xs) ≡ length xs - part.from = length-drop part.from xs in
+    ap (take part.len) (drop-append-le part.from xs more (omega (arith, h))) ∙ take-append-le part.len (drop part.from xs) more (omega (arith, h, len))
+
+part_kept : {X : Type 0} (part : Part) (xs ys : List X) → Begins xs ys → IsPartOf part xs → part_of part ys ≡ part_of part xs
+part_kept part xs ys begins h = ap (part_of part) begins.1 ∙ part_more part xs begins.0 h
+
+still_within : {X : Type 0} (part : Part) (xs ys : List X) → Begins xs ys → IsPartOf part xs → IsPartOf part ys
+still_within part xs ys begins h =
+    let all : length ys ≡ length xs + length begins.0 = ap length begins.1 ∙ length-append xs begins.0 in omega (arith, h, all)
+
+-- so do the paths of rows
+row_same : (old new : Pools) (row : PathRow) → AreAddedTo old new → IsRowIn old row → rule_in new row ≡ rule_in old row
+row_same old new row added h =
+    let asked = part_kept row.asked old.asked.items new.asked.items added.asked h.asked in
+    let fixed = part_kept row.fixed old.fixed.items new.fixed.items added.fixed h.fixed in
+    let made = part_kept row.made old.made.items new.made.items added.made h.made in
+    let scopes = part_kept row.scopes old.scopes.items new.scopes.items added.scopes h.scopes in
+    let edges = part_kept row.edges old.edges.items new.edges.items added.edges h.edges in
+    λ i. rule_of (start_of row.start) (end_of row.end) (pre_of (asked i) (fixed i)) (post_of (made i) (scopes i) row.tail) row.peak (map own_edge (edges i))
+
+row_still : (old new : Pools) (row : PathRow) → AreAddedTo old new → IsRowIn old row → IsRowIn new row
+row_still old new row added h = record {
+  asked = still_within row.asked old.asked.items new.asked.items added.asked h.asked;
+  fixed = still_within row.fixed old.fixed.items new.fixed.items added.fixed h.fixed;
+  made = still_within row.made old.made.items new.made.items added.made h.made;
+  scopes = still_within row.scopes old.scopes.items new.scopes.items added.scopes h.scopes;
+  edges = still_within row.edges old.edges.items new.edges.items added.edges h.edges;
+  rule = subst IsRule (sym (row_same old new row added h)) h.rule;
+}
+
+rows_same : (old new : Pools) (rows : List PathRow) → AreAddedTo old new → AllByRecursion (IsRowIn old) rows → rules_in new rows ≡ rules_in old rows
+rows_same old new [] added all = refl
+rows_same old new (row ∷ rows) added all = λ i. row_same old new row added all.0 i ∷ rows_same old new rows added all.1 i
+
+rows_still : (old new : Pools) (rows : List PathRow) → AreAddedTo old new → AllByRecursion (IsRowIn old) rows → AllByRecursion (IsRowIn new) rows
+rows_still old new [] added all = tt
+rows_still old new (row ∷ rows) added all = (row_still old new row added all.0, rows_still old new rows added all.1)
+
+-- the rows so far are those of the first paths
+pub record AreKept (pools : Pools) (rows : List PathRow) (paths : List Rule) : Type 0 where
+  pub rules : rules_in pools rows ≡ paths
+  pub within : All (IsRowIn pools) rows
+
+pub kept_none : (pools : Pools) (rows : List PathRow) (paths : List Rule) → rows ≡ [] → AreKept pools rows (take 0 paths)
+kept_none pools rows paths none =
+    subst (λ (rs : List PathRow). AreKept pools rs (take 0 paths)) (sym none) (record { rules = refl; within = All-from_recursion (IsRowIn pools) [] tt })
+
+-- a row more is that of the next path
+pub kept_more : (old new : Pools) (rows : List PathRow) (row : PathRow) (paths : List Rule) (k : ℕ) (d : Rule) → k < length paths
+    → AreKept old rows (take k paths) → AreAddedTo old new → IsKept new row (get_or paths k d) → AreKept new (rows ++ row ∷ []) (take (k + 1) paths)
+kept_more old new rows row paths k d below kept added one = record {
+  rules = map_push (rule_in new) rows row
+      ∙ ap (λ rs. rs ++ rule_in new row ∷ []) (rows_same old new rows added (recursion_from_All (IsRowIn old) rows kept.within) ∙ kept.rules)
+      ∙ ap (λ r. take k paths ++ r ∷ []) one.same
+      ∙ sym (take_more paths k d below);
+  within = All-push (IsRowIn new) rows row (All-from_recursion (IsRowIn new) rows (rows_still old new rows added (recursion_from_All (IsRowIn old) rows kept.within))) one.within;
+}
+
+-- the paths of the rows between two places are those of all rows between these places
+pub rules_between : (pools : Pools) (rows : List PathRow) (low n : ℕ) → rules_in pools (take n (drop low rows)) ≡ take n (drop low (rules_in pools rows))
+rules_between pools rows low n = sym (ap (take n) (drop-map (rule_in pools) low rows) ∙ take-map (rule_in pools) n (drop low rows))
+
+pub length_between : (rules : List Rule) (low high : ℕ) → low ≤ high → high ≤ length rules → length (take (high - low) (drop low rules)) ≡ high - low
+length_between rules low high rise within =
+    let cut : length (take (high - low) (drop low rules)) ≡ min (high - low) (length (drop low rules)) = length-take (high - low) (drop low rules) in
+    let rest : length (drop low rules) ≡ length rules - low = length-drop low rules in
+    omega (arith, rise, within, cut, rest)
+
+-- the row of a path whose parts were put into the pools
+pub row_kept : (pools : Pools) (row : PathRow) (path : Rule) → IsPartOf row.asked pools.asked.items → IsPartOf row.fixed pools.fixed.items
+    → IsPartOf row.made pools.made.items → IsPartOf row.scopes pools.scopes.items → IsPartOf row.edges pools.edges.items
+    → rule_in pools row ≡ path → IsRule path → IsKept pools row path
+row_kept pools row path asked fixed made scopes edges same rule = record {
+  within = record {
+    asked = asked;
+    fixed = fixed;
+    made = made;
+    scopes = scopes;
+    edges = edges;
+    rule = subst IsRule (sym same) rule;
+  };
+  same = same;
+}
+
+-- what was put behind stands behind
+pub begins_with : {X : Type 0} (xs ys zs : List X) → ys ≡ xs ++ zs → Begins xs ys
+begins_with xs ys zs e = (zs, e)

@@ -1,0 +1,99 @@
+-- How a file's paths are kept: their parts in pools, and a row for each path that tells where its parts stand. No
+-- public clause cites this.
+use Rattle.std.specs.Prelude.{◌≡◌, ℕ, ◌+◌, ◌≤◌, List, ◌++◌, map, take, drop, length, All}
+use Rattle.stacks_vars.specs.declared.scopes.NodeAt.{NodeAt}
+use Rattle.stacks_vars.specs.declared.patterns.SymPat.{SymPat}
+use Rattle.stacks_vars.specs.declared.patterns.Pre.{Pre}
+use Rattle.stacks_vars.specs.declared.patterns.SymOut.{SymOut}
+use Rattle.stacks_vars.specs.declared.patterns.Tail.{Tail}
+use Rattle.stacks_vars.specs.declared.patterns.Post.{Post}
+use Rattle.partial_path.specs.declared.config.Spot.TheVariants as spot
+use Rattle.partial_path.specs.declared.config.EdgeAt.{EdgeAt}
+use Rattle.partial_path.specs.declared.rule.Start.{Start}
+use Rattle.partial_path.specs.declared.rule.Start.TheVariants as start
+use Rattle.partial_path.specs.declared.rule.End.{End}
+use Rattle.partial_path.specs.declared.rule.End.TheVariants as end
+use Rattle.partial_path.specs.declared.path_row.Part.{Part}
+use Rattle.partial_path.specs.declared.path_row.RowStart.{RowStart}
+use Rattle.partial_path.specs.declared.path_row.RowStart.TheVariants.{Before, Root, After}
+use Rattle.partial_path.specs.declared.path_row.RowEnd.{RowEnd}
+use Rattle.partial_path.specs.declared.path_row.RowEnd.TheVariants as row_end
+use Rattle.partial_path.specs.declared.path_row.PathRow.{PathRow}
+use Rattle.partial_path.specs.declared.pools.Pools.{Pools}
+use Rattle.partial_path.specs.Spots.{node_at}
+use Rattle.partial_path.specs.Rules.{Rule, IsRule, rule_of}
+use Rattle.partial_path.specs.FileNumbers.{own_edge}
+
+-- what stands in a pool between the part's first place and its end
+abbrev pub part_of : {X : Type 0} → Part → List X → List X
+part_of part items = take part.len (drop part.from items)
+
+-- the part lies within the pool
+abbrev pub IsPartOf : {X : Type 0} → Part → List X → Type 0
+IsPartOf part items = part.from + part.len ≤ length items
+
+-- the start of a path that is kept, in file 0
+abbrev pub start_of : RowStart → Start
+start_of (Before node) = start.Before (node_at 0 node)
+start_of Root = start.After spot.Root
+start_of (After node) = start.After (spot.At (node_at 0 node))
+
+-- its end
+abbrev pub end_of : RowEnd → End
+end_of row_end.Root = end.At spot.Root
+end_of (row_end.At node) = end.At (spot.At (node_at 0 node))
+end_of row_end.ByStack = end.ByStack
+
+-- a precondition of these symbols and scopes
+abbrev pub pre_of : List SymPat → List NodeAt → Pre
+pre_of symbols fixed = record { symbols = symbols; scopes = record { fixed = fixed } }
+
+-- a postcondition of these symbols, scopes and variable
+abbrev pub post_of : List SymOut → List NodeAt → Tail → Post
+post_of symbols scopes tail = record { symbols = symbols; scopes = record { scopes = scopes; tail = tail } }
+
+-- what a row's path asks for, what it makes, and its edges
+abbrev pub pre_in : Pools → PathRow → Pre
+pre_in pools row = pre_of (part_of row.asked pools.asked.items) (part_of row.fixed pools.fixed.items)
+
+abbrev pub post_in : Pools → PathRow → Post
+post_in pools row =
+    post_of (part_of row.made pools.made.items) (part_of row.scopes pools.scopes.items) row.tail
+
+abbrev pub edges_in : Pools → PathRow → List EdgeAt
+edges_in pools row = map own_edge (part_of row.edges pools.edges.items)
+
+-- the path of a row
+abbrev pub rule_in : Pools → PathRow → Rule
+rule_in pools row =
+    rule_of (start_of row.start) (end_of row.end) (pre_in pools row) (post_in pools row) row.peak (edges_in pools row)
+
+-- the row's parts lie within the pools, and make a path
+pub record IsRowIn (pools : Pools) (row : PathRow) : Type 0 where
+  pub asked : IsPartOf row.asked pools.asked.items
+  pub fixed : IsPartOf row.fixed pools.fixed.items
+  pub made : IsPartOf row.made pools.made.items
+  pub scopes : IsPartOf row.scopes pools.scopes.items
+  pub edges : IsPartOf row.edges pools.edges.items
+  pub rule : IsRule (rule_in pools row)
+
+-- the paths of rows, in their order
+abbrev pub rules_in : Pools → List PathRow → List Rule
+rules_in pools rows = map (rule_in pools) rows
+
+-- the list holds the other one first
+abbrev pub Begins : {X : Type 0} → List X → List X → Type 0
+Begins {X} xs ys = (more : List X) × (ys ≡ xs ++ more)
+
+-- pools to which parts were added
+pub record AreAddedTo (old new : Pools) : Type 0 where
+  pub asked : Begins old.asked.items new.asked.items
+  pub fixed : Begins old.fixed.items new.fixed.items
+  pub made : Begins old.made.items new.made.items
+  pub scopes : Begins old.scopes.items new.scopes.items
+  pub edges : Begins old.edges.items new.edges.items
+
+-- the row's path is this one
+pub record IsKept (pools : Pools) (row : PathRow) (path : Rule) : Type 0 where
+  pub within : IsRowIn pools row
+  pub same : rule_in pools row ≡ path
