@@ -31,7 +31,11 @@ fn outcome<P: BackSource>(
     requires sources { All IsSourceFile (P.files source.now) }
     requires stored { IsStoredIn (P.files source.now) (file, path.now) }
     requires open { IfSome (option_copied behind) IsOpen }
-    ensures { IfOk result (λ found. (d : NodeAt) (paths : List (ℕ × Rule)) (at : Spot) → IsTrue (is_definition_of (graphs_of (P.files source.now)) d.file d.node) → IsBehind (P.files source.now) d paths at (option_copied behind.entry) → may_end_at (graphs_of (P.files source.now)) at (moved file path.now) ≡ true → IsOutcome (P.files source.now) d ((file, path.now) ∷ paths) found) }
+    ensures { IfOk result (λ found. (d : NodeAt) (paths : List (ℕ × Rule)) (at : Spot)
+        → IsTrue (is_definition_of (graphs_of (P.files source.now)) d.file d.node)
+        → IsBehind (P.files source.now) d paths at (option_copied behind.entry)
+        → may_end_at (graphs_of (P.files source.now)) at (moved file path.now) ≡ true
+        → IsOutcome (P.files source.now) d ((file, path.now) ∷ paths) found) }
 {
     match behind {
         Some(behind) => join_left(alloc, source, file, path, behind),
@@ -53,10 +57,19 @@ fn try_path<P: BackSource>(
     requires stored { IsStoredIn (P.files source.now) (file, path.now) }
     requires open { IfSome (option_copied behind) IsOpen }
     requires few { tally.old.count ≤ most_lists }
-    ensures tried { OnOk result ((d : NodeAt) (paths : List (ℕ × Rule)) (at : Spot) → IsTrue (is_definition_of (graphs_of (P.files source.now)) d.file d.node) → IsBehind (P.files source.now) d paths at (option_copied behind.entry) → may_end_at (graphs_of (P.files source.now)) at (moved file path.now) ≡ true → HasExtended (P.files source.now) d paths ((file, path.now) ∷ []) tally.old.count tally.new.count tally.old.rows.items tally.new.rows.items work.old.items work.new.items) }
+    ensures tried { OnOk result ((d : NodeAt) (paths : List (ℕ × Rule)) (at : Spot)
+        → IsTrue (is_definition_of (graphs_of (P.files source.now)) d.file d.node)
+        → IsBehind (P.files source.now) d paths at (option_copied behind.entry)
+        → may_end_at (graphs_of (P.files source.now)) at (moved file path.now) ≡ true
+        → HasExtended (P.files source.now) d paths
+        ((file, path.now) ∷ []) tally.old.count tally.new.count tally.old.rows.items tally.new.rows.items work.old.items work.new.items) }
     ensures few { OnOk result (tally.new.count ≤ most_lists) }
     ensures full { result ≡ Err BackFault.Many → tally.old.count ≡ most_lists }
-    ensures back { result ≡ Err BackFault.Many → (d : NodeAt) (paths : List (ℕ × Rule)) (at : Spot) → IsTrue (is_definition_of (graphs_of (P.files source.now)) d.file d.node) → IsBehind (P.files source.now) d paths at (option_copied behind.entry) → may_end_at (graphs_of (P.files source.now)) at (moved file path.now) ≡ true → IsBack (P.files source.now) d ((file, path.now) ∷ paths) }
+    ensures back { result ≡ Err BackFault.Many → (d : NodeAt) (paths : List (ℕ × Rule)) (at : Spot)
+        → IsTrue (is_definition_of (graphs_of (P.files source.now)) d.file d.node)
+        → IsBehind (P.files source.now) d paths at (option_copied behind.entry)
+        → may_end_at (graphs_of (P.files source.now)) at (moved file path.now) ≡ true
+        → IsBack (P.files source.now) d ((file, path.now) ∷ paths) }
 {
     let Some(found) = outcome(alloc, source, file, path, behind)? else {
         return Ok(());
@@ -89,9 +102,11 @@ pub fn extend<P: BackSource>(
     requires sources { All IsSourceFile (P.files source.now) }
     requires open { IfSome (option_copied behind) IsOpen }
     requires few { tally.old.count ≤ most_lists }
-    ensures tried { OnOk result (HasTried (P.files source.now) spot (option_copied behind.entry) tally.old.count tally.new.count tally.old.rows.items tally.new.rows.items work.old.items work.new.items) }
+    ensures tried { OnOk result (HasTried (P.files source.now) spot
+        (option_copied behind.entry) tally.old.count tally.new.count tally.old.rows.items tally.new.rows.items work.old.items work.new.items) }
     ensures few { OnOk result (tally.new.count ≤ most_lists) }
-    ensures many { result ≡ Err BackFault.Many → IsTriedPast (P.files source.now) spot (option_copied behind.entry) tally.old.count }
+    ensures many { result ≡ Err BackFault.Many
+        → IsTriedPast (P.files source.now) spot (option_copied behind.entry) tally.old.count }
 {
     let symbols = asked(behind);
     let mut next = source.ends(&spot, symbols);

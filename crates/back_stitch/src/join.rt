@@ -28,7 +28,11 @@ pub fn first_of<P: BackSource>(
 ) -> Result<Option<PartialPath>, AllocError>
     requires sources { All IsSourceFile (P.files source.now) }
     requires stored { IsStoredIn (P.files source.now) (file, path.now) }
-    ensures { IfOk result (λ found. (d : NodeAt) → IsTrue (is_definition_of (graphs_of (P.files source.now)) d.file d.node) → may_end_at (graphs_of (P.files source.now)) (At d) (moved file path.now) ≡ true → IsOutcome (P.files source.now) d ((file, path.now) ∷ []) found) }
+    ensures { IfOk result
+        (λ found. (d : NodeAt)
+        → IsTrue (is_definition_of (graphs_of (P.files source.now)) d.file d.node)
+        → may_end_at (graphs_of (P.files source.now)) (At d) (moved file path.now) ≡ true
+        → IsOutcome (P.files source.now) d ((file, path.now) ∷ []) found) }
 {
     file_zero_moves();
     let moved = path.moved(alloc, file)?;
@@ -53,7 +57,10 @@ pub fn join_left<P: BackSource>(
     requires after { is_after behind.now.start ≡ true }
     requires short { length behind.now.edges ≤ most_edges }
     requires low { behind.now.peak ≤ most_depth }
-    ensures { IfOk result (λ found. (d : NodeAt) (paths : List (ℕ × Rule)) → IsTrue (is_definition_of (graphs_of (P.files source.now)) d.file d.node) → IsHeld (P.files source.now) d paths behind.now → IsOutcome (P.files source.now) d ((file, path.now) ∷ paths) found) }
+    ensures { IfOk result (λ found. (d : NodeAt) (paths : List (ℕ × Rule))
+        → IsTrue (is_definition_of (graphs_of (P.files source.now)) d.file d.node)
+        → IsHeld (P.files source.now) d paths behind.now
+        → IsOutcome (P.files source.now) d ((file, path.now) ∷ paths) found) }
 {
     if !is_within(path, behind) {
         return Ok(None);
@@ -73,8 +80,11 @@ pub fn join_left<P: BackSource>(
 /// Whether the path alone is within the bounds together with the edges of the other.
 fn is_within(path: &StoredPath<'_>, behind: &PartialPath) -> bool
     requires { length behind.now.edges ≤ most_edges }
-    ensures within { IsTrue result → (length path.now.edges + length behind.now.edges ≤ most_edges) × (path.now.peak ≤ most_depth) }
-    ensures past { ¬ IsTrue result → (most_edges < length path.now.edges + length behind.now.edges) ⊎ (most_depth < path.now.peak) }
+    ensures within { IsTrue result → (length path.now.edges + length behind.now.edges ≤ most_edges)
+        × (path.now.peak ≤ most_depth) }
+    ensures past { ¬ IsTrue result
+        → (most_edges < length path.now.edges + length behind.now.edges) ⊎ (most_depth
+        < path.now.peak) }
     ensures rules { IsRule path.now × IsRule behind.now }
 {
     path.edge_numbers().len() <= MAX_EDGES - behind.edges().len() && path.peak() <= MAX_DEPTH

@@ -57,7 +57,8 @@ fn asks_exported<P: BackSource>(source: &P, pat: &SymPat) -> bool
 
 /// The same of a stack of them.
 fn are_exported<P: BackSource>(source: &P, scopes: &ScopePat) -> bool
-    ensures { result ≡ list_all (is_exported_node (graphs_of (P.files source.now))) scopes.now.fixed }
+    ensures { result
+        ≡ list_all (is_exported_node (graphs_of (P.files source.now))) scopes.now.fixed }
 {
     scopes
         .fixed

@@ -154,7 +154,9 @@ fn next_agreed<'a>(
     at: PlainEnds,
 ) -> Option<(u32, StoredPath<'a>, PlainEnds)>
     requires { length files.now ≤ 2 ^ 32 }
-    ensures { MatchOption result (agreed_left files.now symbols.now at ≡ []) (λ found. agreed_left files.now symbols.now at ≡ (found.0, found.1) ∷ agreed_left files.now symbols.now found.2) }
+    ensures { MatchOption result (agreed_left files.now symbols.now at ≡ [])
+        (λ found. agreed_left files.now symbols.now at
+        ≡ (found.0, found.1) ∷ agreed_left files.now symbols.now found.2) }
 {
     let mut next = at;
     while let Some(found) = next_of(files, next) {
@@ -184,7 +186,8 @@ fn agrees(asked: &[SymPat], made: &[SymOut]) -> bool
 /// The next of all paths that may end at the spot, with its file's number, and where the look-up stands after it.
 fn next_of<'a>(files: &'a [FilePaths], at: PlainEnds) -> Option<(u32, StoredPath<'a>, PlainEnds)>
     requires { length files.now ≤ 2 ^ 32 }
-    ensures { MatchOption result (ends_left files.now at ≡ []) (λ found. ends_left files.now at ≡ (found.0, found.1) ∷ ends_left files.now found.2) }
+    ensures { MatchOption result (ends_left files.now at ≡ [])
+        (λ found. ends_left files.now at ≡ (found.0, found.1) ∷ ends_left files.now found.2) }
 {
     let mut place = at.place;
     for file in at.file..files.len() {
@@ -210,7 +213,9 @@ fn next_in<'a>(
     spot: Spot,
     place: usize,
 ) -> Option<(StoredPath<'a>, usize)>
-    ensures { MatchOption result (filter (ends_in files.now spot number) (drop place paths.now) ≡ []) (λ found. filter (ends_in files.now spot number) (drop place paths.now) ≡ found.0 ∷ filter (ends_in files.now spot number) (drop found.1 paths.now)) }
+    ensures { MatchOption result (filter (ends_in files.now spot number) (drop place paths.now)
+        ≡ []) (λ found. filter (ends_in files.now spot number) (drop place paths.now)
+        ≡ found.0 ∷ filter (ends_in files.now spot number) (drop found.1 paths.now)) }
 {
     for next in place..paths.len() {
         let path = paths.at(next);

@@ -32,8 +32,11 @@ pub fn back<P: BackSource>(
     node: u32,
 ) -> Result<Vec<NodeAt>, BackFault>
     requires definition { IsTrue (is_definition_of (graphs_of (P.files source.now)) file node) }
-    ensures references { IfOk result (λ rows. AreThoseThatReach (graphs_of (P.files source.now)) (node_at file node) rows.items) }
-    ensures many { result ≡ Err BackFault.Many → HasMany (graphs_of (P.files source.now)) (node_at file node) }
+    ensures references { IfOk result
+        (λ rows. AreThoseThatReach (graphs_of (P.files source.now))
+        (node_at file node) rows.items) }
+    ensures many { result ≡ Err BackFault.Many
+        → HasMany (graphs_of (P.files source.now)) (node_at file node) }
     ensures few { OnOk result (¬ HasMany (graphs_of (P.files source.now)) (node_at file node)) }
 {
     rounds_can_be_cut();
@@ -54,9 +57,12 @@ fn in_order(rows: Vec<NodeAt>) -> Vec<NodeAt>
 
 /// Joins paths in front of those that lead to the definition until none is left to be gone on from.
 fn search<P: BackSource>(alloc: Global, source: &P, definition: NodeAt) -> Result<Tally, BackFault>
-    requires definition { IsTrue (is_definition_of (graphs_of (P.files source.now)) definition.file definition.node) }
-    ensures begin { IfOk result (λ tally. (r : NodeAt) → Contains tally.rows.items r ↔ BeginsList (graphs_of (P.files source.now)) definition r) }
-    ensures many { result ≡ Err BackFault.Many → HasMany (graphs_of (P.files source.now)) definition }
+    requires definition { IsTrue (is_definition_of
+        (graphs_of (P.files source.now)) definition.file definition.node) }
+    ensures begin { IfOk result (λ tally. (r : NodeAt) → Contains tally.rows.items r
+        ↔ BeginsList (graphs_of (P.files source.now)) definition r) }
+    ensures many { result ≡ Err BackFault.Many
+        → HasMany (graphs_of (P.files source.now)) definition }
     ensures few { OnOk result (¬ HasMany (graphs_of (P.files source.now)) definition) }
 {
     are_sources(source, Spot::At(definition));
@@ -96,9 +102,12 @@ fn go_on<P: BackSource>(
     requires short { length path.now.edges ≤ most_edges }
     requires low { path.now.peak ≤ most_depth }
     requires few { tally.old.count ≤ most_lists }
-    ensures gone { OnOk result (HasGoneOn (P.files source.now) path.now tally.old.count tally.new.count tally.old.rows.items tally.new.rows.items work.old.items work.new.items) }
+    ensures gone { OnOk result
+        (HasGoneOn
+        (P.files source.now) path.now tally.old.count tally.new.count tally.old.rows.items tally.new.rows.items work.old.items work.new.items) }
     ensures few { OnOk result (tally.new.count ≤ most_lists) }
-    ensures many { result ≡ Err BackFault.Many → IsGonePast (P.files source.now) path.now tally.old.count }
+    ensures many { result ≡ Err BackFault.Many
+        → IsGonePast (P.files source.now) path.now tally.old.count }
 {
     match path.start() {
         Start::Before(_) => Ok(()),

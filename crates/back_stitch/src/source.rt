@@ -25,7 +25,8 @@ pub trait BackSource {
     /// exported scope. The path's own end has file number 0. It takes no memory.
     fn path_to(&self, spot: &Spot, k: usize) -> Option<(u32, StoredPath<'_>)>
         ensures value { result ≡ slice_get (listed self.now spot.now) k }
-        ensures exact { IsPermutation (rules_to (files self.now) spot.now) (listed self.now spot.now) }
+        ensures exact { IsPermutation (rules_to (files self.now) spot.now)
+            (listed self.now spot.now) }
         ensures sets { All IsSourceFile (files self.now) };
 
     /// Where a look-up stands: a value that costs nothing to copy.
@@ -38,7 +39,8 @@ pub trait BackSource {
     /// A look-up of the paths that may end at the spot behind which a path applies that asks for these symbols, as far
     /// as their texts tell: before its first path. It may give more of those that end there. It takes no memory.
     fn ends(&self, spot: &Spot, symbols: &[SymPat]) -> Self::Ends
-        ensures exact { AreEnds (files self.now) spot.now symbols.now (given self.now symbols.now result) }
+        ensures exact { AreEnds (files self.now) spot.now symbols.now
+            (given self.now symbols.now result) }
         ensures sets { All IsSourceFile (files self.now) };
 
     /// The path that comes next in the look-up, with its file's number, and where the look-up stands after it; None
@@ -49,7 +51,9 @@ pub trait BackSource {
         symbols: &[SymPat],
         at: Self::Ends,
     ) -> Option<(u32, StoredPath<'_>, Self::Ends)>
-        ensures { MatchOption result (given self.now symbols.now at ≡ []) (λ found. given self.now symbols.now at ≡ (found.0, found.1) ∷ given self.now symbols.now found.2) };
+        ensures { MatchOption result (given self.now symbols.now at ≡ [])
+            (λ found. given self.now symbols.now at
+            ≡ (found.0, found.1) ∷ given self.now symbols.now found.2) };
 
     /// Whether the node is an exported scope of its file; false where there is no such file or node.
     fn is_exported(&self, at: &NodeAt) -> bool

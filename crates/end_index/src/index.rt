@@ -58,8 +58,10 @@ impl EndIndex {
 
     /// Adds those of these paths of the file with that number that end so. The one error is want of memory.
     fn add_file(&mut self, paths: &StoredPaths<'_>, file: u32) -> Result<(), AllocError>
-        ensures root { OnOk result (self.new.root ≡ self.old.root ++ ends_in ends_at_root file 0 paths.now) }
-        ensures stack { OnOk result (self.new.stack ≡ self.old.stack ++ ends_in ends_by_stack file 0 paths.now) }
+        ensures root { OnOk result (self.new.root
+            ≡ self.old.root ++ ends_in ends_at_root file 0 paths.now) }
+        ensures stack { OnOk result (self.new.stack
+            ≡ self.old.stack ++ ends_in ends_by_stack file 0 paths.now) }
     {
         for place in 0..paths.len() {
             self.add(&paths.at(place), file, place)?;
@@ -69,8 +71,10 @@ impl EndIndex {
 
     /// Adds the path at that place of the file where it ends so. The one error is want of memory.
     fn add(&mut self, path: &StoredPath<'_>, file: u32, place: usize) -> Result<(), AllocError>
-        ensures root { OnOk result (self.new.root ≡ self.old.root ++ ends_in ends_at_root file place (path.now ∷ [])) }
-        ensures stack { OnOk result (self.new.stack ≡ self.old.stack ++ ends_in ends_by_stack file place (path.now ∷ [])) }
+        ensures root { OnOk result (self.new.root
+            ≡ self.old.root ++ ends_in ends_at_root file place (path.now ∷ [])) }
+        ensures stack { OnOk result (self.new.stack
+            ≡ self.old.stack ++ ends_in ends_by_stack file place (path.now ∷ [])) }
     {
         match path.end() {
             End::At(Spot::Root) => self.root.push(end_place(path, file, place))?,

@@ -18,7 +18,9 @@ pub(crate) fn next_inside(
     node: NodeAt,
     place: usize,
 ) -> Option<(u32, StoredPath<'_>, usize)>
-    ensures { MatchOption result (inside_left (files_of view.now) node place ≡ []) (λ found. inside_left (files_of view.now) node place ≡ (found.0, found.1) ∷ inside_left (files_of view.now) node found.2) }
+    ensures { MatchOption result (inside_left (files_of view.now) node place ≡ [])
+        (λ found. inside_left (files_of view.now) node place
+        ≡ (found.0, found.1) ∷ inside_left (files_of view.now) node found.2) }
 {
     let file = file_in(view, node.file as usize)?;
     match next_ending(&file.paths(), node, place) {
@@ -33,7 +35,10 @@ fn next_ending<'a>(
     node: NodeAt,
     place: usize,
 ) -> Option<(StoredPath<'a>, usize)>
-    ensures { MatchOption result (filter (ends_inside (spots.At node) node.file) (drop place paths.now) ≡ []) (λ found. filter (ends_inside (spots.At node) node.file) (drop place paths.now) ≡ found.0 ∷ filter (ends_inside (spots.At node) node.file) (drop found.1 paths.now)) }
+    ensures { MatchOption result (filter (ends_inside (spots.At node) node.file)
+        (drop place paths.now) ≡ []) (λ found. filter (ends_inside (spots.At node) node.file)
+        (drop place paths.now) ≡ found.0 ∷ filter (ends_inside (spots.At node) node.file)
+        (drop found.1 paths.now)) }
 {
     for i in place..paths.len() {
         let path = paths.at(i);

@@ -34,8 +34,13 @@ fn ending<'a>(
     spot: Spot,
     left: &mut usize,
 ) -> Option<StoredPath<'a>>
-    ensures found { result ≡ slice_get (filter (λ rule. may_end_at (graphs_of (files_of view.now)) spot (moved file rule)) paths.now) left.old }
-    ensures rest { IfNone result (left.new + length (filter (λ rule. may_end_at (graphs_of (files_of view.now)) spot (moved file rule)) paths.now) ≡ left.old) }
+    ensures found { result
+        ≡ slice_get (filter
+        (λ rule. may_end_at (graphs_of (files_of view.now)) spot
+        (moved file rule)) paths.now) left.old }
+    ensures rest { IfNone result (left.new + length (filter
+        (λ rule. may_end_at (graphs_of (files_of view.now)) spot (moved file rule)) paths.now)
+        ≡ left.old) }
 {
     for place in 0..paths.len() {
         let path = paths.at(place);

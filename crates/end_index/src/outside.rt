@@ -19,7 +19,9 @@ pub(crate) fn next_outside<'a>(
 ) -> Option<(u32, StoredPath<'a>, EndRuns)>
     requires order { AreByRank places.now }
     requires there { AreThere (files_of view.now) places.now }
-    ensures { MatchOption result (outside_left (files_of view.now) places.now at ≡ []) (λ found. outside_left (files_of view.now) places.now at ≡ (found.0, found.1) ∷ outside_left (files_of view.now) places.now found.2) }
+    ensures { MatchOption result (outside_left (files_of view.now) places.now at ≡ [])
+        (λ found. outside_left (files_of view.now) places.now at
+        ≡ (found.0, found.1) ∷ outside_left (files_of view.now) places.now found.2) }
 {
     let (place, after) = next_place(places, at)?;
     let path = path_at(view, place)?;

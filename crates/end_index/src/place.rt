@@ -29,7 +29,8 @@ ghost use Rattle.std.specs.Ordering.{nat_cmp, ordering_then};
 
 /// How a path stands to another of the same marks.
 fn order_in_marks(a: &EndPlace, b: &EndPlace) -> Ordering
-    ensures { result ≡ ordering_then (nat_cmp a.now.file b.now.file) (nat_cmp a.now.place b.now.place) }
+    ensures { result
+        ≡ ordering_then (nat_cmp a.now.file b.now.file) (nat_cmp a.now.place b.now.place) }
 {
     match a.file.cmp(&b.file) {
         Ordering::Less => Ordering::Less,

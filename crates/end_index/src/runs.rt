@@ -28,7 +28,8 @@ pub struct EndRuns {
 /// order.
 pub(crate) fn next_place(places: &[EndPlace], at: EndRuns) -> Option<(EndPlace, EndRuns)>
     requires { AreByRank places.now }
-    ensures { MatchOption result (runs_left at places.now ≡ []) (λ found. runs_left at places.now ≡ found.0 ∷ runs_left found.1 places.now) }
+    ensures { MatchOption result (runs_left at places.now ≡ [])
+        (λ found. runs_left at places.now ≡ found.0 ∷ runs_left found.1 places.now) }
 {
     match next_here(places, at) {
         Some(place) => Some((place, stepped(at))),
@@ -91,7 +92,9 @@ fn next_here(places: &[EndPlace], at: EndRuns) -> Option<EndPlace>
 /// The first path of the runs to come, and where the look-up stands after it; None where they have none.
 fn next_run(places: &[EndPlace], at: EndRuns) -> Option<(EndPlace, EndRuns)>
     requires { AreByRank places.now }
-    ensures { MatchOption result (filter (is_later (before_zero at.marks) at.asked) places.now ≡ []) (λ found. filter (is_later (before_zero at.marks) at.asked) places.now ≡ found.0 ∷ runs_left found.1 places.now) }
+    ensures { MatchOption result (filter (is_later (before_zero at.marks) at.asked) places.now
+        ≡ []) (λ found. filter (is_later (before_zero at.marks) at.asked) places.now
+        ≡ found.0 ∷ runs_left found.1 places.now) }
 {
     let wanted = before_zero(at.marks.as_slice());
     for asked in at.asked..wanted.len() + 1 {
@@ -128,7 +131,8 @@ fn before_zero(marks: &[u64]) -> &[u64]
 /// before which, by two halvings.
 fn run_asking(places: &[EndPlace], wanted: &[u64], asked: usize) -> (usize, usize)
     requires { AreByRank places.now }
-    ensures run { take (result.1 - result.0) (drop result.0 places.now) ≡ filter (is_in_run wanted.now asked) places.now }
+    ensures run { take (result.1 - result.0) (drop result.0 places.now)
+        ≡ filter (is_in_run wanted.now asked) places.now }
     ensures bound { result.1 ≤ length places.now }
 {
     let low = count_before(places, wanted, asked);

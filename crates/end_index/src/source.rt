@@ -105,7 +105,8 @@ fn are_sources(view: &View)
 /// Before the first path that may end at the spot and make these symbols.
 fn ends_of(view: &View, ends: &EndIndex, spot: Spot, symbols: &[SymPat]) -> EndLook
     requires { IsEndIndexOf view.now ends.now }
-    ensures { AreEnds (files_of view.now) spot symbols.now (ends_left (files_of view.now) ends.now result) }
+    ensures { AreEnds (files_of view.now) spot symbols.now
+        (ends_left (files_of view.now) ends.now result) }
 {
     are_sources(view);
     match spot {
@@ -127,7 +128,9 @@ fn next_end<'a>(
     at: EndLook,
 ) -> Option<(u32, StoredPath<'a>, EndLook)>
     requires { IsEndIndexOf view.now ends.now }
-    ensures { MatchOption result (ends_left (files_of view.now) ends.now at ≡ []) (λ found. ends_left (files_of view.now) ends.now at ≡ (found.0, found.1) ∷ ends_left (files_of view.now) ends.now found.2) }
+    ensures { MatchOption result (ends_left (files_of view.now) ends.now at ≡ [])
+        (λ found. ends_left (files_of view.now) ends.now at
+        ≡ (found.0, found.1) ∷ ends_left (files_of view.now) ends.now found.2) }
 {
     match at {
         EndLook::Inside(node, place, stack) => match next_inside(view, node, place) {
@@ -148,7 +151,9 @@ fn next_at_root<'a>(
     at: EndRuns,
 ) -> Option<(u32, StoredPath<'a>, EndLook)>
     requires { IsEndIndexOf view.now ends.now }
-    ensures { MatchOption result (outside_left (files_of view.now) ends.now.root at ≡ []) (λ found. outside_left (files_of view.now) ends.now.root at ≡ (found.0, found.1) ∷ ends_left (files_of view.now) ends.now found.2) }
+    ensures { MatchOption result (outside_left (files_of view.now) ends.now.root at ≡ [])
+        (λ found. outside_left (files_of view.now) ends.now.root at
+        ≡ (found.0, found.1) ∷ ends_left (files_of view.now) ends.now found.2) }
 {
     match next_outside(view, ends.root(), at) {
         Some((file, path, after)) => Some((file, path, EndLook::Root(after))),
@@ -163,7 +168,9 @@ fn next_by_stack<'a>(
     at: EndRuns,
 ) -> Option<(u32, StoredPath<'a>, EndLook)>
     requires { IsEndIndexOf view.now ends.now }
-    ensures { MatchOption result (outside_left (files_of view.now) ends.now.stack at ≡ []) (λ found. outside_left (files_of view.now) ends.now.stack at ≡ (found.0, found.1) ∷ ends_left (files_of view.now) ends.now found.2) }
+    ensures { MatchOption result (outside_left (files_of view.now) ends.now.stack at ≡ [])
+        (λ found. outside_left (files_of view.now) ends.now.stack at
+        ≡ (found.0, found.1) ∷ ends_left (files_of view.now) ends.now found.2) }
 {
     match next_outside(view, ends.stack(), at) {
         Some((file, path, after)) => Some((file, path, EndLook::Stack(after))),

@@ -115,11 +115,13 @@ fn follow(
     found: &mut Found,
     steps: &mut u64,
 ) -> Result<(), PathsFault>
-    requires finding { IsFinding graph.now found.old.paths.items (found.old.begun.items ++ path ∷ []) found.old.weight steps.old }
+    requires finding { IsFinding graph.now found.old.paths.items (found.old.begun.items
+        ++ path ∷ []) found.old.weight steps.old }
     requires short { IsShort (MAX_WEIGHT + 1) path }
     requires begun { AllByRecursion (IsShort (MAX_WEIGHT + 1)) found.old.begun.items }
     requires light { found.old.weight ≤ MAX_WEIGHT }
-    ensures finding { OnOk result (IsFinding graph.now found.new.paths.items found.new.begun.items found.new.weight steps.new) }
+    ensures finding { OnOk result
+        (IsFinding graph.now found.new.paths.items found.new.begun.items found.new.weight steps.new) }
     ensures begun { OnOk result (AllByRecursion (IsShort (MAX_WEIGHT + 1)) found.new.begun.items) }
     ensures light { OnOk result (found.new.weight ≤ MAX_WEIGHT) }
     ensures heavier { OnOk result (found.old.weight < found.new.weight) }
@@ -190,7 +192,8 @@ fn onward(
     requires leads { LeadsTo graph.now path.now.edges sink }
     requires place { IsTrue (has_place (length graph.now.nodes) sink) }
     requires begun { AllByRecursion (IsShort (MAX_WEIGHT + 1)) begun.old.items }
-    ensures longer { OnOk result (AddsLonger graph.now (walk_of_rule path.now) begun.old.items begun.new.items) }
+    ensures longer { OnOk result (AddsLonger graph.now
+        (walk_of_rule path.now) begun.old.items begun.new.items) }
     ensures begun { OnOk result (AllByRecursion (IsShort (MAX_WEIGHT + 1)) begun.new.items) }
 {
     if graph.is_cut(sink) {

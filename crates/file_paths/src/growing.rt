@@ -25,7 +25,8 @@ pub fn grow(
     requires onward { GoesOnFrom graph.now (walk_of_rule path) from }
     requires short { IsShort MAX_WEIGHT path }
     requires begun { AllByRecursion (IsShort (MAX_WEIGHT + 1)) begun.old.items }
-    ensures longer { OnOk result (AddsLonger graph.now (walk_of_rule path) begun.old.items begun.new.items) }
+    ensures longer { OnOk result (AddsLonger graph.now
+        (walk_of_rule path) begun.old.items begun.new.items) }
     ensures begun { OnOk result (AllByRecursion (IsShort (MAX_WEIGHT + 1)) begun.new.items) }
 {
     let mut left = graph.edges_from(from);
@@ -52,7 +53,8 @@ pub fn begin_longer(
     requires onward { GoesOnFrom graph.now (walk_of_rule path.now) from }
     requires short { IsShort MAX_WEIGHT path.now }
     requires begun { AllByRecursion (IsShort (MAX_WEIGHT + 1)) begun.old.items }
-    ensures longer { OnOk result (AddsLonger graph.now (walk_of_rule path.now) begun.old.items begun.new.items) }
+    ensures longer { OnOk result (AddsLonger graph.now
+        (walk_of_rule path.now) begun.old.items begun.new.items) }
     ensures begun { OnOk result (AllByRecursion (IsShort (MAX_WEIGHT + 1)) begun.new.items) }
 {
     for edge in graph.edges_from(from) {
@@ -73,7 +75,8 @@ fn begin_copy(
     requires may { MayGoOn graph.now path.now }
     requires short { IsShort MAX_WEIGHT path.now }
     requires begun { AllByRecursion (IsShort (MAX_WEIGHT + 1)) begun.old.items }
-    ensures found { OnOk result (AddsFound graph.now (walk_of_rule path.now) edge begun.old.items begun.new.items) }
+    ensures found { OnOk result (AddsFound graph.now
+        (walk_of_rule path.now) edge begun.old.items begun.new.items) }
     ensures begun { OnOk result (AllByRecursion (IsShort (MAX_WEIGHT + 1)) begun.new.items) }
 {
     // The start tells that the path is a rule.
@@ -96,7 +99,8 @@ fn begin_itself(
     requires may { MayGoOn graph.now path }
     requires short { IsShort MAX_WEIGHT path }
     requires begun { AllByRecursion (IsShort (MAX_WEIGHT + 1)) begun.old.items }
-    ensures found { OnOk result (AddsFound graph.now (walk_of_rule path) edge begun.old.items begun.new.items) }
+    ensures found { OnOk result (AddsFound graph.now
+        (walk_of_rule path) edge begun.old.items begun.new.items) }
     ensures begun { OnOk result (AllByRecursion (IsShort (MAX_WEIGHT + 1)) begun.new.items) }
 {
     // The start tells that the path is a rule.

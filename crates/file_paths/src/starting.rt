@@ -22,7 +22,8 @@ const FIRST_ROOM: usize = 1_024;
 /// The paths of one edge, from each start of the file's walks: after each cut node, after the root and before
 /// each reference. They stand in the order of their starts, the greatest first. The one error is want of memory.
 pub fn first_paths(alloc: Global, graph: &FileGraph) -> Result<Vec<PartialPath>, AllocError>
-    ensures first { IfOk result (λ first. AreFirstRules graph.now (all_starts graph.now) first.items) }
+    ensures first { IfOk result
+        (λ first. AreFirstRules graph.now (all_starts graph.now) first.items) }
     ensures short { IfOk result (λ first. AllByRecursion (IsShort (MAX_WEIGHT + 1)) first.items) }
 {
     let room = FIRST_ROOM.min(graph.node_count() as usize);
@@ -41,7 +42,8 @@ fn push_afters(
 ) -> Result<(), AllocError>
     requires first { AreFirstRules graph.now [] first.old.items }
     requires short { AllByRecursion (IsShort (MAX_WEIGHT + 1)) first.old.items }
-    ensures first { OnOk result (AreFirstRules graph.now (starts_after graph.now (length graph.now.nodes)) first.new.items) }
+    ensures first { OnOk result (AreFirstRules graph.now
+        (starts_after graph.now (length graph.now.nodes)) first.new.items) }
     ensures short { OnOk result (AllByRecursion (IsShort (MAX_WEIGHT + 1)) first.new.items) }
 {
     for node in (0..graph.node_count()).rev() {
@@ -76,7 +78,8 @@ fn push_before(
 ) -> Result<(), AllocError>
     requires node { node < length graph.now.nodes }
     requires short { AllByRecursion (IsShort (MAX_WEIGHT + 1)) first.old.items }
-    ensures first { OnOk result (AddsFirst graph.now (is_reference graph.now.nodes node) (before_node node) first.old.items first.new.items) }
+    ensures first { OnOk result (AddsFirst graph.now (is_reference graph.now.nodes node)
+        (before_node node) first.old.items first.new.items) }
     ensures short { OnOk result (AllByRecursion (IsShort (MAX_WEIGHT + 1)) first.new.items) }
 {
     if !is_reference(graph, node) {
@@ -95,7 +98,8 @@ fn push_after(
 ) -> Result<(), AllocError>
     requires node { node < length graph.now.nodes }
     requires short { AllByRecursion (IsShort (MAX_WEIGHT + 1)) first.old.items }
-    ensures first { OnOk result (AddsFirst graph.now (is_cut graph.now (place.At node)) (after_node node) first.old.items first.new.items) }
+    ensures first { OnOk result (AddsFirst graph.now (is_cut graph.now (place.At node))
+        (after_node node) first.old.items first.new.items) }
     ensures short { OnOk result (AllByRecursion (IsShort (MAX_WEIGHT + 1)) first.new.items) }
 {
     if !graph.is_cut(Place::At(node)) {
@@ -115,7 +119,8 @@ fn push_units(
     requires cut { is_cut graph.now from ≡ true }
     requires jump { is_jump from ≡ false }
     requires short { AllByRecursion (IsShort (MAX_WEIGHT + 1)) first.old.items }
-    ensures longer { OnOk result (IfSome (place_spot from) (λ spot. AddsLonger graph.now (no_edges (After spot)) first.old.items first.new.items)) }
+    ensures longer { OnOk result (IfSome (place_spot from)
+        (λ spot. AddsLonger graph.now (no_edges (After spot)) first.old.items first.new.items)) }
     ensures short { OnOk result (AllByRecursion (IsShort (MAX_WEIGHT + 1)) first.new.items) }
 {
     // Tells that the graph is checked.

@@ -51,8 +51,10 @@ pub fn index_all<R: Threads + Sync, G: Gate + Sync, L: Ledger>(
     ensures some { OnErr result (AddsSome docs.now store.old store.new) }
 
     // The steps.
-    ensures steps { OnOk result (CountsAllWalks (drop (length store.old) store.new) steps.old steps.new) }
-    ensures fewer { (total : ℕ) → AreDocWeights (missing (docs_of store.old) docs.now) total → steps.new ≤ steps.old + total }
+    ensures steps { OnOk result (CountsAllWalks (drop
+        (length store.old) store.new) steps.old steps.new) }
+    ensures fewer { (total : ℕ) → AreDocWeights (missing (docs_of store.old) docs.now) total
+        → steps.new ≤ steps.old + total }
 {
     let ahead = Ahead::of(rt, alloc, docs, store, gate)?;
     let mut fresh = PathStore::new(alloc);
@@ -89,9 +91,11 @@ fn paths_for<G: Gate, L: Ledger>(
     requires store { AreIndexed store.now }
     requires fresh { AreIndexed fresh.old }
     ensures file { IfOk result (λ file. IsIndexed (kept_of doc.now file)) }
-    ensures adds { OnOk result (Adds (docs_of store.now) doc.now fresh.old fresh.new steps.old steps.new) }
+    ensures adds { OnOk result
+        (Adds (docs_of store.now) doc.now fresh.old fresh.new steps.old steps.new) }
     ensures fault { IfErr result (Refuses doc.now) }
-    ensures same { has_doc (docs_of store.now ++ docs_of fresh.old) doc.now ≡ true → steps.new ≡ steps.old }
+    ensures same { has_doc (docs_of store.now ++ docs_of fresh.old) doc.now ≡ true
+        → steps.new ≡ steps.old }
     ensures fewer { (weight : ℕ) → IsDocWeight doc.now weight → steps.new ≤ steps.old + weight }
 {
     match ahead.find(place, doc) {
@@ -123,9 +127,11 @@ fn paths_by<G: Gate, L: Ledger>(
     requires store { AreIndexed store.now }
     requires fresh { AreIndexed fresh.old }
     ensures file { IfOk result (λ file. IsIndexed (kept_of doc.now file)) }
-    ensures adds { OnOk result (Adds (docs_of store.now) doc.now fresh.old fresh.new steps.old steps.new) }
+    ensures adds { OnOk result
+        (Adds (docs_of store.now) doc.now fresh.old fresh.new steps.old steps.new) }
     ensures fault { IfErr result (Refuses doc.now) }
-    ensures same { has_doc (docs_of store.now ++ docs_of fresh.old) doc.now ≡ true → steps.new ≡ steps.old }
+    ensures same { has_doc (docs_of store.now ++ docs_of fresh.old) doc.now ≡ true
+        → steps.new ≡ steps.old }
     ensures fewer { (weight : ℕ) → IsDocWeight doc.now weight → steps.new ≤ steps.old + weight }
 {
     if let Some(paths) = find_shared(store, doc)? {

@@ -73,7 +73,8 @@ impl Model for AskedView {
 
     ghost view = { λ v. v.view };
 
-    ghost invariant = { λ v. IfSome v.known (IsKnown (graphs_seen v.view)) × IfSome v.ends (IsEndIndexOf v.view) };
+    ghost invariant = { λ v. IfSome v.known (IsKnown (graphs_seen v.view))
+        × IfSome v.ends (IsEndIndexOf v.view) };
 }
 
 impl AskedView {
@@ -139,7 +140,8 @@ impl AskedView {
     /// the first time, in time that follows the files, and kept.
     pub(crate) fn leading(&mut self, alloc: Global, node: NodeAt) -> Result<Vec<NodeAt>, BackFault>
         requires definition { IsTrue (is_definition_of (graphs_seen self.old) node.file node.node) }
-        ensures leading { IfOk result (λ rows. AreThoseThatReach (graphs_seen self.old) node rows.items) }
+        ensures leading { IfOk result
+            (λ rows. AreThoseThatReach (graphs_seen self.old) node rows.items) }
         ensures many { result ≡ Err BackFault.Many → HasMany (graphs_seen self.old) node }
         ensures few { OnOk result (¬ HasMany (graphs_seen self.old) node) }
         ensures same { self.new ≡ self.old }
@@ -163,7 +165,8 @@ fn leading_by(
 ) -> Result<Vec<NodeAt>, BackFault>
     requires ends { IsEndIndexOf view.now ends.now }
     requires definition { IsTrue (is_definition_of (graphs_seen view.now) node.file node.node) }
-    ensures leading { IfOk result (λ rows. AreThoseThatReach (graphs_seen view.now) node rows.items) }
+    ensures leading { IfOk result
+        (λ rows. AreThoseThatReach (graphs_seen view.now) node rows.items) }
     ensures many { result ≡ Err BackFault.Many → HasMany (graphs_seen view.now) node }
     ensures few { OnOk result (¬ HasMany (graphs_seen view.now) node) }
 {

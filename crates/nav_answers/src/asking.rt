@@ -36,9 +36,14 @@ pub fn ask<G: Gate>(
     reference: NodeAt,
 ) -> Result<Found, StitchFault>
     requires index { IsIndexOfView query.now.index.now query.now.view.now }
-    requires reference { IsTrue (is_reference_of (graphs_seen query.now.view.now) reference.file reference.node) }
-    ensures found { IfOk result (λ found. IsFound query.now.bounds (graphs_seen query.now.view.now) reference found.rows found.limit) }
-    ensures crowded { result ≡ Err StitchFault.Crowded → IsSomeAnd (start (graphs_seen query.now.view.now) reference) (IsCrowded query.now.bounds (graphs_seen query.now.view.now)) }
+    requires reference { IsTrue
+        (is_reference_of (graphs_seen query.now.view.now) reference.file reference.node) }
+    ensures found { IfOk result
+        (λ found. IsFound query.now.bounds
+        (graphs_seen query.now.view.now) reference found.rows found.limit) }
+    ensures crowded { result ≡ Err StitchFault.Crowded
+        → IsSomeAnd (start (graphs_seen query.now.view.now) reference)
+        (IsCrowded query.now.bounds (graphs_seen query.now.view.now)) }
 {
     gate.enter(job);
     let found = definitions_of(alloc, query.view, query.index, reference, query.bounds);

@@ -50,7 +50,8 @@ pub fn callers<R: Threads + Sync, G: Gate + Sync>(
     at: At,
 ) -> Result<Rows, AskFault>
     requires { IsIndexOfView index.now seen.old }
-    ensures reply { result ≢ Err AskFault.NoMemory → IsCallersReply (graph_rows seen.old) path.now at result }
+    ensures reply { result ≢ Err AskFault.NoMemory
+        → IsCallersReply (graph_rows seen.old) path.now at result }
     ensures same { seen.new ≡ seen.old }
 {
     match meant(seen.view(), Asked::Definition, path, at) {
@@ -70,7 +71,8 @@ fn callers_of<R: Threads + Sync, G: Gate + Sync>(
 ) -> Result<Rows, AskFault>
     requires index { IsIndexOfView index.now seen.old }
     requires definition { IsTrue (is_definition_of (graphs_seen seen.old) node.file node.node) }
-    ensures reply { result ≢ Err AskFault.NoMemory → IsCallerReply (graph_rows seen.old) node result }
+    ensures reply { result ≢ Err AskFault.NoMemory
+        → IsCallerReply (graph_rows seen.old) node result }
     ensures same { seen.new ≡ seen.old }
 {
     if seen.has_each(Bounds::usual()) {
@@ -93,7 +95,9 @@ fn rows_of_references<R: Threads + Sync, G: Gate + Sync>(
     node: NodeAt,
 ) -> Result<Rows, AskFault>
     requires { IsIndexOfView index.now seen.old }
-    ensures reply { result ≢ Err AskFault.NoMemory → TellsUnless (IsAnyCrowded usual (graphs_in (graph_rows seen.old))) (graph_rows seen.old) node result }
+    ensures reply { result ≢ Err AskFault.NoMemory
+        → TellsUnless (IsAnyCrowded usual (graphs_in (graph_rows seen.old)))
+        (graph_rows seen.old) node result }
     ensures same { seen.new ≡ seen.old }
 {
     match references_to(rt, alloc, seen, index, gate, node, Bounds::usual()) {
@@ -114,7 +118,9 @@ fn callers_among<R: Threads + Sync, G: Gate + Sync>(
 ) -> Result<Rows, AskFault>
     requires index { IsIndexOfView index.now view.now }
     requires leading { AreThoseThatReach (graphs_seen view.now) node leading.now }
-    ensures { result ≢ Err AskFault.NoMemory → TellsUnless (LeadsCrowded (graphs_in (graph_rows view.now)) node) (graph_rows view.now) node result }
+    ensures { result ≢ Err AskFault.NoMemory
+        → TellsUnless (LeadsCrowded (graphs_in (graph_rows view.now)) node)
+        (graph_rows view.now) node result }
 {
     let query = Query {
         view,
@@ -143,8 +149,10 @@ fn callers_by(
     links: Links,
 ) -> Result<Vec<Hit>, AllocError>
     requires leading { AreThoseThatReach (graphs_seen _view.now) node _leading.now }
-    requires links { AreLinksOf usual (graphs_seen _view.now) (hit_of node ∷ []) _leading.now links }
-    ensures { IfOk result (λ hits. AreReferences usual (graphs_seen _view.now) (hit_of node) hits.items) }
+    requires links { AreLinksOf usual (graphs_seen _view.now)
+        (hit_of node ∷ []) _leading.now links }
+    ensures { IfOk result
+        (λ hits. AreReferences usual (graphs_seen _view.now) (hit_of node) hits.items) }
 {
     let links = links.in_order();
     let rows = rows_of_any(alloc, &links.list, &[hit_of(node)])?;

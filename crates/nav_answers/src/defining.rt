@@ -39,7 +39,8 @@ pub fn define(
     bounds: Bounds,
 ) -> Result<Answer, AskFault>
     requires { IsIndexOfView index.now view.now }
-    ensures { result ≢ Err AskFault.NoMemory → IsDefineReply bounds (graph_rows view.now) path.now at result }
+    ensures { result ≢ Err AskFault.NoMemory
+        → IsDefineReply bounds (graph_rows view.now) path.now at result }
 {
     match meant(view, Asked::Reference, path, at) {
         Ok(node) => define_node(alloc, view, index, node, bounds),
@@ -57,7 +58,8 @@ fn define_node(
 ) -> Result<Answer, AskFault>
     requires index { IsIndexOfView index.now view.now }
     requires reference { IsTrue (is_reference_of (graphs_seen view.now) node.file node.node) }
-    ensures { result ≢ Err AskFault.NoMemory → IsDefinitionReply bounds (graph_rows view.now) node result }
+    ensures { result ≢ Err AskFault.NoMemory
+        → IsDefinitionReply bounds (graph_rows view.now) node result }
 {
     match definitions_of(alloc, view, index, node, bounds) {
         Ok(found) => Ok(answer_of(alloc, view, &found)?),
@@ -76,10 +78,14 @@ pub fn definitions_of(
 ) -> Result<Found, StitchFault>
     requires index { IsIndexOfView index.now view.now }
     requires reference { IsTrue (is_reference_of (graphs_seen view.now) node.file node.node) }
-    ensures rows { IfOk result (λ found. IsSomeAnd (start (graphs_seen view.now) node) (λ c. AreDefinitions bounds (graphs_seen view.now) c found.rows)) }
-    ensures limit { IfOk result (λ found. IsSomeAnd (start (graphs_seen view.now) node) (λ c. IsTrue found.limit ↔ HasLimit bounds (graphs_seen view.now) c)) }
-    ensures crowded { result ≡ Err StitchFault.Crowded → IsSomeAnd (start (graphs_seen view.now) node) (IsCrowded bounds (graphs_seen view.now)) }
-    ensures not_crowded { OnOk result (IsSomeAnd (start (graphs_seen view.now) node) (λ c. ¬ IsCrowded bounds (graphs_seen view.now) c)) }
+    ensures rows { IfOk result (λ found. IsSomeAnd (start (graphs_seen view.now) node)
+        (λ c. AreDefinitions bounds (graphs_seen view.now) c found.rows)) }
+    ensures limit { IfOk result (λ found. IsSomeAnd (start (graphs_seen view.now) node)
+        (λ c. IsTrue found.limit ↔ HasLimit bounds (graphs_seen view.now) c)) }
+    ensures crowded { result ≡ Err StitchFault.Crowded
+        → IsSomeAnd (start (graphs_seen view.now) node) (IsCrowded bounds (graphs_seen view.now)) }
+    ensures not_crowded { OnOk result (IsSomeAnd (start (graphs_seen view.now) node)
+        (λ c. ¬ IsCrowded bounds (graphs_seen view.now) c)) }
 {
     let source = ViewSource::of(view, index);
     let found = stitch(alloc, &source, node.file, node.node, bounds)?;
@@ -92,7 +98,8 @@ pub fn definitions_of(
 
 /// The answer that tells of these nodes; the one error is want of memory.
 pub fn answer_of(alloc: Global, view: &View, found: &Found) -> Result<Answer, AllocError>
-    ensures rows { IfOk result (λ answer. answer.rows ≡ map (row_of (graph_rows view.now)) found.now.rows) }
+    ensures rows { IfOk result (λ answer. answer.rows
+        ≡ map (row_of (graph_rows view.now)) found.now.rows) }
     ensures limit { IfOk result (λ answer. answer.limit ≡ found.now.limit) }
 {
     Ok(Answer {
@@ -125,7 +132,8 @@ fn row_of(alloc: Global, view: &View, hit: Hit) -> Result<Row, AllocError>
 
 /// The path of the file with that number; empty where there is none.
 fn path_of(view: &View, file: u32) -> &str
-    ensures { result.now ≡ option_map_or (λ (row : GraphRow). row.path) (slice_get (graph_rows view.now) file) [] }
+    ensures { result.now ≡ option_map_or
+        (λ (row : GraphRow). row.path) (slice_get (graph_rows view.now) file) [] }
 {
     if file < view.row_count() {
         view.path(file)
@@ -136,7 +144,8 @@ fn path_of(view: &View, file: u32) -> &str
 
 /// The span of the node; None where there is none.
 fn span_of(view: &View, hit: Hit) -> Option<Span>
-    ensures { result ≡ option_and_then (λ node. node.span) (node_of (graphs_seen view.now) hit.file hit.node) }
+    ensures { result ≡ option_and_then
+        (λ node. node.span) (node_of (graphs_seen view.now) hit.file hit.node) }
 {
     let file = file_in(view, hit.file as usize)?;
     if hit.node < file.node_count() {

@@ -46,7 +46,8 @@ impl Links {
 
     /// Adds what was found of a reference; the one error is want of memory.
     pub fn add(&mut self, reference: Hit, found: &Found) -> Result<(), AllocError>
-        ensures list { OnOk result (self.new.list.items ≡ self.old.list.items ++ links_of reference found.now.rows) }
+        ensures list { OnOk result (self.new.list.items
+            ≡ self.old.list.items ++ links_of reference found.now.rows) }
         ensures limit { OnOk result (self.new.limit ≡ (self.old.limit || found.now.limit)) }
         ensures whole { OnOk result (self.new.whole ≡ self.old.whole) }
     {
@@ -73,7 +74,8 @@ impl Links {
 
     /// Adds what was found of other references; the one error is want of memory.
     pub fn append(&mut self, other: &Links) -> Result<(), AllocError>
-        ensures list { OnOk result (self.new.list.items ≡ self.old.list.items ++ other.now.list.items) }
+        ensures list { OnOk result (self.new.list.items
+            ≡ self.old.list.items ++ other.now.list.items) }
         ensures limit { OnOk result (self.new.limit ≡ (self.old.limit || other.now.limit)) }
         ensures whole { OnOk result (self.new.whole ≡ (self.old.whole && other.now.whole)) }
     {
@@ -86,7 +88,8 @@ impl Links {
     /// The same by the definitions and then by the references, each pair once. It takes no memory.
     pub fn in_order(self) -> Links
         ensures order { IsStrictlySortedBy by_link result.list.items }
-        ensures exact { (link : Link) → Contains result.list.items link ↔ Contains self.list.items link }
+        ensures exact { (link : Link) → Contains result.list.items link
+            ↔ Contains self.list.items link }
         ensures limit { result.limit ≡ self.limit }
         ensures whole { result.whole ≡ self.whole }
     {

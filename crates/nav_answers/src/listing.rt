@@ -20,7 +20,8 @@ pub fn all_references(alloc: Global, view: &View) -> Result<Vec<NodeAt>, AllocEr
 
 /// Adds the references of the file, which has that number.
 fn add_references(file: &FilePaths, number: u32, all: &mut Vec<NodeAt>) -> Result<(), AllocError>
-    ensures { OnOk result (all.new.items ≡ all.old.items ++ references_in number 0 file.now.graph.nodes) }
+    ensures { OnOk result (all.new.items ≡ all.old.items
+        ++ references_in number 0 file.now.graph.nodes) }
 {
     for node in 0..file.node_count() {
         if file.node(node).kind.is_reference() {

@@ -50,7 +50,8 @@ impl Asked {
 /// there is no such definition. It takes no memory. The file is found by halving; a point is looked for among all
 /// nodes of the file.
 pub fn definition_at(view: &View, path: &str, at: At) -> Result<u32, AskFault>
-    ensures { result ≡ result_map_both (λ (node : NodeAt). node.node) (λ fault. fault) (meant is_definition_kind NoDefinition (graph_rows view.now) path.now at) }
+    ensures { result ≡ result_map_both (λ (node : NodeAt). node.node)
+        (λ fault. fault) (meant is_definition_kind NoDefinition (graph_rows view.now) path.now at) }
 {
     match meant(view, Asked::Definition, path, at) {
         Ok(node) => Ok(node.node),

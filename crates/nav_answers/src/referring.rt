@@ -56,7 +56,8 @@ pub fn references<R: Threads + Sync, G: Gate + Sync>(
     bounds: Bounds,
 ) -> Result<Answer, AskFault>
     requires { IsIndexOfView index.now seen.old }
-    ensures reply { result ≢ Err AskFault.NoMemory → IsReferencesReply bounds (graph_rows seen.old) path.now at result }
+    ensures reply { result ≢ Err AskFault.NoMemory
+        → IsReferencesReply bounds (graph_rows seen.old) path.now at result }
     ensures same { seen.new ≡ seen.old }
 {
     match meant(seen.view(), Asked::Definition, path, at) {
@@ -76,7 +77,8 @@ pub fn references_to<R: Threads + Sync, G: Gate + Sync>(
     bounds: Bounds,
 ) -> Result<Answer, AskFault>
     requires { IsIndexOfView index.now seen.old }
-    ensures reply { result ≢ Err AskFault.NoMemory → IsReferenceReply bounds (graph_rows seen.old) node result }
+    ensures reply { result ≢ Err AskFault.NoMemory
+        → IsReferenceReply bounds (graph_rows seen.old) node result }
     ensures same { seen.new ≡ seen.old }
 {
     references_to_any(rt, alloc, seen, index, gate, &[hit_of(node)], bounds)
@@ -94,8 +96,10 @@ pub fn references_to_any<R: Threads + Sync, G: Gate + Sync>(
     bounds: Bounds,
 ) -> Result<Answer, AskFault>
     requires { IsIndexOfView index.now seen.old }
-    ensures reply { result ≢ Err AskFault.NoMemory → IsReplyToAny bounds (graph_rows seen.old) definitions.now result }
-    ensures each { IfOk result (λ _. (definition : Hit) → Contains definitions.now definition → HasReferences bounds (graphs_in (graph_rows seen.old)) definition) }
+    ensures reply { result ≢ Err AskFault.NoMemory
+        → IsReplyToAny bounds (graph_rows seen.old) definitions.now result }
+    ensures each { IfOk result (λ _. (definition : Hit) → Contains definitions.now definition
+        → HasReferences bounds (graphs_in (graph_rows seen.old)) definition) }
     ensures same { seen.new ≡ seen.old }
 {
     let known = known_of(rt, alloc, seen, index, gate, definitions, bounds)?;
@@ -142,7 +146,8 @@ fn find_all<R: Threads + Sync, G: Gate + Sync>(
     gate: &G,
 ) -> Result<Known, AllocError>
     requires { IsIndexOfView query.now.index.now query.now.view.now }
-    ensures known { IfOk result (IsKnownOf (graphs_seen query.now.view.now) query.now.definitions.now) }
+    ensures known { IfOk result
+        (IsKnownOf (graphs_seen query.now.view.now) query.now.definitions.now) }
     ensures bounds { IfOk result (λ known. known.bounds ≡ query.now.bounds) }
 {
     let bounds = query.bounds;
@@ -167,8 +172,12 @@ fn links_of_all<R: Threads + Sync, G: Gate + Sync>(
     gate: &G,
 ) -> Result<Links, StitchFault>
     requires { IsIndexOfView query.now.index.now query.now.view.now }
-    ensures found { IfOk result (λ links. AreLinksOf query.now.bounds (graphs_seen query.now.view.now) query.now.definitions.now (references_from 0 (graphs_seen query.now.view.now)) links) }
-    ensures crowded { result ≡ Err StitchFault.Crowded → IsAnyCrowded query.now.bounds (graphs_seen query.now.view.now) }
+    ensures found { IfOk result
+        (λ links. AreLinksOf query.now.bounds
+        (graphs_seen query.now.view.now) query.now.definitions.now
+        (references_from 0 (graphs_seen query.now.view.now)) links) }
+    ensures crowded { result ≡ Err StitchFault.Crowded
+        → IsAnyCrowded query.now.bounds (graphs_seen query.now.view.now) }
 {
     let all = all_references(alloc, query.view)?;
     ask_all(rt, alloc, query, gate, &all)
@@ -182,8 +191,10 @@ fn answer_from(
     definitions: &[Hit],
 ) -> Result<Answer, AskFault>
     requires { IsKnownOf (graphs_seen view.now) definitions.now known.now }
-    ensures reply { result ≢ Err AskFault.NoMemory → IsReplyToAny known.now.bounds (graph_rows view.now) definitions.now result }
-    ensures each { IfOk result (λ _. (definition : Hit) → Contains definitions.now definition → HasReferences known.now.bounds (graphs_in (graph_rows view.now)) definition) }
+    ensures reply { result ≢ Err AskFault.NoMemory
+        → IsReplyToAny known.now.bounds (graph_rows view.now) definitions.now result }
+    ensures each { IfOk result (λ _. (definition : Hit) → Contains definitions.now definition
+        → HasReferences known.now.bounds (graphs_in (graph_rows view.now)) definition) }
 {
     match &known.told {
         Told::Each(links) => answer_by(alloc, view, known.bounds, links, definitions),
@@ -199,9 +210,12 @@ fn answer_by(
     links: &Links,
     definitions: &[Hit],
 ) -> Result<Answer, AskFault>
-    requires { IsTable bounds (graphs_seen view.now) (IsHeld links.now.whole definitions.now) links.now.list.items links.now.limit }
-    ensures reply { result ≢ Err AskFault.NoMemory → IsReplyToAny bounds (graph_rows view.now) definitions.now result }
-    ensures each { IfOk result (λ _. (definition : Hit) → Contains definitions.now definition → HasReferences bounds (graphs_in (graph_rows view.now)) definition) }
+    requires { IsTable bounds (graphs_seen view.now)
+        (IsHeld links.now.whole definitions.now) links.now.list.items links.now.limit }
+    ensures reply { result ≢ Err AskFault.NoMemory
+        → IsReplyToAny bounds (graph_rows view.now) definitions.now result }
+    ensures each { IfOk result (λ _. (definition : Hit) → Contains definitions.now definition
+        → HasReferences bounds (graphs_in (graph_rows view.now)) definition) }
 {
     let rows = rows_from(alloc, view, bounds, links, definitions)?;
     let found = Found {
@@ -220,8 +234,10 @@ fn rows_from(
     links: &Links,
     definitions: &[Hit],
 ) -> Result<Hits, AllocError>
-    requires { IsTable _bounds (graphs_seen _view.now) (IsHeld links.now.whole definitions.now) links.now.list.items links.now.limit }
-    ensures { IfOk result (λ rows. AreRows (IsReferenceOfAny _bounds (graphs_seen _view.now) definitions.now) rows) }
+    requires { IsTable _bounds (graphs_seen _view.now)
+        (IsHeld links.now.whole definitions.now) links.now.list.items links.now.limit }
+    ensures { IfOk result
+        (λ rows. AreRows (IsReferenceOfAny _bounds (graphs_seen _view.now) definitions.now) rows) }
 {
     let rows = rows_of_any(alloc, &links.list, definitions)?;
     Ok(Hits::of(in_order(rows)))

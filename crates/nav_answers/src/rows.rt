@@ -20,7 +20,8 @@ use whole_search::Hit;
 pub fn rows_of(alloc: Global, view: &View, runs: &[EdgePath]) -> Result<Vec<Hit>, AllocError>
     requires { All (HasEdges (graphs_seen view.now)) runs.now }
     ensures rising { IfOk result (λ rows. IsRising rows.items) }
-    ensures exact { IfOk result (λ rows. (hit : Hit) → Contains rows.items hit ↔ Contains (ends_of (graphs_seen view.now) runs.now) hit) }
+    ensures exact { IfOk result (λ rows. (hit : Hit) → Contains rows.items hit
+        ↔ Contains (ends_of (graphs_seen view.now) runs.now) hit) }
 {
     if runs.len() < 2 {
         return ends_alone(alloc, view, runs);
@@ -34,7 +35,8 @@ pub fn rows_of(alloc: Global, view: &View, runs: &[EdgePath]) -> Result<Vec<Hit>
 fn ends_alone(alloc: Global, _view: &View, runs: &[EdgePath]) -> Result<Vec<Hit>, AllocError>
     requires { length runs.now < 2 }
     ensures rising { IfOk result (λ rows. IsRising rows.items) }
-    ensures exact { IfOk result (λ rows. (hit : Hit) → Contains rows.items hit ↔ Contains (ends_of (graphs_seen _view.now) runs.now) hit) }
+    ensures exact { IfOk result (λ rows. (hit : Hit) → Contains rows.items hit
+        ↔ Contains (ends_of (graphs_seen _view.now) runs.now) hit) }
 {
     let mut rows = Vec::new(alloc);
     for run in runs {

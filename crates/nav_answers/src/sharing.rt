@@ -34,8 +34,11 @@ pub fn ask_all<R: Threads + Sync, G: Gate + Sync>(
 ) -> Result<Links, StitchFault>
     requires index { IsIndexOfView query.now.index.now query.now.view.now }
     requires references { All (IsReferenceIn (graphs_seen query.now.view.now)) all.now }
-    ensures found { IfOk result (λ links. AreLinksOf query.now.bounds (graphs_seen query.now.view.now) query.now.definitions.now all.now links) }
-    ensures crowded { result ≡ Err StitchFault.Crowded → IsCrowdedAmong query.now.bounds (graphs_seen query.now.view.now) all.now }
+    ensures found { IfOk result
+        (λ links. AreLinksOf query.now.bounds
+        (graphs_seen query.now.view.now) query.now.definitions.now all.now links) }
+    ensures crowded { result ≡ Err StitchFault.Crowded
+        → IsCrowdedAmong query.now.bounds (graphs_seen query.now.view.now) all.now }
 {
     let mut shares = empty_shares(alloc, thread_count(rt, all.len()))?;
     ask_shares(rt, alloc, query, gate, all, &mut shares);
@@ -77,7 +80,10 @@ fn ask_shares<R: Threads + Sync, G: Gate + Sync>(
     requires references { All (IsReferenceIn (graphs_seen query.now.view.now)) all.now }
     requires some { 0 < length shares.old }
     ensures len { length shares.new ≡ length shares.old }
-    ensures done { (i : ℕ) (d : _) → i < length shares.old → IsDone query.now.bounds (graphs_seen query.now.view.now) query.now.definitions.now all.now (length shares.old) i (slice_index_or shares.new i d) }
+    ensures done { (i : ℕ) (d : _) → i < length shares.old
+        → IsDone query.now.bounds
+        (graphs_seen query.now.view.now) query.now.definitions.now all.now (length shares.old) i
+        (slice_index_or shares.new i d) }
 {
     let step = shares.len();
     thread::for_each_mut(
@@ -100,7 +106,8 @@ fn ask_share<G: Gate>(
     requires index { IsIndexOfView query.now.index.now query.now.view.now }
     requires references { All (IsReferenceIn (graphs_seen query.now.view.now)) all.now }
     requires step { 0 < step }
-    ensures { IsDone query.now.bounds (graphs_seen query.now.view.now) query.now.definitions.now all.now step first result }
+    ensures { IsDone query.now.bounds
+        (graphs_seen query.now.view.now) query.now.definitions.now all.now step first result }
 {
     let mut links = Links::new(alloc, query.room / step);
     for job in 0..all.len() {
@@ -132,10 +139,13 @@ fn ask_into<G: Gate>(
     links: &mut Links,
 ) -> Result<(), StitchFault>
     requires index { IsIndexOfView query.now.index.now query.now.view.now }
-    requires reference { IsTrue (is_reference_of (graphs_seen query.now.view.now) reference.file reference.node) }
+    requires reference { IsTrue
+        (is_reference_of (graphs_seen query.now.view.now) reference.file reference.node) }
     requires among { IsIn reference _all.now }
-    ensures found { OnOk result (AddsLinks query.now.bounds (graphs_seen query.now.view.now) reference links.old links.new) }
-    ensures crowded { result ≡ Err StitchFault.Crowded → IsCrowdedAmong query.now.bounds (graphs_seen query.now.view.now) _all.now }
+    ensures found { OnOk result (AddsLinks query.now.bounds
+        (graphs_seen query.now.view.now) reference links.old links.new) }
+    ensures crowded { result ≡ Err StitchFault.Crowded
+        → IsCrowdedAmong query.now.bounds (graphs_seen query.now.view.now) _all.now }
 {
     let found = ask(alloc, query, gate, job, reference)?;
     links.add(hit_of(reference), &found)?;
@@ -150,9 +160,15 @@ fn together(
     shares: &[Share],
 ) -> Result<Links, StitchFault>
     requires some { 0 < length shares.now }
-    requires done { (i : ℕ) (d : _) → i < length shares.now → IsDone query.now.bounds (graphs_seen query.now.view.now) query.now.definitions.now all.now (length shares.now) i (slice_index_or shares.now i d) }
-    ensures found { IfOk result (λ links. AreLinksOf query.now.bounds (graphs_seen query.now.view.now) query.now.definitions.now all.now links) }
-    ensures crowded { result ≡ Err StitchFault.Crowded → IsCrowdedAmong query.now.bounds (graphs_seen query.now.view.now) all.now }
+    requires done { (i : ℕ) (d : _) → i < length shares.now
+        → IsDone query.now.bounds
+        (graphs_seen query.now.view.now) query.now.definitions.now all.now (length shares.now) i
+        (slice_index_or shares.now i d) }
+    ensures found { IfOk result
+        (λ links. AreLinksOf query.now.bounds
+        (graphs_seen query.now.view.now) query.now.definitions.now all.now links) }
+    ensures crowded { result ≡ Err StitchFault.Crowded
+        → IsCrowdedAmong query.now.bounds (graphs_seen query.now.view.now) all.now }
 {
     let count = shares.len();
     let mut links = Links::new(alloc, query.room);
@@ -172,10 +188,16 @@ fn add_share(
     share: &Share,
     links: &mut Links,
 ) -> Result<(), StitchFault>
-    requires done { IsDone _query.now.bounds (graphs_seen _query.now.view.now) _query.now.definitions.now _all.now _count _place share.now }
-    requires before { AreFound _query.now.bounds (graphs_seen _query.now.view.now) _query.now.definitions.now (IsInShares _all.now _count _place) links.old }
-    ensures added { OnOk result (AreFound _query.now.bounds (graphs_seen _query.now.view.now) _query.now.definitions.now (IsInShares _all.now _count (_place + 1)) links.new) }
-    ensures crowded { result ≡ Err StitchFault.Crowded → IsCrowdedAmong _query.now.bounds (graphs_seen _query.now.view.now) _all.now }
+    requires done { IsDone _query.now.bounds
+        (graphs_seen _query.now.view.now) _query.now.definitions.now _all.now _count _place share.now }
+    requires before { AreFound _query.now.bounds
+        (graphs_seen _query.now.view.now) _query.now.definitions.now
+        (IsInShares _all.now _count _place) links.old }
+    ensures added { OnOk result (AreFound _query.now.bounds
+        (graphs_seen _query.now.view.now) _query.now.definitions.now
+        (IsInShares _all.now _count (_place + 1)) links.new) }
+    ensures crowded { result ≡ Err StitchFault.Crowded
+        → IsCrowdedAmong _query.now.bounds (graphs_seen _query.now.view.now) _all.now }
 {
     match share {
         Ok(found) => Ok(links.append(found)?),

@@ -150,7 +150,8 @@ fn path_at<'a>(
     k: usize,
 ) -> Option<(u32, StoredPath<'a>)>
     requires { IsIndexOfView index.now view.now }
-    ensures { result ≡ slice_get (rules_from (files_of view.now) start (option_copied first.entry)) k }
+    ensures { result
+        ≡ slice_get (rules_from (files_of view.now) start (option_copied first.entry)) k }
 {
     match start {
         Start::Before(node) => path_inside(view, start, node, first, k),
@@ -169,7 +170,8 @@ fn path_inside<'a>(
 ) -> Option<(u32, StoredPath<'a>)>
     requires alone { is_shared start ≡ false }
     requires file { node.file ≡ file_of start }
-    ensures { result ≡ slice_get (rules_from (files_of view.now) start (option_copied first.entry)) k }
+    ensures { result
+        ≡ slice_get (rules_from (files_of view.now) start (option_copied first.entry)) k }
 {
     are_sources(view);
     let file = file_in(view, node.file as usize)?;
@@ -203,7 +205,8 @@ fn path_of_root<'a>(
     k: usize,
 ) -> Option<(u32, StoredPath<'a>)>
     requires { IsIndexOfView index.now view.now }
-    ensures { result ≡ slice_get (rules_from (files_of view.now) root (option_copied first.entry)) k }
+    ensures { result
+        ≡ slice_get (rules_from (files_of view.now) root (option_copied first.entry)) k }
 {
     let mut left = k;
     let mut at = index.look(first, view);
@@ -220,7 +223,8 @@ fn path_of_root<'a>(
 /// Before the first path that is offered at the start.
 fn offers_from(view: &View, index: &RootIndex, start: Start, symbols: &SymbolStack) -> ViewOffers
     requires { IsIndexOfView index.now view.now }
-    ensures { IsPermutation (rules_offered (files_of view.now) start symbols.now) (offers_left (seen_of view.now index.now) symbols.now result) }
+    ensures { IsPermutation (rules_offered (files_of view.now) start symbols.now)
+        (offers_left (seen_of view.now index.now) symbols.now result) }
 {
     match start {
         Start::Before(node) => ViewOffers::Inside(offers_inside(view, start, node, symbols)),
@@ -235,7 +239,8 @@ fn offers_from(view: &View, index: &RootIndex, start: Start, symbols: &SymbolSta
 fn offers_inside(view: &View, start: Start, node: NodeAt, _symbols: &SymbolStack) -> ListOffers
     requires alone { is_shared start ≡ false }
     requires file { node.file ≡ file_of start }
-    ensures { offers_here (files_of view.now) _symbols.now result ≡ rules_offered (files_of view.now) start _symbols.now }
+    ensures { offers_here (files_of view.now) _symbols.now result
+        ≡ rules_offered (files_of view.now) start _symbols.now }
 {
     are_sources(view);
     ListOffers {
@@ -271,7 +276,9 @@ fn next_inside<'a>(
     symbols: &SymbolStack,
     at: ListOffers,
 ) -> Option<(u32, StoredPath<'a>, ListOffers)>
-    ensures { MatchOption result (offers_here (files_of view.now) symbols.now at ≡ []) (λ found. offers_here (files_of view.now) symbols.now at ≡ (found.0, found.1) ∷ offers_here (files_of view.now) symbols.now found.2) }
+    ensures { MatchOption result (offers_here (files_of view.now) symbols.now at ≡ [])
+        (λ found. offers_here (files_of view.now) symbols.now at
+        ≡ (found.0, found.1) ∷ offers_here (files_of view.now) symbols.now found.2) }
 {
     let file = file_in(view, at.file)?;
     match file.next_offer(symbols, at.inside) {

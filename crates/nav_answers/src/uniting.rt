@@ -36,7 +36,8 @@ pub fn references_of_any<R: Threads + Sync, G: Gate + Sync>(
     bounds: Bounds,
 ) -> Result<Rows, AskFault>
     requires { IsIndexOfView index.now seen.old }
-    ensures reply { result ≢ Err AskFault.NoMemory → IsReferencesOfAnyReply bounds (graph_rows seen.old) definitions.now result }
+    ensures reply { result ≢ Err AskFault.NoMemory
+        → IsReferencesOfAnyReply bounds (graph_rows seen.old) definitions.now result }
     ensures same { seen.new ≡ seen.old }
 {
     let hits = definitions_named(alloc, seen.view(), definitions)?;

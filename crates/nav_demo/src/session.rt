@@ -53,7 +53,8 @@ pub(crate) fn commit_all<R: Threads + Sync, B: Commits<R>, L: Ledger>(
     steps: &mut Steps<L>,
 ) -> Result<(), AllocError>
     requires view { HasItsView desk.old (B.log board.old) (B.pin_at board.old) }
-    ensures goes_on { GoesOn (moment (B.seat board.old) (B.log board.old) (B.pin_at board.old) desk.old)
+    ensures goes_on { GoesOn (moment (B.seat board.old) (B.log board.old)
+        (B.pin_at board.old) desk.old)
         (moment (B.seat board.new) (B.log board.new) (B.pin_at board.new) desk.new) }
     ensures answered { OnOk result (Answered (committing files start)
         (moment (B.seat board.old) (B.log board.old) (B.pin_at board.old) desk.old)
@@ -79,7 +80,8 @@ pub(crate) fn query_all<R: Threads + Sync, B: Commits<R>, L: Ledger>(
     steps: &mut Steps<L>,
 ) -> Result<Totals, AllocError>
     requires view { HasItsView desk.old (B.log board.old) (B.pin_at board.old) }
-    ensures goes_on { GoesOn (moment (B.seat board.old) (B.log board.old) (B.pin_at board.old) desk.old)
+    ensures goes_on { GoesOn (moment (B.seat board.old) (B.log board.old)
+        (B.pin_at board.old) desk.old)
         (moment (B.seat board.new) (B.log board.new) (B.pin_at board.new) desk.new) }
     ensures answered { IfOk result (λ totals. Totalled files (queries files)
         (moment (B.seat board.old) (B.log board.old) (B.pin_at board.old) desk.old)

@@ -41,7 +41,8 @@ pub fn demo<R: Threads + Sync, B: Commits<R>, K: Sink, L: Ledger>(
     // Which status comes, and when.
     ensures statuses { IsTrue (ends_demo result) }
     ensures sink_failed { result ≡ 4 → HasRisen (K.faults sink.old) (K.faults sink.new) }
-    ensures unhindered { ¬ HasRisen (K.faults sink.old) (K.faults sink.new) → IsTrue (ends_demo_unhindered result) }
+    ensures unhindered { ¬ HasRisen (K.faults sink.old) (K.faults sink.new)
+        → IsTrue (ends_demo_unhindered result) }
 
     // The count of faults doesn't fall.
     ensures sink_count { K.faults sink.old ≤ K.faults sink.new }
@@ -65,7 +66,8 @@ fn show<R: Threads + Sync, B: Commits<R>, K: Sink, L: Ledger>(
     ensures shown { Shows (B.seat board.old) (B.log board.old) (B.log board.new)
         (K.held sink.old) (K.held sink.new) files start result }
     ensures seat { B.seat board.new ≡ B.seat board.old }
-    ensures sink_failed { result ≡ Err halt.SinkFailed → HasRisen (K.faults sink.old) (K.faults sink.new) }
+    ensures sink_failed { result ≡ Err halt.SinkFailed
+        → HasRisen (K.faults sink.old) (K.faults sink.new) }
     ensures not_source { result ≡ Err halt.SourceFailed → ⊥ }
     ensures not_long { result ≡ Err halt.LongLine → ⊥ }
     ensures sink_count { K.faults sink.old ≤ K.faults sink.new }
@@ -85,7 +87,9 @@ fn summary<R: Threads + Sync, B: Commits<R>, L: Ledger>(
 ) -> Result<Vec<u8>, AllocError>
     ensures begins { Begins (B.log board.old) (B.log board.new) }
     ensures seat { B.seat board.new ≡ B.seat board.old }
-    ensures summary { IfOk result (λ text. IsSummary (B.seat board.old) (length (B.log board.old)) (B.log board.new) files start text.items) }
+    ensures summary { IfOk result
+        (λ text. IsSummary (B.seat board.old) (length (B.log board.old))
+        (B.log board.new) files start text.items) }
 {
     let mut desk = Desk::new(alloc);
     commit_all(rt, alloc, &mut desk, board, files, start, steps)?;

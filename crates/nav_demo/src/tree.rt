@@ -55,7 +55,8 @@ impl Tree {
     /// The edit that puts the next file. The one error is want of memory.
     pub(crate) fn file(&mut self, alloc: Global) -> Result<FileEdit, AllocError>
         requires more { self.old.next < self.old.files }
-        ensures edit { IfOk result (λ edit. edit ≡ made_file self.old.files self.old.start self.old.next) }
+        ensures edit { IfOk result
+            (λ edit. edit ≡ made_file self.old.files self.old.start self.old.next) }
         ensures files { self.new.files ≡ self.old.files }
         ensures start { self.new.start ≡ self.old.start }
         ensures next { OnOk result (self.new.next ≡ self.old.next + 1) }
@@ -78,7 +79,8 @@ impl Tree {
     /// The edits that put the next so many files. The one error is want of memory.
     fn edits(&mut self, alloc: Global, count: u32) -> Result<Edits, AllocError>
         requires more { self.old.next + count ≤ self.old.files }
-        ensures edits { IfOk result (λ edits. edits ≡ made_files self.old.files self.old.start self.old.next count) }
+        ensures edits { IfOk result (λ edits. edits
+            ≡ made_files self.old.files self.old.start self.old.next count) }
         ensures files { self.new.files ≡ self.old.files }
         ensures start { self.new.start ≡ self.old.start }
         ensures next { OnOk result (self.new.next ≡ self.old.next + count) }
@@ -100,7 +102,8 @@ impl Tree {
     /// The request that commits the next files: 64, or the rest. The one error is want of memory.
     pub(crate) fn commit(&mut self, alloc: Global) -> Result<Request, AllocError>
         requires there { self.old.next ≤ self.old.files }
-        ensures request { (n : ℕ) → self.old.next ≡ 64 * n → IfOk result (λ request. request ≡ made_commit self.old.files self.old.start n) }
+        ensures request { (n : ℕ) → self.old.next ≡ 64 * n
+            → IfOk result (λ request. request ≡ made_commit self.old.files self.old.start n) }
         ensures files { self.new.files ≡ self.old.files }
         ensures start { self.new.start ≡ self.old.start }
         ensures next { OnOk result (self.new.next ≡ min (self.old.next + 64) self.old.files) }

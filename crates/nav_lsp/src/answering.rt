@@ -44,12 +44,14 @@ pub fn answer_message<R: Threads + Sync, B: Commits<R>, G: Gate + Sync, L: Ledge
     steps: &mut Steps<L>,
 ) -> Result<Option<Reply>, AllocError>
     requires ready { IsReady editor.old (B.log board.old) (B.pin_at board.old) }
-    ensures goes_on { GoesOn (B.seat board.old) (B.seat board.new) (B.log board.old) (B.log board.new) }
+    ensures goes_on { GoesOn (B.seat board.old) (B.seat board.new) (B.log board.old)
+        (B.log board.new) }
     ensures reply { IfOk result (λ reply. IsReplied (B.seat board.old) (B.log board.new)
         (editing_at (length (B.log board.old)) (B.pin_at board.old) editor.old) body reply
         (editing_at (length (B.log board.new)) (B.pin_at board.new) editor.new)) }
     ensures ready { IfOk result (λ _. IsReady editor.new (B.log board.new) (B.pin_at board.new)) }
-    ensures none { OnErr result (own (B.seat board.old) (B.log board.new) ≡ own (B.seat board.old) (B.log board.old)) }
+    ensures none { OnErr result (own (B.seat board.old) (B.log board.new)
+        ≡ own (B.seat board.old) (B.log board.old)) }
 {
     match body {
         Body::NotJson => Ok(Some(refused(None, Refusal::ParseError))),
@@ -73,12 +75,14 @@ fn answer_asked<R: Threads + Sync, B: Commits<R>, G: Gate + Sync, L: Ledger>(
     steps: &mut Steps<L>,
 ) -> Result<Option<Reply>, AllocError>
     requires ready { IsReady editor.old (B.log board.old) (B.pin_at board.old) }
-    ensures goes_on { GoesOn (B.seat board.old) (B.seat board.new) (B.log board.old) (B.log board.new) }
+    ensures goes_on { GoesOn (B.seat board.old) (B.seat board.new) (B.log board.old)
+        (B.log board.new) }
     ensures reply { IfOk result (λ reply. IsMessage id (B.seat board.old) (B.log board.new)
         (editing_at (length (B.log board.old)) (B.pin_at board.old) editor.old) asks reply
         (editing_at (length (B.log board.new)) (B.pin_at board.new) editor.new)) }
     ensures ready { IfOk result (λ _. IsReady editor.new (B.log board.new) (B.pin_at board.new)) }
-    ensures none { OnErr result (own (B.seat board.old) (B.log board.new) ≡ own (B.seat board.old) (B.log board.old)) }
+    ensures none { OnErr result (own (B.seat board.old) (B.log board.new)
+        ≡ own (B.seat board.old) (B.log board.old)) }
 {
     match id {
         Some(id) => Ok(Some(request(rt, alloc, editor, board, gate, id, asks)?)),
@@ -136,7 +140,8 @@ fn carried_out<R: Threads + Sync, B: Pins, G: Gate + Sync>(
     requires ready { IsReady editor.old (B.log board.now) (B.pin_at board.now) }
     requires not_refused { refusal_of editor.old.phase asks ≡ None }
     ensures outcome { IfOk result (λ outcome. (id : Name) → IsCarriedOut (B.log board.now)
-        (editing_at (length (B.log board.now)) (B.pin_at board.now) editor.old) id asks (replied id outcome)
+        (editing_at (length (B.log board.now)) (B.pin_at board.now) editor.old) id asks
+        (replied id outcome)
         (editing_at (length (B.log board.now)) (B.pin_at board.now) editor.new)) }
     ensures ready { IfOk result (λ _. IsReady editor.new (B.log board.now) (B.pin_at board.now)) }
 {
@@ -167,8 +172,10 @@ fn carried_out<R: Threads + Sync, B: Pins, G: Gate + Sync>(
 /// Begins the session over the project at the URI. The one error is want of memory.
 fn begin(alloc: Global, editor: &mut Editor, uri: &Option<Text>) -> Result<Outcome, AllocError>
     ensures outcome { IfOk result (λ outcome. outcome ≡ Outcome.Capabilities) }
-    ensures begun { IfOk result (λ _. (editor.new.phase ≡ Phase.Open) × (editor.new.root.items ≡ root_of uri.now)) }
-    ensures rest { (editor.new.texts ≡ editor.old.texts) × (editor.new.desk ≡ editor.old.desk) × (editor.new.view ≡ editor.old.view) }
+    ensures begun { IfOk result (λ _. (editor.new.phase ≡ Phase.Open)
+        × (editor.new.root.items ≡ root_of uri.now)) }
+    ensures rest { (editor.new.texts ≡ editor.old.texts) × (editor.new.desk ≡ editor.old.desk)
+        × (editor.new.view ≡ editor.old.view) }
 {
     let root = match uri {
         Some(uri) => root_of(alloc, Some(uri.as_str()))?,
@@ -188,8 +195,10 @@ fn definition<B: Pins>(
     at: Position,
 ) -> Result<Outcome, AllocError>
     requires ready { IsReady editor.old (B.log board.now) (B.pin_at board.now) }
-    ensures outcome { IfOk result (IsPlaced editor.old.root.items (texts_in editor.old.texts) uri.now at
-        (TellsDefinitions (files_of (B.log board.now) (B.pin_at board.now)) editor.old.root.items (texts_in editor.old.texts))) }
+    ensures outcome { IfOk result (IsPlaced editor.old.root.items
+        (texts_in editor.old.texts) uri.now at
+        (TellsDefinitions (files_of (B.log board.now) (B.pin_at board.now)) editor.old.root.items
+        (texts_in editor.old.texts))) }
     ensures pinned { B.pin_at board.now ≤ length (B.log board.now) }
     ensures holds { HoldsAll editor.old editor.new }
     ensures ready { IfOk result (λ _. IsReady editor.new (B.log board.now) (B.pin_at board.now)) }
@@ -223,8 +232,10 @@ fn reference<R: Threads + Sync, B: Pins, G: Gate + Sync>(
     declaration: bool,
 ) -> Result<Outcome, AllocError>
     requires ready { IsReady editor.old (B.log board.now) (B.pin_at board.now) }
-    ensures outcome { IfOk result (IsPlaced editor.old.root.items (texts_in editor.old.texts) uri.now at
-        (TellsReferences (files_of (B.log board.now) (B.pin_at board.now)) editor.old.root.items (texts_in editor.old.texts) declaration)) }
+    ensures outcome { IfOk result (IsPlaced editor.old.root.items
+        (texts_in editor.old.texts) uri.now at
+        (TellsReferences (files_of (B.log board.now) (B.pin_at board.now)) editor.old.root.items
+        (texts_in editor.old.texts) declaration)) }
     ensures pinned { B.pin_at board.now ≤ length (B.log board.now) }
     ensures holds { HoldsAll editor.old editor.new }
     ensures ready { IfOk result (λ _. IsReady editor.new (B.log board.now) (B.pin_at board.now)) }
@@ -261,12 +272,15 @@ fn notification<R: Threads + Sync, B: Commits<R>, G: Gate + Sync, L: Ledger>(
     steps: &mut Steps<L>,
 ) -> Result<(), AllocError>
     requires ready { IsReady editor.old (B.log board.old) (B.pin_at board.old) }
-    ensures goes_on { GoesOn (B.seat board.old) (B.seat board.new) (B.log board.old) (B.log board.new) }
-    ensures noted { IfOk result (λ _. IsNotified editor.old.phase (B.seat board.old) (B.log board.new)
+    ensures goes_on { GoesOn (B.seat board.old) (B.seat board.new) (B.log board.old)
+        (B.log board.new) }
+    ensures noted { IfOk result
+        (λ _. IsNotified editor.old.phase (B.seat board.old) (B.log board.new)
         (editing_at (length (B.log board.old)) (B.pin_at board.old) editor.old) asks None
         (editing_at (length (B.log board.new)) (B.pin_at board.new) editor.new)) }
     ensures ready { IfOk result (λ _. IsReady editor.new (B.log board.new) (B.pin_at board.new)) }
-    ensures none { OnErr result (own (B.seat board.old) (B.log board.new) ≡ own (B.seat board.old) (B.log board.old)) }
+    ensures none { OnErr result (own (B.seat board.old) (B.log board.new)
+        ≡ own (B.seat board.old) (B.log board.old)) }
 {
     match editor.phase {
         Phase::Open => noted(rt, alloc, editor, board, gate, asks, steps),
@@ -285,12 +299,14 @@ fn noted<R: Threads + Sync, B: Commits<R>, G: Gate + Sync, L: Ledger>(
     steps: &mut Steps<L>,
 ) -> Result<(), AllocError>
     requires ready { IsReady editor.old (B.log board.old) (B.pin_at board.old) }
-    ensures goes_on { GoesOn (B.seat board.old) (B.seat board.new) (B.log board.old) (B.log board.new) }
+    ensures goes_on { GoesOn (B.seat board.old) (B.seat board.new) (B.log board.old)
+        (B.log board.new) }
     ensures noted { IfOk result (λ _. IsNoted (B.seat board.old) (B.log board.new)
         (editing_at (length (B.log board.old)) (B.pin_at board.old) editor.old) asks None
         (editing_at (length (B.log board.new)) (B.pin_at board.new) editor.new)) }
     ensures ready { IfOk result (λ _. IsReady editor.new (B.log board.new) (B.pin_at board.new)) }
-    ensures none { OnErr result (own (B.seat board.old) (B.log board.new) ≡ own (B.seat board.old) (B.log board.old)) }
+    ensures none { OnErr result (own (B.seat board.old) (B.log board.new)
+        ≡ own (B.seat board.old) (B.log board.old)) }
 {
     match asks {
         Asks::DidOpen { uri, text } => put(

@@ -35,12 +35,15 @@ fn commit<R: Threads + Sync, B: Commits<R>, G: Gate + Sync, L: Ledger>(
 ) -> Result<bool, AllocError>
     requires user { desk.old.user ≡ Some operator }
     requires view { HasItsView desk.old (B.log board.old) (B.pin_at board.old) }
-    ensures goes_on { GoesOn (B.seat board.old) (B.seat board.new) (B.log board.old) (B.log board.new) }
+    ensures goes_on { GoesOn (B.seat board.old) (B.seat board.new) (B.log board.old)
+        (B.log board.new) }
     ensures committed { IfOk result (CommitsOne (B.seat board.old) (B.log board.new)
-        (length (B.log board.old)) (B.pin_at board.old) (length (B.log board.new)) (B.pin_at board.new) edit) }
+        (length (B.log board.old)) (B.pin_at board.old) (length (B.log board.new))
+        (B.pin_at board.new) edit) }
     ensures user { IfOk result (λ _. desk.new.user ≡ Some operator) }
     ensures view { IfOk result (λ _. HasItsView desk.new (B.log board.new) (B.pin_at board.new)) }
-    ensures none { OnErr result (own (B.seat board.old) (B.log board.new) ≡ own (B.seat board.old) (B.log board.old)) }
+    ensures none { OnErr result (own (B.seat board.old) (B.log board.new)
+        ≡ own (B.seat board.old) (B.log board.old)) }
 {
     let mut edits = Vec::with_capacity(alloc, 1)?;
     edits.push(edit)?;
@@ -75,12 +78,14 @@ pub(crate) fn put<R: Threads + Sync, B: Commits<R>, G: Gate + Sync, L: Ledger>(
     steps: &mut Steps<L>,
 ) -> Result<(), AllocError>
     requires ready { IsReady editor.old (B.log board.old) (B.pin_at board.old) }
-    ensures goes_on { GoesOn (B.seat board.old) (B.seat board.new) (B.log board.old) (B.log board.new) }
+    ensures goes_on { GoesOn (B.seat board.old) (B.seat board.new) (B.log board.old)
+        (B.log board.new) }
     ensures put { IfOk result (λ _. IsPut (B.seat board.old) (B.log board.new)
         (editing_at (length (B.log board.old)) (B.pin_at board.old) editor.old) uri.now text None
         (editing_at (length (B.log board.new)) (B.pin_at board.new) editor.new)) }
     ensures ready { IfOk result (λ _. IsReady editor.new (B.log board.new) (B.pin_at board.new)) }
-    ensures none { OnErr result (own (B.seat board.old) (B.log board.new) ≡ own (B.seat board.old) (B.log board.old)) }
+    ensures none { OnErr result (own (B.seat board.old) (B.log board.new)
+        ≡ own (B.seat board.old) (B.log board.old)) }
 {
     let Some(path) = path_under(alloc, &editor.root, uri)? else {
         return Ok(());
@@ -100,7 +105,8 @@ pub(crate) fn put<R: Threads + Sync, B: Commits<R>, G: Gate + Sync, L: Ledger>(
 /// Puts the text at the path, where it was accepted.
 fn put_if(accepted: bool, texts: &mut OpenTexts, path: &str, text: OpenText)
     requires room { has_room texts.old path.now ≡ true }
-    ensures { AreSame (if accepted then with_text path.now (Some text) (texts_in texts.old) else texts_in texts.old) (texts_in texts.new) }
+    ensures { AreSame (if accepted then with_text path.now (Some text)
+        (texts_in texts.old) else texts_in texts.old) (texts_in texts.new) }
 {
     if accepted {
         texts.put(path, text);
@@ -119,12 +125,14 @@ pub(crate) fn change<R: Threads + Sync, B: Commits<R>, G: Gate + Sync, L: Ledger
     steps: &mut Steps<L>,
 ) -> Result<(), AllocError>
     requires ready { IsReady editor.old (B.log board.old) (B.pin_at board.old) }
-    ensures goes_on { GoesOn (B.seat board.old) (B.seat board.new) (B.log board.old) (B.log board.new) }
+    ensures goes_on { GoesOn (B.seat board.old) (B.seat board.new) (B.log board.old)
+        (B.log board.new) }
     ensures changed { IfOk result (λ _. IsChanged (B.seat board.old) (B.log board.new)
         (editing_at (length (B.log board.old)) (B.pin_at board.old) editor.old) uri.now text None
         (editing_at (length (B.log board.new)) (B.pin_at board.new) editor.new)) }
     ensures ready { IfOk result (λ _. IsReady editor.new (B.log board.new) (B.pin_at board.new)) }
-    ensures none { OnErr result (own (B.seat board.old) (B.log board.new) ≡ own (B.seat board.old) (B.log board.old)) }
+    ensures none { OnErr result (own (B.seat board.old) (B.log board.new)
+        ≡ own (B.seat board.old) (B.log board.old)) }
 {
     match text {
         Some(text) => put(rt, alloc, editor, board, gate, uri, text, steps),
@@ -144,12 +152,14 @@ pub(crate) fn close<R: Threads + Sync, B: Commits<R>, G: Gate + Sync, L: Ledger>
     steps: &mut Steps<L>,
 ) -> Result<(), AllocError>
     requires ready { IsReady editor.old (B.log board.old) (B.pin_at board.old) }
-    ensures goes_on { GoesOn (B.seat board.old) (B.seat board.new) (B.log board.old) (B.log board.new) }
+    ensures goes_on { GoesOn (B.seat board.old) (B.seat board.new) (B.log board.old)
+        (B.log board.new) }
     ensures closed { IfOk result (λ _. IsClosed (B.seat board.old) (B.log board.new)
         (editing_at (length (B.log board.old)) (B.pin_at board.old) editor.old) uri.now None
         (editing_at (length (B.log board.new)) (B.pin_at board.new) editor.new)) }
     ensures ready { IfOk result (λ _. IsReady editor.new (B.log board.new) (B.pin_at board.new)) }
-    ensures none { OnErr result (own (B.seat board.old) (B.log board.new) ≡ own (B.seat board.old) (B.log board.old)) }
+    ensures none { OnErr result (own (B.seat board.old) (B.log board.new)
+        ≡ own (B.seat board.old) (B.log board.old)) }
 {
     let Some(path) = path_under(alloc, &editor.root, uri)? else {
         return Ok(());
@@ -165,7 +175,8 @@ pub(crate) fn close<R: Threads + Sync, B: Commits<R>, G: Gate + Sync, L: Ledger>
 
 /// Takes the text at the path away, where its removal was accepted.
 fn remove_if(accepted: bool, texts: &mut OpenTexts, path: &str)
-    ensures { AreSame (if accepted then with_text path.now None (texts_in texts.old) else texts_in texts.old) (texts_in texts.new) }
+    ensures { AreSame (if accepted then with_text path.now None
+        (texts_in texts.old) else texts_in texts.old) (texts_in texts.new) }
 {
     if accepted {
         texts.remove(path);

@@ -116,8 +116,11 @@ fn name_operator<R: Threads + Sync, B: Commits<R>, G: Gate + Sync, L: Ledger>(
     steps: &mut Steps<L>,
 ) -> Result<(), AllocError>
     requires fresh { IsFresh editor.old }
-    ensures stays { HasNoEntry (B.seat board.old) (B.seat board.new) (B.log board.old) (B.log board.new) }
-    ensures begins { IfOk result (λ _. BeginsToEdit (B.seat board.old) (B.log board.old) (B.log board.new) (B.pin_at board.new) editor.new) }
+    ensures stays { HasNoEntry (B.seat board.old) (B.seat board.new) (B.log board.old)
+        (B.log board.new) }
+    ensures begins { IfOk result
+        (λ _. BeginsToEdit (B.seat board.old) (B.log board.old) (B.log board.new)
+        (B.pin_at board.new) editor.new) }
 {
     let hello = Request::Hello {
         user: UserText::of(alloc, OPERATOR)?,
@@ -142,8 +145,10 @@ fn serve_messages<R: Threads + Sync, B: Commits<R>, S: Source, K: Sink, G: Gate 
         (S.left source.old) (S.left source.new) (K.held sink.old) (K.held sink.new)
         (status_at_end (is_shut editor.new.phase) result) }
     ensures seat { B.seat board.new ≡ B.seat board.old }
-    ensures source_failed { result ≡ Err halt.SourceFailed → HasRisen (S.faults source.old) (S.faults source.new) }
-    ensures sink_failed { result ≡ Err halt.SinkFailed → HasRisen (K.faults sink.old) (K.faults sink.new) }
+    ensures source_failed { result ≡ Err halt.SourceFailed
+        → HasRisen (S.faults source.old) (S.faults source.new) }
+    ensures sink_failed { result ≡ Err halt.SinkFailed
+        → HasRisen (K.faults sink.old) (K.faults sink.new) }
     ensures source_count { S.faults source.old ≤ S.faults source.new }
     ensures sink_count { K.faults sink.old ≤ K.faults sink.new }
 {
@@ -187,11 +192,14 @@ fn answer_next<R: Threads + Sync, B: Commits<R>, S: Source, G: Gate + Sync, L: L
 ) -> Result<Option<Step>, Halt>
     requires ready { IsReady editor.old (B.log board.old) (B.pin_at board.old) }
     ensures turn { TakesTurn
-        (spot (B.seat board.old) (B.log board.old) (B.pin_at board.old) editor.old reader.old (S.left source.old))
-        (spot (B.seat board.new) (B.log board.new) (B.pin_at board.new) editor.new reader.new (S.left source.new))
+        (spot (B.seat board.old) (B.log board.old) (B.pin_at board.old) editor.old reader.old
+        (S.left source.old))
+        (spot (B.seat board.new) (B.log board.new) (B.pin_at board.new) editor.new reader.new
+        (S.left source.new))
         result }
     ensures count { S.faults source.old ≤ S.faults source.new }
-    ensures cause { result ≡ Err halt.SourceFailed → HasRisen (S.faults source.old) (S.faults source.new) }
+    ensures cause { result ≡ Err halt.SourceFailed
+        → HasRisen (S.faults source.old) (S.faults source.new) }
 {
     let Some(body) = next_message(alloc, reader, source)? else {
         return Ok(None);

@@ -55,7 +55,8 @@ impl<B: Commits<R>, K: Link, L: Ledger, R: Threads + Sync> Future
         ensures same_reference { self.new.polled.ghost_name ≡ self.old.polled.ghost_name }
         ensures stands { KeepsStarts (seen B.seat B.log B.pin_at K.left K.held self.old.polled.now)
             (seen B.seat B.log B.pin_at K.left K.held self.new.polled.now) }
-        ensures goes_on { GoesOn (seen B.seat B.log B.pin_at K.left K.held self.old.polled.now).now.session
+        ensures goes_on { GoesOn
+            (seen B.seat B.log B.pin_at K.left K.held self.old.polled.now).now.session
             (seen B.seat B.log B.pin_at K.left K.held self.new.polled.now).now.session }
 
         // When it is pending, when it is ready, and with which status.
@@ -65,14 +66,18 @@ impl<B: Commits<R>, K: Link, L: Ledger, R: Threads + Sync> Future
         ensures ready { IfReady result (λ status. self.new.polled.now.ended ≡ Some status) }
         ensures over { IfSome self.old.polled.now.ended (λ status. (result ≡ Poll.Ready status)
             × (self.new.polled.now ≡ self.old.polled.now)) }
-        ensures statuses { IfReady result (λ status. self.old.polled.now.ended ≡ None → IsTrue (ends_session status)) }
+        ensures statuses { IfReady result (λ status. self.old.polled.now.ended ≡ None
+            → IsTrue (ends_session status)) }
         ensures read_failed { result ≡ Poll.Ready 3 → self.old.polled.now.ended ≡ None
-            → HasRisen (K.counts self.old.polled.now.link).read_faults (K.counts self.new.polled.now.link).read_faults }
+            → HasRisen (K.counts self.old.polled.now.link).read_faults
+            (K.counts self.new.polled.now.link).read_faults }
         ensures write_failed { result ≡ Poll.Ready 4 → self.old.polled.now.ended ≡ None
-            → HasRisen (K.counts self.old.polled.now.link).write_faults (K.counts self.new.polled.now.link).write_faults }
+            → HasRisen (K.counts self.old.polled.now.link).write_faults
+            (K.counts self.new.polled.now.link).write_faults }
 
         // No count of the link falls.
-        ensures counts { NoneFell (K.counts self.old.polled.now.link) (K.counts self.new.polled.now.link) }
+        ensures counts { NoneFell (K.counts self.old.polled.now.link)
+            (K.counts self.new.polled.now.link) }
     {
         match go_on(self.rt, self.gate, self.polled, self.steps) {
             Poll::Ready(status) => Poll::Ready(status),

@@ -50,8 +50,10 @@ pub fn go_on<R: Threads + Sync, B: Commits<R>, K: Link, G: Gate + Sync, L: Ledge
         × WaitsForLink (K.counts polled.old.link) (K.counts polled.new.link)
         (seen B.seat B.log B.pin_at K.left K.held polled.new)) }
     ensures ready { IfReady result (λ status. polled.new.ended ≡ Some status) }
-    ensures over { IfSome polled.old.ended (λ status. (result ≡ Poll.Ready status) × (polled.new ≡ polled.old)) }
-    ensures statuses { IfReady result (λ status. polled.old.ended ≡ None → IsTrue (ends_session status)) }
+    ensures over { IfSome polled.old.ended (λ status. (result ≡ Poll.Ready status)
+        × (polled.new ≡ polled.old)) }
+    ensures statuses { IfReady result (λ status. polled.old.ended ≡ None
+        → IsTrue (ends_session status)) }
     ensures read_failed { result ≡ Poll.Ready 3 → polled.old.ended ≡ None
         → HasRisen (K.counts polled.old.link).read_faults (K.counts polled.new.link).read_faults }
     ensures write_failed { result ≡ Poll.Ready 4 → polled.old.ended ≡ None
@@ -80,7 +82,8 @@ fn step<R: Threads + Sync, B: Commits<R>, K: Link, G: Gate + Sync, L: Ledger>(
     ensures goes_on { GoesOn (seen B.seat B.log B.pin_at K.left K.held polled.old).now.session
         (seen B.seat B.log B.pin_at K.left K.held polled.new).now.session }
     ensures counts { NoneFell (K.counts polled.old.link) (K.counts polled.new.link) }
-    ensures on { result ≡ Went.On → polled.new.ended ≡ None → work_left polled.new < work_left polled.old }
+    ensures on { result ≡ Went.On → polled.new.ended ≡ None
+        → work_left polled.new < work_left polled.old }
     ensures waits { result ≡ Went.Waits → (polled.new.ended ≡ None)
         × WaitsForLink (K.counts polled.old.link) (K.counts polled.new.link)
         (seen B.seat B.log B.pin_at K.left K.held polled.new) }
@@ -111,10 +114,12 @@ fn turn<R: Threads + Sync, B: Commits<R>, K: Link, G: Gate + Sync, L: Ledger>(
     ensures goes_on { GoesOn (seen B.seat B.log B.pin_at K.left K.held polled.old).now.session
         (seen B.seat B.log B.pin_at K.left K.held polled.new).now.session }
     ensures counts { NoneFell (K.counts polled.old.link) (K.counts polled.new.link) }
-    ensures on { result ≡ Went.On → polled.new.ended ≡ None → work_left polled.new < work_left polled.old }
+    ensures on { result ≡ Went.On → polled.new.ended ≡ None
+        → work_left polled.new < work_left polled.old }
     ensures waits { result ≡ Went.Waits → (polled.new.ended ≡ None)
         × HasRisen (K.counts polled.old.link).read_waits (K.counts polled.new.link).read_waits }
-    ensures caught_up { result ≡ Went.Waits → HaveCaughtUp (seen B.seat B.log B.pin_at K.left K.held polled.new) }
+    ensures caught_up { result ≡ Went.Waits
+        → HaveCaughtUp (seen B.seat B.log B.pin_at K.left K.held polled.new) }
     ensures statuses { IfSome polled.new.ended (λ status. IsTrue (ends_session status)) }
     ensures read_failed { polled.new.ended ≡ Some 3
         → HasRisen (K.counts polled.old.link).read_faults (K.counts polled.new.link).read_faults }
@@ -172,10 +177,12 @@ fn look_on<B: Pins, K: Link>(polled: &mut Polled<B, K>) -> Went
     ensures goes_on { GoesOn (seen B.seat B.log B.pin_at K.left K.held polled.old).now.session
         (seen B.seat B.log B.pin_at K.left K.held polled.new).now.session }
     ensures counts { NoneFell (K.counts polled.old.link) (K.counts polled.new.link) }
-    ensures on { result ≡ Went.On → polled.new.ended ≡ None → work_left polled.new < work_left polled.old }
+    ensures on { result ≡ Went.On → polled.new.ended ≡ None
+        → work_left polled.new < work_left polled.old }
     ensures waits { result ≡ Went.Waits → (polled.new.ended ≡ None)
         × HasRisen (K.counts polled.old.link).read_waits (K.counts polled.new.link).read_waits }
-    ensures caught_up { result ≡ Went.Waits → HaveCaughtUp (seen B.seat B.log B.pin_at K.left K.held polled.new) }
+    ensures caught_up { result ≡ Went.Waits
+        → HaveCaughtUp (seen B.seat B.log B.pin_at K.left K.held polled.new) }
     ensures statuses { IfSome polled.new.ended (λ status. IsTrue (ends_session status)) }
     ensures read_failed { polled.new.ended ≡ Some 3
         → HasRisen (K.counts polled.old.link).read_faults (K.counts polled.new.link).read_faults }
@@ -201,10 +208,12 @@ fn wait_for_line<B: Pins, K: Link>(polled: &mut Polled<B, K>) -> Went
     ensures same_board { polled.new.board ≡ polled.old.board }
     ensures same_desk { polled.new.desk ≡ polled.old.desk }
     ensures counts { NoneFell (K.counts polled.old.link) (K.counts polled.new.link) }
-    ensures on { result ≡ Went.On → polled.new.ended ≡ None → work_left polled.new < work_left polled.old }
+    ensures on { result ≡ Went.On → polled.new.ended ≡ None
+        → work_left polled.new < work_left polled.old }
     ensures waits { result ≡ Went.Waits → (polled.new.ended ≡ None)
         × HasRisen (K.counts polled.old.link).read_waits (K.counts polled.new.link).read_waits }
-    ensures caught_up { result ≡ Went.Waits → HaveCaughtUp (seen B.seat B.log B.pin_at K.left K.held polled.new) }
+    ensures caught_up { result ≡ Went.Waits
+        → HaveCaughtUp (seen B.seat B.log B.pin_at K.left K.held polled.new) }
     ensures statuses { IfSome polled.new.ended (λ status. IsTrue (ends_session status)) }
     ensures read_failed { polled.new.ended ≡ Some 3
         → HasRisen (K.counts polled.old.link).read_faults (K.counts polled.new.link).read_faults }
@@ -230,10 +239,12 @@ fn pull<B: Pins, K: Link>(polled: &mut Polled<B, K>) -> Went
     ensures same_board { polled.new.board ≡ polled.old.board }
     ensures same_desk { polled.new.desk ≡ polled.old.desk }
     ensures counts { NoneFell (K.counts polled.old.link) (K.counts polled.new.link) }
-    ensures on { result ≡ Went.On → polled.new.ended ≡ None → work_left polled.new < work_left polled.old }
+    ensures on { result ≡ Went.On → polled.new.ended ≡ None
+        → work_left polled.new < work_left polled.old }
     ensures waits { result ≡ Went.Waits → (polled.new.ended ≡ None)
         × HasRisen (K.counts polled.old.link).read_waits (K.counts polled.new.link).read_waits }
-    ensures caught_up { result ≡ Went.Waits → HaveCaughtUp (seen B.seat B.log B.pin_at K.left K.held polled.new) }
+    ensures caught_up { result ≡ Went.Waits
+        → HaveCaughtUp (seen B.seat B.log B.pin_at K.left K.held polled.new) }
     ensures statuses { IfSome polled.new.ended (λ status. IsTrue (ends_session status)) }
     ensures read_failed { polled.new.ended ≡ Some 3
         → HasRisen (K.counts polled.old.link).read_faults (K.counts polled.new.link).read_faults }

@@ -32,7 +32,8 @@ pub struct Counts {
 impl Counts {
     /// Those of a link at its beginning.
     pub fn none() -> Counts
-        ensures { result ≡ record { read_faults = 0; write_faults = 0; read_waits = 0; write_waits = 0 } }
+        ensures { result
+            ≡ record { read_faults = 0; write_faults = 0; read_waits = 0; write_waits = 0 } }
     {
         Counts {
             read_faults: 0,
@@ -95,7 +96,8 @@ pub trait Link {
     /// did. With either, and with `NoMemory`, no byte moved.
     fn pull(&mut self, buf: &mut [u8]) -> Result<Moved, LinkFault>
         ensures bound { moved result ≤ length buf.new }
-        ensures bytes { left self.old ≡ prepend_known (take (moved result) buf.new) (left self.new) }
+        ensures bytes { left self.old
+            ≡ prepend_known (take (moved result) buf.new) (left self.new) }
         ensures end { result ≡ Ok (Moved.Bytes 0) → 0 < length buf.old → IsAtEnd (left self.new) }
         ensures held { held self.new ≡ held self.old }
 
@@ -111,7 +113,8 @@ pub trait Link {
     /// did, as where none of some bytes is taken. With either, and with `NoMemory`, no byte moved.
     fn push(&mut self, bytes: &[u8]) -> Result<Moved, LinkFault>
         ensures bound { moved result ≤ length bytes.now }
-        ensures bytes { held self.new ≡ append_known (held self.old) (take (moved result) bytes.now) }
+        ensures bytes { held self.new
+            ≡ append_known (held self.old) (take (moved result) bytes.now) }
         ensures some { result ≡ Ok (Moved.Bytes 0) → length bytes.now ≡ 0 }
         ensures left { left self.new ≡ left self.old }
 

@@ -144,12 +144,16 @@ impl Link for MemLink {
 
     fn pull(&mut self, buf: &mut [u8]) -> Result<Moved, LinkFault>
         ensures bound { moved result ≤ length buf.new }
-        ensures bytes { Some self.old.left ≡ prepend_known (take (moved result) buf.new) (Some self.new.left) }
-        ensures end { result ≡ Ok (Moved.Bytes 0) → 0 < length buf.old → IsAtEnd (Some self.new.left) }
+        ensures bytes { Some self.old.left
+            ≡ prepend_known (take (moved result) buf.new) (Some self.new.left) }
+        ensures end { result ≡ Ok (Moved.Bytes 0) → 0 < length buf.old
+            → IsAtEnd (Some self.new.left) }
         ensures held { Some self.new.held ≡ Some self.old.held }
         ensures counts { NoneFell self.old.counts self.new.counts }
-        ensures waits { result ≡ Ok Moved.NotYet → HasRisen self.old.counts.read_waits self.new.counts.read_waits }
-        ensures cause { result ≡ Err LinkFault.Failed → HasRisen self.old.counts.read_faults self.new.counts.read_faults }
+        ensures waits { result ≡ Ok Moved.NotYet
+            → HasRisen self.old.counts.read_waits self.new.counts.read_waits }
+        ensures cause { result ≡ Err LinkFault.Failed
+            → HasRisen self.old.counts.read_faults self.new.counts.read_faults }
 
         // It fails and waits as it was told to, gives as much as it may, and takes no memory.
         ensures failing { (result ≡ Err LinkFault.Failed) ↔ IsTrue (fails_next self.old.pulls) }
@@ -178,17 +182,21 @@ impl Link for MemLink {
 
     fn push(&mut self, bytes: &[u8]) -> Result<Moved, LinkFault>
         ensures bound { moved result ≤ length bytes.now }
-        ensures bytes { Some self.new.held ≡ append_known (Some self.old.held) (take (moved result) bytes.now) }
+        ensures bytes { Some self.new.held
+            ≡ append_known (Some self.old.held) (take (moved result) bytes.now) }
         ensures some { result ≡ Ok (Moved.Bytes 0) → length bytes.now ≡ 0 }
         ensures left { Some self.new.left ≡ Some self.old.left }
         ensures counts { NoneFell self.old.counts self.new.counts }
-        ensures waits { result ≡ Ok Moved.NotYet → HasRisen self.old.counts.write_waits self.new.counts.write_waits }
-        ensures cause { result ≡ Err LinkFault.Failed → HasRisen self.old.counts.write_faults self.new.counts.write_faults }
+        ensures waits { result ≡ Ok Moved.NotYet
+            → HasRisen self.old.counts.write_waits self.new.counts.write_waits }
+        ensures cause { result ≡ Err LinkFault.Failed
+            → HasRisen self.old.counts.write_faults self.new.counts.write_faults }
 
         // It fails and waits as it was told to, and takes as much as it may.
         ensures failing { (result ≡ Err LinkFault.Failed) ↔ IsTrue (fails_next self.old.pushes) }
         ensures waiting { (result ≡ Ok Moved.NotYet) ↔ IsTrue (waits_next self.old.pushes) }
-        ensures size { (n : ℕ) → result ≡ Ok (Moved.Bytes n) → n ≡ min self.old.piece (length bytes.now) }
+        ensures size { (n : ℕ) → result ≡ Ok (Moved.Bytes n)
+            → n ≡ min self.old.piece (length bytes.now) }
         ensures after { self.new ≡ after_push bytes.now result self.old }
     {
         let fails = self.pushes.fails();

@@ -53,7 +53,8 @@ impl<B: Pins, K> Model for Polled<B, K> {
       ended = p.ended;
     } };
 
-    ghost invariant = { λ p. (p.sent ≤ vec_len p.out) × (p.in_front ≡ length p.reader.front) × (p.at_end ≡ p.reader.ended)
+    ghost invariant = { λ p. (p.sent ≤ vec_len p.out) × (p.in_front ≡ length p.reader.front)
+        × (p.at_end ≡ p.reader.ended)
         × HasItsView p.desk (B.log p.board) (B.pin_at p.board) };
 }
 

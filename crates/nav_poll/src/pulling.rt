@@ -29,9 +29,12 @@ pub(crate) fn pull_more<K: Link>(
     requires told { at_end.old ≡ reader.old.ended }
     ensures in_front { in_front.new ≡ length reader.new.front }
     ensures told { at_end.new ≡ reader.new.ended }
-    ensures on { result ≡ Ok Went.On → Pulls reader.old reader.new (K.left link.old) (K.left link.new) }
-    ensures same { result ≡ Ok Went.Waits → (reader.new ≡ reader.old) × (K.left link.new ≡ K.left link.old) }
-    ensures lost { OnErr result ((pulled : List ℕ) × (K.left link.old ≡ prepend_known pulled (K.left link.new))) }
+    ensures on { result ≡ Ok Went.On
+        → Pulls reader.old reader.new (K.left link.old) (K.left link.new) }
+    ensures same { result ≡ Ok Went.Waits → (reader.new ≡ reader.old)
+        × (K.left link.new ≡ K.left link.old) }
+    ensures lost { OnErr result ((pulled : List ℕ)
+        × (K.left link.old ≡ prepend_known pulled (K.left link.new))) }
     ensures failed { result ≡ Err halt.SourceFailed → K.left link.new ≡ K.left link.old }
     ensures held { K.held link.new ≡ K.held link.old }
     ensures counts { NoneFell (K.counts link.old) (K.counts link.new) }

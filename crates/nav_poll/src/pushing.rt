@@ -13,7 +13,8 @@ use nav_session::Halt;
 pub(crate) fn push_rest<K: Link>(out: &[u8], sent: &mut usize, link: &mut K) -> Result<Went, Halt>
     requires { sent.old ≤ length out.now }
     ensures within { sent.new ≤ length out.now }
-    ensures pushes { Pushes (drop sent.old out.now) (drop sent.new out.now) (K.held link.old) (K.held link.new) }
+    ensures pushes { Pushes (drop sent.old out.now) (drop sent.new out.now) (K.held link.old)
+        (K.held link.new) }
     ensures left { K.left link.new ≡ K.left link.old }
     ensures counts { NoneFell (K.counts link.old) (K.counts link.new) }
     ensures on { result ≡ Ok Went.On → sent.new ≡ length out.now }

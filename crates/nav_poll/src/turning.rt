@@ -28,10 +28,13 @@ pub(crate) fn take_line<R: Threads + Sync, B: Commits<R>, G: Gate + Sync, L: Led
     requires in_front { in_front.old ≡ length reader.old.front }
     requires view { HasItsView desk.old (B.log board.old) (B.pin_at board.old) }
     ensures takes { (left : Option (List ℕ)) → TakesLine
-        (spot (moment (B.seat board.old) (B.log board.old) (B.pin_at board.old) desk.old) reader.old left)
-        (spot (moment (B.seat board.new) (B.log board.new) (B.pin_at board.new) desk.new) reader.new left)
+        (spot (moment (B.seat board.old) (B.log board.old)
+        (B.pin_at board.old) desk.old) reader.old left)
+        (spot (moment (B.seat board.new) (B.log board.new)
+        (B.pin_at board.new) desk.new) reader.new left)
         result }
-    ensures goes_on { GoesOn (moment (B.seat board.old) (B.log board.old) (B.pin_at board.old) desk.old)
+    ensures goes_on { GoesOn (moment (B.seat board.old) (B.log board.old)
+        (B.pin_at board.old) desk.old)
         (moment (B.seat board.new) (B.log board.new) (B.pin_at board.new) desk.new) }
     ensures view { IfOk result (λ _. HasItsView desk.new (B.log board.new) (B.pin_at board.new)) }
     ensures ended { reader.new.ended ≡ reader.old.ended }

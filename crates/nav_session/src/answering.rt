@@ -52,17 +52,20 @@ pub fn answer_line<R: Threads + Sync, B: Commits<R>, G: Gate + Sync, L: Ledger>(
     requires view { HasItsView desk.old (B.log board.old) (B.pin_at board.old) }
 
     // The reply, and the log.
-    ensures goes_on { GoesOn (moment (B.seat board.old) (B.log board.old) (B.pin_at board.old) desk.old)
+    ensures goes_on { GoesOn (moment (B.seat board.old) (B.log board.old)
+        (B.pin_at board.old) desk.old)
         (moment (B.seat board.new) (B.log board.new) (B.pin_at board.new) desk.new) }
     ensures reply { IfOk result (λ step. Answers line.now
         (moment (B.seat board.old) (B.log board.old) (B.pin_at board.old) desk.old)
         (moment (B.seat board.new) (B.log board.new) (B.pin_at board.new) desk.new) step.reply) }
     ensures quit { IfOk result (λ step. step.quit ≡ is_quit line.now) }
-    ensures none { OnErr result (IsLeftOff (moment (B.seat board.old) (B.log board.old) (B.pin_at board.old) desk.old)
+    ensures none { OnErr result (IsLeftOff (moment (B.seat board.old) (B.log board.old)
+        (B.pin_at board.old) desk.old)
         (moment (B.seat board.new) (B.log board.new) (B.pin_at board.new) desk.new)) }
 
     // The steps.
-    ensures steps { (total : ℕ) → AreDocWeights (missing (docs_of desk.old.store) (docs_of_line line.now)) total
+    ensures steps { (total : ℕ)
+        → AreDocWeights (missing (docs_of desk.old.store) (docs_of_line line.now)) total
         → steps.new ≤ steps.old + total }
     ensures no_steps { OnOk result (docs_of_line line.now ≡ [] → steps.new ≡ steps.old) }
 {
@@ -76,7 +79,8 @@ pub fn answer_line<R: Threads + Sync, B: Commits<R>, G: Gate + Sync, L: Ledger>(
 
 /// What a line that is no request is answered with.
 fn refuse(alloc: Global, fault: ProtoFault) -> Result<Step, AllocError>
-    ensures reply { IfOk result (λ step. step.reply ≡ with_newline (reply_text (fault_reply fault))) }
+    ensures reply { IfOk result (λ step. step.reply
+        ≡ with_newline (reply_text (fault_reply fault))) }
     ensures quit { IfOk result (λ step. step.quit ≡ false) }
 {
     Ok(Step {
@@ -98,15 +102,18 @@ fn answer_request<R: Threads + Sync, B: Commits<R>, G: Gate + Sync, L: Ledger>(
     steps: &mut Steps<L>,
 ) -> Result<Step, AllocError>
     requires view { HasItsView desk.old (B.log board.old) (B.pin_at board.old) }
-    ensures goes_on { GoesOn (moment (B.seat board.old) (B.log board.old) (B.pin_at board.old) desk.old)
+    ensures goes_on { GoesOn (moment (B.seat board.old) (B.log board.old)
+        (B.pin_at board.old) desk.old)
         (moment (B.seat board.new) (B.log board.new) (B.pin_at board.new) desk.new) }
     ensures reply { IfOk result (λ step. AnswersWith request
         (moment (B.seat board.old) (B.log board.old) (B.pin_at board.old) desk.old)
         (moment (B.seat board.new) (B.log board.new) (B.pin_at board.new) desk.new) step.reply) }
     ensures quit { IfOk result (λ step. step.quit ≡ quits request) }
-    ensures none { OnErr result (IsLeftOff (moment (B.seat board.old) (B.log board.old) (B.pin_at board.old) desk.old)
+    ensures none { OnErr result (IsLeftOff (moment (B.seat board.old) (B.log board.old)
+        (B.pin_at board.old) desk.old)
         (moment (B.seat board.new) (B.log board.new) (B.pin_at board.new) desk.new)) }
-    ensures steps { (total : ℕ) → AreDocWeights (missing (docs_of desk.old.store) (docs_of_request request)) total
+    ensures steps { (total : ℕ)
+        → AreDocWeights (missing (docs_of desk.old.store) (docs_of_request request)) total
         → steps.new ≤ steps.old + total }
     ensures no_steps { OnOk result (docs_of_request request ≡ [] → steps.new ≡ steps.old) }
 {
@@ -139,15 +146,19 @@ pub fn reply_to<R: Threads + Sync, B: Commits<R>, G: Gate + Sync, L: Ledger>(
     steps: &mut Steps<L>,
 ) -> Result<Reply, AllocError>
     requires view { HasItsView desk.old (B.log board.old) (B.pin_at board.old) }
-    ensures goes_on { GoesOn (moment (B.seat board.old) (B.log board.old) (B.pin_at board.old) desk.old)
+    ensures goes_on { GoesOn (moment (B.seat board.old) (B.log board.old)
+        (B.pin_at board.old) desk.old)
         (moment (B.seat board.new) (B.log board.new) (B.pin_at board.new) desk.new) }
-    ensures reply { IfOk result (Replies (λ log before reply after. IsAnswered (B.seat board.old) log before request reply after)
+    ensures reply { IfOk result (Replies
+        (λ log before reply after. IsAnswered (B.seat board.old) log before request reply after)
         (moment (B.seat board.old) (B.log board.old) (B.pin_at board.old) desk.old)
         (moment (B.seat board.new) (B.log board.new) (B.pin_at board.new) desk.new)) }
-    ensures none { OnErr result (IsLeftOff (moment (B.seat board.old) (B.log board.old) (B.pin_at board.old) desk.old)
+    ensures none { OnErr result (IsLeftOff (moment (B.seat board.old) (B.log board.old)
+        (B.pin_at board.old) desk.old)
         (moment (B.seat board.new) (B.log board.new) (B.pin_at board.new) desk.new)) }
     ensures store { IfOk result (λ reply. KeepsDocs request reply desk.old.store desk.new.store) }
-    ensures steps { (total : ℕ) → AreDocWeights (missing (docs_of desk.old.store) (docs_of_request request)) total
+    ensures steps { (total : ℕ)
+        → AreDocWeights (missing (docs_of desk.old.store) (docs_of_request request)) total
         → steps.new ≤ steps.old + total }
     ensures no_steps { OnOk result (docs_of_request request ≡ [] → steps.new ≡ steps.old) }
 {

@@ -37,17 +37,21 @@ pub fn commit<R: Threads + Sync, B: Commits<R>, G: Gate + Sync, L: Ledger>(
     steps: &mut Steps<L>,
 ) -> Result<Reply, AllocError>
     requires view { HasItsView desk.old (B.log board.old) (B.pin_at board.old) }
-    ensures goes_on { GoesOn (moment (B.seat board.old) (B.log board.old) (B.pin_at board.old) desk.old)
+    ensures goes_on { GoesOn (moment (B.seat board.old) (B.log board.old)
+        (B.pin_at board.old) desk.old)
         (moment (B.seat board.new) (B.log board.new) (B.pin_at board.new) desk.new) }
     ensures reply { IfOk result (Replies (λ log before reply after. IfOperator before reply after
         (λ asker. IsCommitted (B.seat board.old) log before asker base edits reply after))
         (moment (B.seat board.old) (B.log board.old) (B.pin_at board.old) desk.old)
         (moment (B.seat board.new) (B.log board.new) (B.pin_at board.new) desk.new)) }
-    ensures none { OnErr result (IsLeftOff (moment (B.seat board.old) (B.log board.old) (B.pin_at board.old) desk.old)
+    ensures none { OnErr result (IsLeftOff (moment (B.seat board.old) (B.log board.old)
+        (B.pin_at board.old) desk.old)
         (moment (B.seat board.new) (B.log board.new) (B.pin_at board.new) desk.new)) }
     ensures store { IfOk result (λ reply. MatchBool (is_indexed reply)
-        (AddsDocs (docs_in edits) reply desk.old.store desk.new.store) (desk.new.store ≡ desk.old.store)) }
-    ensures steps { (total : ℕ) → AreDocWeights (missing (docs_of desk.old.store) (docs_in edits)) total
+        (AddsDocs (docs_in edits) reply desk.old.store desk.new.store) (desk.new.store
+        ≡ desk.old.store)) }
+    ensures steps { (total : ℕ)
+        → AreDocWeights (missing (docs_of desk.old.store) (docs_in edits)) total
         → steps.new ≤ steps.old + total }
     ensures no_steps { OnOk result (docs_in edits ≡ [] → steps.new ≡ steps.old) }
 {
@@ -69,14 +73,17 @@ fn commit_allowed<R: Threads + Sync, B: Commits<R>, G: Gate + Sync, L: Ledger>(
     edits: Edits,
     steps: &mut Steps<L>,
 ) -> Result<Reply, AllocError>
-    ensures goes_on { GoesOn (moment (B.seat board.old) (B.log board.old) (B.pin_at board.old) desk.old)
+    ensures goes_on { GoesOn (moment (B.seat board.old) (B.log board.old)
+        (B.pin_at board.old) desk.old)
         (moment (B.seat board.new) (B.log board.new) (B.pin_at board.new) desk.new) }
     ensures committed { IfOk result (CommitsAs base edits
         (moment (B.seat board.old) (B.log board.old) (B.pin_at board.old) desk.old)
         (moment (B.seat board.new) (B.log board.new) (B.pin_at board.new) desk.new)) }
-    ensures none { OnErr result (own (B.seat board.old) (B.log board.new) ≡ own (B.seat board.old) (B.log board.old)) }
+    ensures none { OnErr result (own (B.seat board.old) (B.log board.new)
+        ≡ own (B.seat board.old) (B.log board.old)) }
     ensures no_less { OnErr result (AddsOnly desk.old.store desk.new.store) }
-    ensures steps { (total : ℕ) → AreDocWeights (missing (docs_of desk.old.store) (docs_in edits)) total
+    ensures steps { (total : ℕ)
+        → AreDocWeights (missing (docs_of desk.old.store) (docs_in edits)) total
         → steps.new ≤ steps.old + total }
     ensures no_steps { OnOk result (docs_in edits ≡ [] → steps.new ≡ steps.old) }
 {
@@ -108,12 +115,14 @@ fn put_in<R, B: Commits<R>>(
     drafts: Vec<Draft>,
     files: Vec<SharedPaths>,
 ) -> Result<Reply, AllocError>
-    ensures goes_on { GoesOn (moment (B.seat board.old) (B.log board.old) (B.pin_at board.old) desk.old)
+    ensures goes_on { GoesOn (moment (B.seat board.old) (B.log board.old)
+        (B.pin_at board.old) desk.old)
         (moment (B.seat board.new) (B.log board.new) (B.pin_at board.new) desk.new) }
     ensures put { IfOk result (PutsIn base (filled drafts.items files.items)
         (moment (B.seat board.old) (B.log board.old) (B.pin_at board.old) desk.old)
         (moment (B.seat board.new) (B.log board.new) (B.pin_at board.new) desk.new)) }
-    ensures none { OnErr result (own (B.seat board.old) (B.log board.new) ≡ own (B.seat board.old) (B.log board.old)) }
+    ensures none { OnErr result (own (B.seat board.old) (B.log board.new)
+        ≡ own (B.seat board.old) (B.log board.old)) }
     ensures same { OnErr result (desk.new.store ≡ desk.old.store) }
 {
     let edits = edits_from(alloc, drafts, files)?;

@@ -101,9 +101,12 @@ impl Desk {
         alloc: Global,
         version: &Version,
     ) -> Result<AskedView, AllocError>
-        requires { IfSome self.old.view (λ rows. IfSome self.old.user (λ user. rows ≡ granted_rows user version.now.content)) }
-        ensures view { IfOk result (λ view. IfSome self.old.user (λ user. view ≡ granted_rows user version.now.content)) }
-        ensures rest { self.new ≡ record { store = self.old.store; user = self.old.user; view = None } }
+        requires { IfSome self.old.view (λ rows. IfSome self.old.user
+            (λ user. rows ≡ granted_rows user version.now.content)) }
+        ensures view { IfOk result (λ view. IfSome self.old.user
+            (λ user. view ≡ granted_rows user version.now.content)) }
+        ensures rest { self.new
+            ≡ record { store = self.old.store; user = self.old.user; view = None } }
     {
         match self.view.take() {
             Some(view) => Ok(view),
@@ -113,7 +116,8 @@ impl Desk {
 
     /// Keeps the view.
     pub(crate) fn keep_view(&mut self, view: AskedView)
-        ensures { self.new ≡ record { store = self.old.store; user = self.old.user; view = Some view } }
+        ensures { self.new
+            ≡ record { store = self.old.store; user = self.old.user; view = Some view } }
     {
         self.view = Some(view);
     }
@@ -131,14 +135,16 @@ impl Desk {
     /// Lets go of the documents that are kept, but for such as cost nothing. What the pinned version holds of them stays
     /// there, so a session that commits one text at a time keeps no more than its version. It takes no memory.
     pub fn let_documents_go(&mut self)
-        ensures { self.new ≡ record { store = swept 0 self.old.store; user = self.old.user; view = self.old.view } }
+        ensures { self.new
+            ≡ record { store = swept 0 self.old.store; user = self.old.user; view = self.old.view } }
     {
         self.store.sweep(0);
     }
 
     /// Drops the oldest documents until all cost at most `MAX_COST`, where the reply accepts a commit. It takes no memory.
     pub(crate) fn sweep_after(&mut self, reply: &Reply)
-        ensures { self.new ≡ record { store = if is_accepted reply.now then swept max_cost self.old.store else self.old.store; user = self.old.user; view = self.old.view } }
+        ensures { self.new
+            ≡ record { store = if is_accepted reply.now then swept max_cost self.old.store else self.old.store; user = self.old.user; view = self.old.view } }
     {
         if let Reply::Version(_) = reply {
             self.store.sweep(MAX_COST);

@@ -20,12 +20,15 @@ pub fn rule<R, B: Commits<R>>(
     edit: Edit,
 ) -> Result<Reply, AllocError>
     requires view { HasItsView desk.old (B.log board.old) (B.pin_at board.old) }
-    ensures goes_on { GoesOn (moment (B.seat board.old) (B.log board.old) (B.pin_at board.old) desk.old)
+    ensures goes_on { GoesOn (moment (B.seat board.old) (B.log board.old)
+        (B.pin_at board.old) desk.old)
         (moment (B.seat board.new) (B.log board.new) (B.pin_at board.new) desk.new) }
-    ensures reply { IfOk result (Replies (λ log before reply after. IsRuled (B.seat board.old) log before edit reply after)
+    ensures reply { IfOk result (Replies
+        (λ log before reply after. IsRuled (B.seat board.old) log before edit reply after)
         (moment (B.seat board.old) (B.log board.old) (B.pin_at board.old) desk.old)
         (moment (B.seat board.new) (B.log board.new) (B.pin_at board.new) desk.new)) }
-    ensures none { OnErr result (IsLeftOff (moment (B.seat board.old) (B.log board.old) (B.pin_at board.old) desk.old)
+    ensures none { OnErr result (IsLeftOff (moment (B.seat board.old) (B.log board.old)
+        (B.pin_at board.old) desk.old)
         (moment (B.seat board.new) (B.log board.new) (B.pin_at board.new) desk.new)) }
     ensures store { desk.new.store ≡ desk.old.store }
 {
@@ -46,15 +49,19 @@ pub fn judge<R, B: Commits<R>>(
     base: Option<u32>,
     edits: &[Edit],
 ) -> Result<Reply, AllocError>
-    ensures goes_on { GoesOn (moment (B.seat board.old) (B.log board.old) (B.pin_at board.old) desk.old)
+    ensures goes_on { GoesOn (moment (B.seat board.old) (B.log board.old)
+        (B.pin_at board.old) desk.old)
         (moment (B.seat board.new) (B.log board.new) (B.pin_at board.new) desk.new) }
     ensures judged { IfOk result (λ reply. (user : List ℕ) → desk.old.user ≡ Some user
-        → IsJudged (B.seat board.old) (B.log board.new) (length (B.log board.old)) (asker_of (B.pin_at board.old) user)
-        base edits.now reply (session_at (length (B.log board.new)) (B.pin_at board.new) desk.new.user)) }
+        → IsJudged (B.seat board.old) (B.log board.new) (length (B.log board.old))
+        (asker_of (B.pin_at board.old) user)
+        base edits.now reply (session_at (length (B.log board.new))
+        (B.pin_at board.new) desk.new.user)) }
     ensures no_entry { IfOk result (λ reply. is_accepted reply ≡ false
         → own (B.seat board.old) (B.log board.new) ≡ own (B.seat board.old) (B.log board.old)) }
     ensures indexed { IfOk result (λ reply. is_indexed reply ≡ true) }
-    ensures none { OnErr result (own (B.seat board.old) (B.log board.new) ≡ own (B.seat board.old) (B.log board.old)) }
+    ensures none { OnErr result (own (B.seat board.old) (B.log board.new)
+        ≡ own (B.seat board.old) (B.log board.old)) }
     ensures desk { desk.new ≡ record { store = desk.old.store; user = desk.old.user; view = None } }
 {
     desk.forget_view();

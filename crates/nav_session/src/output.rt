@@ -21,11 +21,14 @@ pub fn reply_bytes(alloc: Global, reply: &Reply) -> Result<Vec<u8>, Halt>
 
 /// Writes the text and a newline at once. After a stop the sink holds what it held and a prefix of them.
 pub fn write_line<K: Sink>(sink: &mut K, text: Vec<u8>) -> Result<(), Halt>
-    ensures ok { OnOk result (K.held sink.new ≡ append_known (K.held sink.old) (with_newline text.items)) }
-    ensures err { OnErr result (HoldsPrefix (K.held sink.old) (with_newline text.items) (K.held sink.new)) }
+    ensures ok { OnOk result (K.held sink.new
+        ≡ append_known (K.held sink.old) (with_newline text.items)) }
+    ensures err { OnErr result (HoldsPrefix (K.held sink.old) (with_newline text.items)
+        (K.held sink.new)) }
 
     ensures count { K.faults sink.old ≤ K.faults sink.new }
-    ensures cause { result ≡ Err halt.SinkFailed → HasRisen (K.faults sink.old) (K.faults sink.new) }
+    ensures cause { result ≡ Err halt.SinkFailed
+        → HasRisen (K.faults sink.old) (K.faults sink.new) }
     ensures not_source { result ≡ Err halt.SourceFailed → ⊥ }
     ensures not_long { result ≡ Err halt.LongLine → ⊥ }
 {
@@ -43,7 +46,8 @@ pub(crate) fn write_reply<K: Sink>(sink: &mut K, reply: &ReplyText) -> Result<()
     ensures err { OnErr result (HoldsPrefix (K.held sink.old) reply.now (K.held sink.new)) }
 
     ensures count { K.faults sink.old ≤ K.faults sink.new }
-    ensures cause { result ≡ Err halt.SinkFailed → HasRisen (K.faults sink.old) (K.faults sink.new) }
+    ensures cause { result ≡ Err halt.SinkFailed
+        → HasRisen (K.faults sink.old) (K.faults sink.new) }
     ensures not_source { result ≡ Err halt.SourceFailed → ⊥ }
     ensures not_long { result ≡ Err halt.LongLine → ⊥ }
 {
@@ -56,7 +60,8 @@ fn write_bytes<K: Sink>(sink: &mut K, bytes: &[u8]) -> Result<(), Halt>
     ensures err { OnErr result (HoldsPrefix (K.held sink.old) bytes.now (K.held sink.new)) }
 
     ensures count { K.faults sink.old ≤ K.faults sink.new }
-    ensures cause { result ≡ Err halt.SinkFailed → HasRisen (K.faults sink.old) (K.faults sink.new) }
+    ensures cause { result ≡ Err halt.SinkFailed
+        → HasRisen (K.faults sink.old) (K.faults sink.new) }
     ensures not_source { result ≡ Err halt.SourceFailed → ⊥ }
     ensures not_long { result ≡ Err halt.LongLine → ⊥ }
 {

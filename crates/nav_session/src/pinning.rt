@@ -11,9 +11,12 @@ use version_tree::UserText;
 
 /// The reply to `hello`: the user is named, and the newest version is pinned. It takes no memory.
 pub fn hello<B: Pins>(desk: &mut Desk, board: &mut B, user: UserText) -> Reply
-    ensures goes_on { GoesOn (moment (B.seat board.old) (B.log board.old) (B.pin_at board.old) desk.old)
+    ensures goes_on { GoesOn (moment (B.seat board.old) (B.log board.old)
+        (B.pin_at board.old) desk.old)
         (moment (B.seat board.new) (B.log board.new) (B.pin_at board.new) desk.new) }
-    ensures reply { Replies (λ log before reply after. sessions.Pins (B.seat board.old) log before.seen user reply after)
+    ensures reply { Replies
+        (λ log before reply after. sessions.Pins
+        (B.seat board.old) log before.seen user reply after)
         (moment (B.seat board.old) (B.log board.old) (B.pin_at board.old) desk.old)
         (moment (B.seat board.new) (B.log board.new) (B.pin_at board.new) desk.new) result }
     ensures store { desk.new.store ≡ desk.old.store }
@@ -26,7 +29,8 @@ pub fn hello<B: Pins>(desk: &mut Desk, board: &mut B, user: UserText) -> Reply
 #[tactic(auto, using(crate::proofs::Asked::named_by, crate::proofs::Asked::unnamed))]
 pub fn pin<B: Pins>(desk: &mut Desk, board: &mut B) -> Reply
     requires view { HasItsView desk.old (B.log board.old) (B.pin_at board.old) }
-    ensures goes_on { GoesOn (moment (B.seat board.old) (B.log board.old) (B.pin_at board.old) desk.old)
+    ensures goes_on { GoesOn (moment (B.seat board.old) (B.log board.old)
+        (B.pin_at board.old) desk.old)
         (moment (B.seat board.new) (B.log board.new) (B.pin_at board.new) desk.new) }
     ensures reply { Replies (λ log before reply after. IfNamed before reply after
         (λ asker. sessions.Pins (B.seat board.old) log before.seen asker.user reply after))
@@ -44,12 +48,14 @@ pub fn pin<B: Pins>(desk: &mut Desk, board: &mut B) -> Reply
 /// Pins the newest version; the reply tells its number.
 #[tactic(auto, using(crate::proofs::Seen::pinned_newest))]
 fn pinned_anew<B: Pins>(desk: &mut Desk, board: &mut B) -> Reply
-    ensures goes_on { GoesOn (moment (B.seat board.old) (B.log board.old) (B.pin_at board.old) desk.old)
+    ensures goes_on { GoesOn (moment (B.seat board.old) (B.log board.old)
+        (B.pin_at board.old) desk.old)
         (moment (B.seat board.new) (B.log board.new) (B.pin_at board.new) desk.new) }
     ensures pins { (user : List ℕ) → desk.old.user ≡ Some user
         → sessions.Pins (B.seat board.old) (B.log board.new) (length (B.log board.old)) user result
         (session_at (length (B.log board.new)) (B.pin_at board.new) desk.new.user) }
-    ensures no_entry { own (B.seat board.old) (B.log board.new) ≡ own (B.seat board.old) (B.log board.old) }
+    ensures no_entry { own (B.seat board.old) (B.log board.new)
+        ≡ own (B.seat board.old) (B.log board.old) }
     ensures desk { desk.new ≡ record { store = desk.old.store; user = desk.old.user; view = None } }
 {
     desk.forget_view();

@@ -115,10 +115,13 @@ fn serve_lines<R: Threads + Sync, B: Commits<R>, S: Source, K: Sink, G: Gate + S
     requires no_view { desk.old.view ≡ None }
     ensures served { ServesAtDesk (B.seat board.old)
         (standing (B.log board.old) desk.old.store) (standing (B.log board.new) desk.new.store)
-        (S.left source.old) (S.left source.new) (K.held sink.old) (K.held sink.new) (status_at_end result) }
+        (S.left source.old) (S.left source.new) (K.held sink.old) (K.held sink.new)
+        (status_at_end result) }
     ensures seat { B.seat board.new ≡ B.seat board.old }
-    ensures source_failed { result ≡ Err halt.SourceFailed → HasRisen (S.faults source.old) (S.faults source.new) }
-    ensures sink_failed { result ≡ Err halt.SinkFailed → HasRisen (K.faults sink.old) (K.faults sink.new) }
+    ensures source_failed { result ≡ Err halt.SourceFailed
+        → HasRisen (S.faults source.old) (S.faults source.new) }
+    ensures sink_failed { result ≡ Err halt.SinkFailed
+        → HasRisen (K.faults sink.old) (K.faults sink.new) }
     ensures source_count { S.faults source.old ≤ S.faults source.new }
     ensures sink_count { K.faults sink.old ≤ K.faults sink.new }
 {
@@ -151,12 +154,15 @@ fn answer_next<R: Threads + Sync, B: Commits<R>, S: Source, G: Gate + Sync, L: L
 ) -> Result<Option<Step>, Halt>
     requires view { HasItsView desk.old (B.log board.old) (B.pin_at board.old) }
     ensures turn { TakesTurn
-        (spot (moment (B.seat board.old) (B.log board.old) (B.pin_at board.old) desk.old) reader.old (S.left source.old))
-        (spot (moment (B.seat board.new) (B.log board.new) (B.pin_at board.new) desk.new) reader.new (S.left source.new))
+        (spot (moment (B.seat board.old) (B.log board.old)
+        (B.pin_at board.old) desk.old) reader.old (S.left source.old))
+        (spot (moment (B.seat board.new) (B.log board.new)
+        (B.pin_at board.new) desk.new) reader.new (S.left source.new))
         result }
     ensures store { LeavesStore result desk.old.store desk.new.store }
     ensures count { S.faults source.old ≤ S.faults source.new }
-    ensures cause { result ≡ Err halt.SourceFailed → HasRisen (S.faults source.old) (S.faults source.new) }
+    ensures cause { result ≡ Err halt.SourceFailed
+        → HasRisen (S.faults source.old) (S.faults source.new) }
 {
     match reader.next_line(source) {
         Ok(Some(line)) => Ok(Some(answer_line(rt, alloc, desk, board, gate, line, steps)?)),
@@ -169,7 +175,8 @@ fn answer_next<R: Threads + Sync, B: Commits<R>, S: Source, G: Gate + Sync, L: L
 fn look_on<S: Source>(reader: &mut LineReader, source: &mut S) -> Result<End, Halt>
     ensures looks { LooksOn reader.old reader.new (S.left source.old) (S.left source.new) result }
     ensures count { S.faults source.old ≤ S.faults source.new }
-    ensures cause { result ≡ Err halt.SourceFailed → HasRisen (S.faults source.old) (S.faults source.new) }
+    ensures cause { result ≡ Err halt.SourceFailed
+        → HasRisen (S.faults source.old) (S.faults source.new) }
 {
     match reader.next_bytes(source, 1) {
         Ok(next) => Ok(end_before(next)),

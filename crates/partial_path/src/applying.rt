@@ -37,7 +37,9 @@ impl<'a> StoredPath<'a> {
         at: &Config,
     ) -> Result<Option<Config>, AllocError>
         requires fits { Fits base self.now }
-        requires met { IsTrue (spot_eq (start_spot (moved_start base self.now.start)) at.now.spot && is_some (match_stacks (moved_pre base self.now.pre) at.now.stacks)) }
+        requires met { IsTrue (spot_eq (start_spot
+            (moved_start base self.now.start)) at.now.spot && is_some
+            (match_stacks (moved_pre base self.now.pre) at.now.stacks)) }
         ensures { IfOk result (λ next. next ≡ apply (moved base self.now) at.now) }
     {
         let met = Met {
@@ -53,7 +55,9 @@ impl<'a> StoredPath<'a> {
     /// Whether the configuration is at the path's start, moved by `base`, and meets its precondition. It
     /// takes no memory, and time that follows the precondition.
     pub fn meets(&self, base: u32, at: &Config) -> bool
-        ensures { result ≡ (spot_eq (start_spot (moved_start base self.now.start)) at.now.spot && is_some (match_stacks (moved_pre base self.now.pre) at.now.stacks)) }
+        ensures { result
+            ≡ (spot_eq (start_spot (moved_start base self.now.start)) at.now.spot && is_some
+            (match_stacks (moved_pre base self.now.pre) at.now.stacks)) }
     {
         begins_at(base, self.start(), at.spot)
             && meets_scopes(base, self.fixed(), &at.stacks.scopes)

@@ -162,7 +162,8 @@ fn run_in(number: u32, file: &FilePaths, start: Start) -> StoredPaths<'_>
 
 /// The start within the file with that number; None where it is in no file of that number or later.
 fn unmoved(number: u32, start: Start) -> Option<Start>
-    ensures { MatchOption result ((s : Start) → start_eq (moved_start number s) start ≡ false) (λ here. (s : Start) → start_eq (moved_start number s) start ≡ start_eq s here) }
+    ensures { MatchOption result ((s : Start) → start_eq (moved_start number s) start ≡ false)
+        (λ here. (s : Start) → start_eq (moved_start number s) start ≡ start_eq s here) }
 {
     match start {
         Start::Before(node) => match unmoved_node(number, node) {
@@ -179,7 +180,8 @@ fn unmoved(number: u32, start: Start) -> Option<Start>
 
 /// The node within the file with that number; None where it is in none of that number or later.
 fn unmoved_node(number: u32, node: NodeAt) -> Option<NodeAt>
-    ensures { MatchOption result ((n : NodeAt) → node_eq (moved_node number n) node ≡ false) (λ here. (n : NodeAt) → node_eq (moved_node number n) node ≡ node_eq n here) }
+    ensures { MatchOption result ((n : NodeAt) → node_eq (moved_node number n) node ≡ false)
+        (λ here. (n : NodeAt) → node_eq (moved_node number n) node ≡ node_eq n here) }
 {
     if node.file < number {
         return None;
@@ -197,8 +199,10 @@ fn asked<'a>(
     first: Option<&Symbol>,
     left: &mut usize,
 ) -> Option<StoredPath<'a>>
-    ensures found { result ≡ slice_get (filter (asks_rule (option_copied first.entry)) run.now) left.old }
-    ensures rest { IfNone result (left.new + length (filter (asks_rule (option_copied first.entry)) run.now) ≡ left.old) }
+    ensures found { result
+        ≡ slice_get (filter (asks_rule (option_copied first.entry)) run.now) left.old }
+    ensures rest { IfNone result (left.new + length
+        (filter (asks_rule (option_copied first.entry)) run.now) ≡ left.old) }
 {
     for place in 0..run.len() {
         let path = run.at(place);
@@ -227,7 +231,8 @@ pub fn asks(path: &StoredPath<'_>, first: Option<&Symbol>) -> bool
 /// Before the first path that the files offer at the start: at a start of one file in that file, at the root
 /// in the first.
 fn offers_from(start: Start) -> ListOffers
-    ensures { (files : List FileRules) (symbols : List SymbolItem) → All IsSourceFile files → list_offers_left files symbols result ≡ rules_offered files start symbols }
+    ensures { (files : List FileRules) (symbols : List SymbolItem) → All IsSourceFile files
+        → list_offers_left files symbols result ≡ rules_offered files start symbols }
 {
     let (file, start) = in_its_file(start);
     ListOffers {
@@ -269,7 +274,9 @@ fn offer_of<'a>(
     at: ListOffers,
 ) -> Option<(u32, StoredPath<'a>, ListOffers)>
     requires { length files.now ≤ 2 ^ 32 }
-    ensures { MatchOption result (list_offers_left files.now symbols.now at ≡ []) (λ found. list_offers_left files.now symbols.now at ≡ (found.0, found.1) ∷ list_offers_left files.now symbols.now found.2) }
+    ensures { MatchOption result (list_offers_left files.now symbols.now at ≡ [])
+        (λ found. list_offers_left files.now symbols.now at
+        ≡ (found.0, found.1) ∷ list_offers_left files.now symbols.now found.2) }
 {
     match offer_here(files, symbols, at) {
         Some(found) => Some(found),
@@ -284,7 +291,9 @@ fn offer_here<'a>(
     at: ListOffers,
 ) -> Option<(u32, StoredPath<'a>, ListOffers)>
     requires { length files.now ≤ 2 ^ 32 }
-    ensures next { MatchOption result (offers_here files.now symbols.now at ≡ []) (λ found. offers_here files.now symbols.now at ≡ (found.0, found.1) ∷ offers_here files.now symbols.now found.2) }
+    ensures next { MatchOption result (offers_here files.now symbols.now at ≡ [])
+        (λ found. offers_here files.now symbols.now at
+        ≡ (found.0, found.1) ∷ offers_here files.now symbols.now found.2) }
     ensures start { IfSome result (λ found. found.2.inside.start ≡ at.inside.start) }
     ensures file { IfSome result (λ found. found.2.file ≡ at.file) }
 {
@@ -308,7 +317,9 @@ fn offer_behind<'a>(
     at: ListOffers,
 ) -> Option<(u32, StoredPath<'a>, ListOffers)>
     requires { length files.now ≤ 2 ^ 32 }
-    ensures { MatchOption result (offers_behind files.now symbols.now at ≡ []) (λ found. offers_behind files.now symbols.now at ≡ (found.0, found.1) ∷ list_offers_left files.now symbols.now found.2) }
+    ensures { MatchOption result (offers_behind files.now symbols.now at ≡ [])
+        (λ found. offers_behind files.now symbols.now at
+        ≡ (found.0, found.1) ∷ list_offers_left files.now symbols.now found.2) }
 {
     let start = at.inside.start;
     if !is_shared(start) {

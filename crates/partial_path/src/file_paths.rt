@@ -106,7 +106,8 @@ impl FilePaths {
         count: usize,
     ) -> StoredPaths<'a>
         requires { count ≤ key_size }
-        ensures value { result ≡ rules_asking start (take count (texts symbols.now)) self.now.rules }
+        ensures value { result
+            ≡ rules_asking start (take count (texts symbols.now)) self.now.rules }
         ensures sets { AreFileRules self.now }
     {
         let paths = self.paths.lent();
@@ -124,7 +125,9 @@ impl FilePaths {
         symbols: &SymbolStack,
         at: FileOffers,
     ) -> Option<(StoredPath<'a>, FileOffers)>
-        ensures next { MatchOption result (offers_left at symbols.now self.now.rules ≡ []) (λ found. offers_left at symbols.now self.now.rules ≡ found.0 ∷ offers_left found.1 symbols.now self.now.rules) }
+        ensures next { MatchOption result (offers_left at symbols.now self.now.rules ≡ [])
+            (λ found. offers_left at symbols.now self.now.rules
+            ≡ found.0 ∷ offers_left found.1 symbols.now self.now.rules) }
         ensures start { IfSome result (λ found. found.1.start ≡ at.start) }
         ensures sets { AreFileRules self.now }
     {
@@ -186,7 +189,8 @@ impl FilePaths {
     /// The precedence of the edge at the position. It takes constant time.
     pub fn precedence(&self, e: u32) -> u16
         requires { e < length self.now.graph.edges }
-        ensures { option_map (λ edge. edge.precedence) (slice_get self.now.graph.edges e) ≡ Some result }
+        ensures { option_map (λ edge. edge.precedence) (slice_get self.now.graph.edges e)
+            ≡ Some result }
     {
         self.graph.edge(e).precedence
     }

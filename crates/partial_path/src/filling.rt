@@ -28,7 +28,11 @@ pub fn filled_symbols(
     outs: &[SymOut],
 ) -> Result<SymbolStack, AllocError>
     requires { All (FitsSymbol base) outs.now }
-    ensures { IfOk result (λ symbols. symbols ≡ map (fill_item (left_by met.now.asked.now met.now.fixed.now met.now.stacks.now)) (map (moved_symbol_out base) outs.now) ++ drop (length met.now.asked.now) met.now.stacks.now.symbols) }
+    ensures { IfOk result
+        (λ symbols. symbols
+        ≡ map (fill_item (left_by met.now.asked.now met.now.fixed.now met.now.stacks.now))
+        (map (moved_symbol_out base) outs.now) ++ drop
+        (length met.now.asked.now) met.now.stacks.now.symbols) }
 {
     let asked = met.asked.len();
     let left = met.stacks.symbols.len().saturating_sub(asked);
@@ -47,7 +51,9 @@ fn put_made(
     items: &mut Vec<SymbolItem>,
 ) -> Result<(), AllocError>
     requires { All (FitsSymbol base) outs.now }
-    ensures { OnOk result (items.new.items ≡ items.old.items ++ map (fill_item (left_by met.now.asked.now met.now.fixed.now met.now.stacks.now)) (map (moved_symbol_out base) outs.now)) }
+    ensures { OnOk result (items.new.items ≡ items.old.items
+        ++ map (fill_item (left_by met.now.asked.now met.now.fixed.now met.now.stacks.now))
+        (map (moved_symbol_out base) outs.now)) }
 {
     for out in outs {
         items.push(filled_item(alloc, base, met, out)?)?;
@@ -77,7 +83,10 @@ fn put_left(
 /// A symbol that a rule makes.
 fn filled_item(alloc: Global, base: u32, met: &Met, out: &SymOut) -> Result<SymbolItem, AllocError>
     requires { FitsSymbol base out.now }
-    ensures { IfOk result (λ item. item ≡ fill_item (left_by met.now.asked.now met.now.fixed.now met.now.stacks.now) (moved_symbol_out base out.now)) }
+    ensures { IfOk result
+        (λ item. item
+        ≡ fill_item (left_by met.now.asked.now met.now.fixed.now met.now.stacks.now)
+        (moved_symbol_out base out.now)) }
 {
     let scopes = match &out.scopes {
         Some(scopes) => Some(filled_held(alloc, base, met, scopes.get())?),
@@ -97,7 +106,10 @@ fn filled_held(
     out: &ScopeOut,
 ) -> Result<ScopeStack, AllocError>
     requires { All (FitsNode base) out.now.scopes }
-    ensures { IfOk result (λ scopes. scopes ≡ fill_scopes (left_by met.now.asked.now met.now.fixed.now met.now.stacks.now) (moved_scopes_out base out.now)) }
+    ensures { IfOk result
+        (λ scopes. scopes
+        ≡ fill_scopes (left_by met.now.asked.now met.now.fixed.now met.now.stacks.now)
+        (moved_scopes_out base out.now)) }
 {
     filled_scopes(alloc, base, met, out.scopes.items(), out.tail)
 }
@@ -111,7 +123,8 @@ pub fn filled_scopes(
     tail: Tail,
 ) -> Result<ScopeStack, AllocError>
     requires { All (FitsNode base) made.now }
-    ensures { IfOk result (λ scopes. scopes ≡ map (moved_node base) made.now ++ tail_scopes (left_by met.now.asked.now met.now.fixed.now met.now.stacks.now) tail) }
+    ensures { IfOk result (λ scopes. scopes ≡ map (moved_node base) made.now
+        ++ tail_scopes (left_by met.now.asked.now met.now.fixed.now met.now.stacks.now) tail) }
 {
     let mut scopes = tail_copy(alloc, met, tail)?;
     put_fixed(base, made, &mut scopes)?;
@@ -120,7 +133,9 @@ pub fn filled_scopes(
 
 /// A copy of what the variable stands for.
 fn tail_copy(alloc: Global, met: &Met, tail: Tail) -> Result<ScopeStack, AllocError>
-    ensures { IfOk result (λ scopes. scopes ≡ tail_scopes (left_by met.now.asked.now met.now.fixed.now met.now.stacks.now) tail) }
+    ensures { IfOk result
+        (λ scopes. scopes
+        ≡ tail_scopes (left_by met.now.asked.now met.now.fixed.now met.now.stacks.now) tail) }
 {
     match tail {
         Tail::Nil => Ok(ScopeStack::new(alloc)),
@@ -146,7 +161,8 @@ fn item_left(
     symbols: &SymbolStack,
     place: usize,
 ) -> Result<ScopeStack, AllocError>
-    ensures { IfOk result (λ left. left ≡ option_map_or (λ scopes. scopes) (slice_get (left_items asked.now symbols.now) place) []) }
+    ensures { IfOk result (λ left. left ≡ option_map_or
+        (λ scopes. scopes) (slice_get (left_items asked.now symbols.now) place) []) }
 {
     let stored = symbols.reversed();
     if place >= asked.len() || place >= stored.len() {

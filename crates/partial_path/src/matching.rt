@@ -9,7 +9,8 @@ use stacks_vars::{NodeAt, ScopeStack, SymPat, SymbolItem, SymbolStack};
 /// How many scopes follow the fixed ones, moved by `base`; None where the stack doesn't begin with them.
 /// The stack's front is the last of `scopes`.
 pub fn left_after(base: u32, fixed: &[NodeAt], scopes: &[NodeAt]) -> Option<usize>
-    ensures { option_map (λ n. reverse (take n scopes.now)) result ≡ after_fixed (map (moved_node base) fixed.now) (reverse scopes.now) }
+    ensures { option_map (λ n. reverse (take n scopes.now)) result
+        ≡ after_fixed (map (moved_node base) fixed.now) (reverse scopes.now) }
 {
     let mut left = scopes.len();
     for node in fixed {

@@ -76,7 +76,8 @@ fn moved_post(
 
 /// The edges of file `base` with these numbers. The one error is want of memory.
 fn moved_edges(alloc: Global, base: u32, numbers: &[u32]) -> Result<Vec<EdgeAt>, AllocError>
-    ensures { IfOk result (λ edges. edges.items ≡ map (moved_edge base) (map own_edge numbers.now)) }
+    ensures { IfOk result
+        (λ edges. edges.items ≡ map (moved_edge base) (map own_edge numbers.now)) }
 {
     let mut edges = Vec::with_capacity(alloc, numbers.len())?;
     for edge in numbers {

@@ -33,7 +33,8 @@ impl FileOffers {
     /// Before the first path that is offered at the start.
     pub fn at(start: Start) -> FileOffers
         ensures start { result.start ≡ start }
-        ensures all { (symbols : List SymbolItem) (rules : List Rule) → offers_left result symbols rules ≡ filter (is_offered start symbols) rules }
+        ensures all { (symbols : List SymbolItem) (rules : List Rule)
+            → offers_left result symbols rules ≡ filter (is_offered start symbols) rules }
     {
         FileOffers {
             start,
@@ -66,7 +67,9 @@ pub fn next_offer<'a>(
     at: FileOffers,
 ) -> Option<(StoredPath<'a>, FileOffers)>
     requires { IsByKey paths.now }
-    ensures next { MatchOption result (offers_left at symbols.now paths.now ≡ []) (λ found. offers_left at symbols.now paths.now ≡ found.0 ∷ offers_left found.1 symbols.now paths.now) }
+    ensures next { MatchOption result (offers_left at symbols.now paths.now ≡ [])
+        (λ found. offers_left at symbols.now paths.now
+        ≡ found.0 ∷ offers_left found.1 symbols.now paths.now) }
     ensures start { IfSome result (λ found. found.1.start ≡ at.start) }
 {
     match next_here(paths, at) {
@@ -95,7 +98,9 @@ fn next_run<'a>(
     at: FileOffers,
 ) -> Option<(StoredPath<'a>, FileOffers)>
     requires { IsByKey paths.now }
-    ensures next { MatchOption result (filter (is_later at symbols.now) paths.now ≡ []) (λ found. filter (is_later at symbols.now) paths.now ≡ found.0 ∷ offers_left found.1 symbols.now paths.now) }
+    ensures next { MatchOption result (filter (is_later at symbols.now) paths.now ≡ [])
+        (λ found. filter (is_later at symbols.now) paths.now
+        ≡ found.0 ∷ offers_left found.1 symbols.now paths.now) }
     ensures start { IfSome result (λ found. found.1.start ≡ at.start) }
 {
     let most = KEY_SIZE.min(symbols.len());

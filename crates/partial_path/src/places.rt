@@ -46,7 +46,8 @@ pub fn is_definition_spot(files: &[FileGraph], spot: Spot) -> bool
 
 /// Whether the configuration is a result: at a definition of the files, with no symbols left.
 pub fn is_at_definition(files: &[FileGraph], at: &Config) -> bool
-    ensures value { result ≡ (is_definition_spot files.now at.now.spot && nat_eq (length at.now.stacks.symbols) 0) }
+    ensures value { result
+        ≡ (is_definition_spot files.now at.now.spot && nat_eq (length at.now.stacks.symbols) 0) }
     ensures exact { IsTrue result ↔ IsAtDefinition files.now at.now }
 {
     is_definition_spot(files, at.spot) && at.stacks.symbols.len() == 0

@@ -65,7 +65,8 @@ fn asked_at(asked: &[SymPat], i: usize) -> Option<&Symbol>
 
 /// How two texts stand to one another; none stands before any.
 fn texts_cmp(a: Option<&Symbol>, b: Option<&Symbol>) -> Ordering
-    ensures { result ≡ option_cmp (slice_cmp nat_cmp) (option_copied a.entry) (option_copied b.entry) }
+    ensures { result
+        ≡ option_cmp (slice_cmp nat_cmp) (option_copied a.entry) (option_copied b.entry) }
 {
     match (a, b) {
         (None, None) => Ordering::Equal,
@@ -124,7 +125,8 @@ fn run_asking(
 ) -> (usize, usize)
     requires order { IsByKey paths.now }
     requires count { count ≤ key_size }
-    ensures run { take (result.1 - result.0) (drop result.0 paths.now) ≡ rules_asking start (take count (texts symbols.now)) paths.now }
+    ensures run { take (result.1 - result.0) (drop result.0 paths.now)
+        ≡ rules_asking start (take count (texts symbols.now)) paths.now }
     ensures bounds { (result.0 ≤ result.1) × (result.1 ≤ length paths.now) }
 {
     let low = count_before(paths, start, symbols, count);
@@ -146,7 +148,8 @@ pub fn run_within(
     requires count { count ≤ key_size }
     requires bounds { (run.0 ≤ run.1) × (run.1 ≤ length paths.now) }
     requires starts { take (run.1 - run.0) (drop run.0 paths.now) ≡ rules_at start paths.now }
-    ensures run { take (result.1 - result.0) (drop result.0 paths.now) ≡ rules_asking start (take count (texts symbols.now)) paths.now }
+    ensures run { take (result.1 - result.0) (drop result.0 paths.now)
+        ≡ rules_asking start (take count (texts symbols.now)) paths.now }
     ensures bounds { (result.0 ≤ result.1) × (result.1 ≤ length paths.now) }
 {
     let (low, high) = run;
@@ -182,7 +185,8 @@ fn run_by_heads(
 ) -> (usize, usize)
     requires order { IsByKey paths.now }
     requires count { count ≤ key_size }
-    ensures run { take (result.1 - result.0) (drop result.0 paths.now) ≡ rules_asking start (take count (texts symbols.now)) paths.now }
+    ensures run { take (result.1 - result.0) (drop result.0 paths.now)
+        ≡ rules_asking start (take count (texts symbols.now)) paths.now }
     ensures bounds { (result.0 ≤ result.1) × (result.1 ≤ length paths.now) }
 {
     let (low, high) = heads_run(heads, wanted_head(symbols, count));
@@ -213,7 +217,10 @@ fn has_all(
     requires order { IsByKey paths.now }
     requires count { count ≤ key_size }
     requires bounds { (low ≤ high) × (high ≤ length paths.now) }
-    ensures { IsTrue result → rules_asking start (take count (texts symbols.now)) (take (high - low) (drop low paths.now)) ≡ rules_asking start (take count (texts symbols.now)) paths.now }
+    ensures { IsTrue result
+        → rules_asking start (take count (texts symbols.now))
+        (take (high - low) (drop low paths.now)) ≡ rules_asking start
+        (take count (texts symbols.now)) paths.now }
 {
     if !stands_before(paths, low, start, symbols, count) {
         return false;
@@ -231,7 +238,9 @@ fn stands_before(
 ) -> bool
     requires count { count ≤ key_size }
     requires bound { low ≤ length paths.now }
-    ensures { IsTrue result → 0 < low → (d : Rule) → is_lt (slot_side start (take count (texts symbols.now)) (slice_index_or paths.now (low - 1) d)) ≡ true }
+    ensures { IsTrue result → 0 < low → (d : Rule)
+        → is_lt (slot_side start (take count (texts symbols.now))
+        (slice_index_or paths.now (low - 1) d)) ≡ true }
 {
     low == 0 || slot_side(&paths.at(low - 1), start, symbols, count).is_lt()
 }
@@ -246,7 +255,9 @@ fn stands_behind(
 ) -> bool
     requires count { count ≤ key_size }
     requires bound { high ≤ length paths.now }
-    ensures { IsTrue result → high < length paths.now → (d : Rule) → is_gt (slot_side start (take count (texts symbols.now)) (slice_index_or paths.now high d)) ≡ true }
+    ensures { IsTrue result → high < length paths.now → (d : Rule)
+        → is_gt (slot_side start (take count (texts symbols.now))
+        (slice_index_or paths.now high d)) ≡ true }
 {
     high == paths.len() || slot_side(&paths.at(high), start, symbols, count).is_gt()
 }
@@ -260,7 +271,8 @@ fn run_or_all(
 ) -> (usize, usize)
     requires order { IsByKey paths.now }
     requires count { count ≤ key_size }
-    ensures run { take (result.1 - result.0) (drop result.0 paths.now) ≡ rules_asking start (take count (texts symbols.now)) paths.now }
+    ensures run { take (result.1 - result.0) (drop result.0 paths.now)
+        ≡ rules_asking start (take count (texts symbols.now)) paths.now }
     ensures bounds { (result.0 ≤ result.1) × (result.1 ≤ length paths.now) }
 {
     if are_there(paths, start, symbols, count) {
@@ -272,8 +284,12 @@ fn run_or_all(
 /// Whether the first and the last of the paths stand in that slot; true where there is none.
 fn are_there(paths: &StoredPaths<'_>, start: Start, symbols: &SymbolStack, count: usize) -> bool
     requires { count ≤ key_size }
-    ensures first { IsTrue result → 0 < length paths.now → (d : Rule) → is_eq (slot_side start (take count (texts symbols.now)) (slice_index_or paths.now 0 d)) ≡ true }
-    ensures last { IsTrue result → 0 < length paths.now → (d : Rule) → is_eq (slot_side start (take count (texts symbols.now)) (slice_index_or paths.now (length paths.now - 1) d)) ≡ true }
+    ensures first { IsTrue result → 0 < length paths.now → (d : Rule)
+        → is_eq (slot_side start (take count (texts symbols.now)) (slice_index_or paths.now 0 d))
+        ≡ true }
+    ensures last { IsTrue result → 0 < length paths.now → (d : Rule)
+        → is_eq (slot_side start (take count (texts symbols.now))
+        (slice_index_or paths.now (length paths.now - 1) d)) ≡ true }
 {
     let size = paths.len();
     size == 0
@@ -285,7 +301,8 @@ fn are_there(paths: &StoredPaths<'_>, start: Start, symbols: &SymbolStack, count
 fn count_before(paths: &StoredPaths<'_>, start: Start, symbols: &SymbolStack, count: usize) -> usize
     requires order { IsByKey paths.now }
     requires count { count ≤ key_size }
-    ensures value { result ≡ prefix_len (is_before_slot start (take count (texts symbols.now))) paths.now }
+    ensures value { result
+        ≡ prefix_len (is_before_slot start (take count (texts symbols.now))) paths.now }
     ensures bound { result ≤ length paths.now }
 {
     let mut low = 0;
@@ -304,9 +321,11 @@ fn count_before(paths: &StoredPaths<'_>, start: Start, symbols: &SymbolStack, co
 /// How many of the first paths stand in that slot, of paths of which none stands there after one that
 /// doesn't.
 fn count_at(paths: &StoredPaths<'_>, start: Start, symbols: &SymbolStack, count: usize) -> usize
-    requires parted { IsPartitionedBy (is_at_slot start (take count (texts symbols.now))) paths.now }
+    requires parted { IsPartitionedBy (is_at_slot start
+        (take count (texts symbols.now))) paths.now }
     requires count { count ≤ key_size }
-    ensures value { result ≡ prefix_len (is_at_slot start (take count (texts symbols.now))) paths.now }
+    ensures value { result
+        ≡ prefix_len (is_at_slot start (take count (texts symbols.now))) paths.now }
     ensures bound { result ≤ length paths.now }
 {
     let mut low = 0;

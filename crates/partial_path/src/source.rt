@@ -31,8 +31,10 @@ pub trait PathSource {
         first: Option<&Symbol>,
         k: usize,
     ) -> Option<(u32, StoredPath<'_>)>
-        ensures value { result ≡ slice_get (listed self.now start.now (option_copied first.entry)) k }
-        ensures exact { IsPermutation (rules_from (files self.now) start.now (option_copied first.entry)) (listed self.now start.now (option_copied first.entry)) }
+        ensures value { result
+            ≡ slice_get (listed self.now start.now (option_copied first.entry)) k }
+        ensures exact { IsPermutation (rules_from (files self.now) start.now
+            (option_copied first.entry)) (listed self.now start.now (option_copied first.entry)) }
         ensures sets { All IsSourceFile (files self.now) };
 
     /// Where a look-up stands: a value that costs nothing to copy.
@@ -45,7 +47,8 @@ pub trait PathSource {
     /// A look-up of the paths that can be met from the start with this symbol stack, as far as the texts of
     /// the first six symbols tell: before its first path.
     fn offers(&self, start: &Start, symbols: &SymbolStack) -> Self::Offers
-        ensures exact { IsPermutation (rules_offered (files self.now) start.now symbols.now) (offered self.now symbols.now result) }
+        ensures exact { IsPermutation (rules_offered (files self.now) start.now symbols.now)
+            (offered self.now symbols.now result) }
         ensures sets { All IsSourceFile (files self.now) };
 
     /// The path that comes next in the look-up, with its file's number, and where the look-up stands after
@@ -57,7 +60,9 @@ pub trait PathSource {
         symbols: &SymbolStack,
         at: Self::Offers,
     ) -> Option<(u32, StoredPath<'_>, Self::Offers)>
-        ensures { MatchOption result (offered self.now symbols.now at ≡ []) (λ found. offered self.now symbols.now at ≡ (found.0, found.1) ∷ offered self.now symbols.now found.2) };
+        ensures { MatchOption result (offered self.now symbols.now at ≡ [])
+            (λ found. offered self.now symbols.now at
+            ≡ (found.0, found.1) ∷ offered self.now symbols.now found.2) };
 
     /// Whether the node is a reference of its file; false where there is no such file or node.
     fn is_reference(&self, at: &NodeAt) -> bool

@@ -61,7 +61,8 @@ impl StartTable {
     /// where the table tells it, and halves over all paths where it doesn't.
     pub fn run(&self, paths: &StoredPaths<'_>, start: Start) -> (usize, usize)
         requires { IsByStart paths.now }
-        ensures run { take (result.1 - result.0) (drop result.0 paths.now) ≡ rules_at start paths.now }
+        ensures run { take (result.1 - result.0) (drop result.0 paths.now)
+            ≡ rules_at start paths.now }
         ensures bounds { (result.0 ≤ result.1) × (result.1 ≤ length paths.now) }
     {
         match self.told(start) {
@@ -153,7 +154,8 @@ fn is_run(paths: &StoredPaths<'_>, start: Start, low: usize, high: usize) -> boo
 /// Whether the path before that place begins before the start; true where there is none.
 fn follows_others(paths: &StoredPaths<'_>, start: Start, low: usize) -> bool
     requires { low ≤ length paths.now }
-    ensures { IsTrue result → 0 < low → (d : Rule) → is_lt (start_cmp (slice_index_or paths.now (low - 1) d).start start) ≡ true }
+    ensures { IsTrue result → 0 < low → (d : Rule)
+        → is_lt (start_cmp (slice_index_or paths.now (low - 1) d).start start) ≡ true }
 {
     low == 0 || side_of(&paths.at(low - 1), start).is_lt()
 }
@@ -161,7 +163,8 @@ fn follows_others(paths: &StoredPaths<'_>, start: Start, low: usize) -> bool
 /// Whether the path at that place begins behind the start; true where there is none.
 fn others_follow(paths: &StoredPaths<'_>, start: Start, high: usize) -> bool
     requires { high ≤ length paths.now }
-    ensures { IsTrue result → high < length paths.now → (d : Rule) → is_gt (start_cmp (slice_index_or paths.now high d).start start) ≡ true }
+    ensures { IsTrue result → high < length paths.now → (d : Rule)
+        → is_gt (start_cmp (slice_index_or paths.now high d).start start) ≡ true }
 {
     high == paths.len() || side_of(&paths.at(high), start).is_gt()
 }
@@ -169,8 +172,10 @@ fn others_follow(paths: &StoredPaths<'_>, start: Start, high: usize) -> bool
 /// Whether the first and the last path between those places begin there; true where there is none.
 fn are_there(paths: &StoredPaths<'_>, start: Start, low: usize, high: usize) -> bool
     requires { (low ≤ high) × (high ≤ length paths.now) }
-    ensures first { IsTrue result → low < high → (d : Rule) → is_eq (start_cmp (slice_index_or paths.now low d).start start) ≡ true }
-    ensures last { IsTrue result → low < high → (d : Rule) → is_eq (start_cmp (slice_index_or paths.now (high - 1) d).start start) ≡ true }
+    ensures first { IsTrue result → low < high → (d : Rule)
+        → is_eq (start_cmp (slice_index_or paths.now low d).start start) ≡ true }
+    ensures last { IsTrue result → low < high → (d : Rule)
+        → is_eq (start_cmp (slice_index_or paths.now (high - 1) d).start start) ≡ true }
 {
     low == high
         || (side_of(&paths.at(low), start).is_eq() && side_of(&paths.at(high - 1), start).is_eq())

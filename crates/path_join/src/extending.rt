@@ -74,7 +74,8 @@ pub fn extend_in_place(
     requires edges { length parts.old.edges.items + 1 < 2 ^ 32 }
     requires peak { parts.old.peak + 1 < 2 ^ 32 }
     ensures rule { IfOk result (λ longer. longer ≡ true → IsRule (rule_apart parts.new)) }
-    ensures extended { IfOk result (λ longer. IsExtended graph.now (rule_apart parts.old) edge (rule_if longer parts.new)) }
+    ensures extended { IfOk result
+        (λ longer. IsExtended graph.now (rule_apart parts.old) edge (rule_if longer parts.new)) }
 {
     let found = edge_of(graph, edge);
     let source = spot_of(found.source);
@@ -112,7 +113,8 @@ fn extend_anew(
     requires edges { length parts.old.edges.items + 1 < 2 ^ 32 }
     requires peak { parts.old.peak + 1 < 2 ^ 32 }
     ensures rule { IfOk result (λ longer. longer ≡ true → IsRule (rule_apart parts.new)) }
-    ensures extended { IfOk result (λ longer. IsExtended graph.now (rule_apart parts.old) edge (rule_if longer parts.new)) }
+    ensures extended { IfOk result
+        (λ longer. IsExtended graph.now (rule_apart parts.old) edge (rule_if longer parts.new)) }
 {
     let none = passing(
         alloc,
@@ -142,7 +144,9 @@ fn enter(
     requires there { IsTrue (has_place (length graph.now.nodes) sink) }
     requires rule { IsRule (rule_apart parts.old) }
     requires peak { parts.old.peak + 1 < 2 ^ 32 }
-    ensures { IfOk result (λ longer. rule_if longer parts.new ≡ extended_by (rule_apart parts.old) (place_action graph.now sink) (place_end sink) (edge_alone edge)) }
+    ensures { IfOk result (λ longer. rule_if longer parts.new
+        ≡ extended_by (rule_apart parts.old) (place_action graph.now sink) (place_end sink)
+        (edge_alone edge)) }
 {
     let asked = parts.pre.symbols.len();
     if !place_entered(alloc, graph, sink, &mut parts.pre, &mut parts.post)? {
@@ -189,7 +193,8 @@ fn place_entered(
 ) -> Result<bool, AllocError>
     requires there { IsTrue (has_place (length graph.now.nodes) place) }
     requires asked { length pre.old.symbols < 2 ^ 32 }
-    ensures { IfOk result (λ goes. sides_if goes pre.new post.new ≡ entered (place_action graph.now place) pre.old post.old) }
+    ensures { IfOk result (λ goes. sides_if goes pre.new post.new
+        ≡ entered (place_action graph.now place) pre.old post.old) }
 {
     match place {
         Place::Root | Place::Jump => Ok(true),
@@ -205,7 +210,8 @@ fn node_entered(
     post: &mut Post,
 ) -> Result<bool, AllocError>
     requires { length pre.old.symbols < 2 ^ 32 }
-    ensures { IfOk result (λ goes. sides_if goes pre.new post.new ≡ entered (action_of 0 kind.now) pre.old post.old) }
+    ensures { IfOk result (λ goes. sides_if goes pre.new post.new
+        ≡ entered (action_of 0 kind.now) pre.old post.old) }
 {
     match kind {
         NodeKind::Scope { .. } => Ok(true),
@@ -322,7 +328,8 @@ fn take_front(alloc: Global, made: &mut Listed<SymOut>) -> Option<SymOut>
 
 /// A plain symbol is popped: the front of those that the path makes, or one more that it asks for.
 fn take(alloc: Global, symbol: &Name, pre: &mut Pre, post: &mut Post) -> Result<bool, AllocError>
-    ensures { IfOk result (λ goes. sides_if goes pre.new post.new ≡ taken symbol.now pre.old post.old.symbols post.old.scopes) }
+    ensures { IfOk result (λ goes. sides_if goes pre.new post.new
+        ≡ taken symbol.now pre.old post.old.symbols post.old.scopes) }
 {
     let Some(front) = take_front(alloc, &mut post.symbols) else {
         ask_more(alloc, symbol, None, &mut pre.symbols)?;
@@ -340,7 +347,8 @@ fn take_scoped(
     post: &mut Post,
 ) -> Result<bool, AllocError>
     requires { length pre.old.symbols < 2 ^ 32 }
-    ensures { IfOk result (λ goes. sides_if goes pre.new post.new ≡ taken_scoped symbol.now pre.old post.old.symbols) }
+    ensures { IfOk result (λ goes. sides_if goes pre.new post.new
+        ≡ taken_scoped symbol.now pre.old post.old.symbols) }
 {
     let Some(front) = take_front(alloc, &mut post.symbols) else {
         post.scopes = scopes_of(alloc, Tail::Item(pre.symbols.len() as u32));

@@ -97,7 +97,8 @@ impl Known {
         fixed: &[NodeAt],
         out: &ScopeOut,
     ) -> Result<bool, AllocError>
-        ensures { IfOk result (λ met. meet_scopes self.old fixed.now out.now ≡ kept_if met self.new) }
+        ensures { IfOk result (λ met. meet_scopes self.old fixed.now out.now
+            ≡ kept_if met self.new) }
     {
         let Some(beyond) = past(fixed, out.scopes.items()) else {
             return Ok(false);
@@ -114,7 +115,8 @@ impl Known {
         pat: &Option<Held<ScopePat>>,
         out: &Option<Held<ScopeOut>>,
     ) -> Result<bool, AllocError>
-        ensures { IfOk result (λ met. meet_attached self.old pat.now out.now ≡ kept_if met self.new) }
+        ensures { IfOk result (λ met. meet_attached self.old pat.now out.now
+            ≡ kept_if met self.new) }
     {
         match (pat, out) {
             (None, None) => Ok(true),
@@ -146,7 +148,8 @@ pub(crate) fn add(list: &mut Listed<NodeAt>, more: &[NodeAt]) -> Result<(), Allo
 
 /// What is asked for past the scopes that are there; None where these differ from it.
 pub(crate) fn past<'a>(fixed: &'a [NodeAt], there: &[NodeAt]) -> Option<&'a [NodeAt]>
-    ensures { MatchOption result (past fixed.now there.now ≡ None) (λ more. past fixed.now there.now ≡ Some more.now) }
+    ensures { MatchOption result (past fixed.now there.now ≡ None)
+        (λ more. past fixed.now there.now ≡ Some more.now) }
 {
     if !agree(fixed, there) {
         return None;

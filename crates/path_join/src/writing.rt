@@ -11,7 +11,8 @@ use std::alloc::{AllocError, Global};
 /// The joined precondition.
 #[tactic(auto, using(crate::proofs::CodeWritten::written))]
 pub(crate) fn joined_pre(alloc: Global, joint: &Joint) -> Result<Pre, AllocError>
-    ensures { IfOk result (λ pre. pre ≡ joined_pre joint.now.first joint.now.second joint.now.known) }
+    ensures { IfOk result
+        (λ pre. pre ≡ joined_pre joint.now.first joint.now.second joint.now.known) }
 {
     let own = joint.first.pre();
     let asked = rest(
@@ -44,7 +45,8 @@ fn add_longer(
     pats: &[SymPat],
     lists: &[Listed<NodeAt>],
 ) -> Result<(), AllocError>
-    ensures { OnOk result (symbols.new.items ≡ symbols.old.items ++ longer_symbols pats.now lists.now) }
+    ensures { OnOk result (symbols.new.items ≡ symbols.old.items
+        ++ longer_symbols pats.now lists.now) }
 {
     for (pat, more) in pats.iter().zip(lists) {
         symbols.push(longer_symbol(alloc, pat, more.items())?)?;
@@ -75,7 +77,8 @@ fn add_put(
     joint: &Joint,
     outs: &[SymOut],
 ) -> Result<(), AllocError>
-    ensures { OnOk result (symbols.new.items ≡ symbols.old.items ++ map (put_symbol (bound_of joint.now)) outs.now) }
+    ensures { OnOk result (symbols.new.items ≡ symbols.old.items
+        ++ map (put_symbol (bound_of joint.now)) outs.now) }
 {
     for out in outs {
         symbols.push(put_symbol(alloc, joint, out)?)?;
@@ -90,7 +93,8 @@ fn add_grown(
     known: &Known,
     outs: &[SymOut],
 ) -> Result<(), AllocError>
-    ensures { OnOk result (symbols.new.items ≡ symbols.old.items ++ map (grown_symbol known.now) outs.now) }
+    ensures { OnOk result (symbols.new.items ≡ symbols.old.items
+        ++ map (grown_symbol known.now) outs.now) }
 {
     for out in outs {
         symbols.push(grown_symbol(alloc, known, out)?)?;

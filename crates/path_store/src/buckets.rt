@@ -38,7 +38,8 @@ impl Buckets {
         digest: &[u8; 32],
         number: u64,
     ) -> Result<(), AllocError>
-        ensures ok { OnOk result (SetsBucket self.old self.new digest.now (in_bucket self.old digest.now ++ number ∷ [])) }
+        ensures ok { OnOk result (SetsBucket self.old self.new digest.now
+            (in_bucket self.old digest.now ++ number ∷ [])) }
         ensures err { OnErr result (AreSame self.old self.new) }
     {
         if let Some(numbers) = self.numbers.get_mut(digest) {

@@ -23,7 +23,8 @@ impl Model for Document {
 
     ghost Value = { Doc };
 
-    ghost view = { λ d. doc_of (string_bytes (arc_value d.contents).path) (arc_value d.contents).bytes.items };
+    ghost view = { λ d. doc_of (string_bytes (arc_value d.contents).path)
+        (arc_value d.contents).bytes.items };
 }
 
 impl Document {

@@ -8,9 +8,12 @@ ghost use Rattle.path_store.specs.Store.{Kept, find_doc, AreDistinct, StandsIn, 
 /// that is kept is found, where no two are of the same document; nothing is found exactly where each
 /// pair is of another document.
 pub fn what_is_kept_is_found()
-    ensures found { (doc : Doc) (paths : FileRules) (ks : List Kept) → find_doc doc ks ≡ Some paths → StandsIn doc paths ks }
-    ensures kept { (doc : Doc) (paths : FileRules) (ks : List Kept) → AreDistinct ks → StandsIn doc paths ks → find_doc doc ks ≡ Some paths }
-    ensures absent { (doc : Doc) (ks : List Kept) → (find_doc doc ks ≡ None) ↔ AllByRecursion (λ k. k.doc ≢ doc) ks }
+    ensures found { (doc : Doc) (paths : FileRules) (ks : List Kept) → find_doc doc ks ≡ Some paths
+        → StandsIn doc paths ks }
+    ensures kept { (doc : Doc) (paths : FileRules) (ks : List Kept) → AreDistinct ks
+        → StandsIn doc paths ks → find_doc doc ks ≡ Some paths }
+    ensures absent { (doc : Doc) (ks : List Kept) → (find_doc doc ks ≡ None)
+        ↔ AllByRecursion (λ k. k.doc ≢ doc) ks }
 {}
 
 /// A law of sweeping: what is left costs no more than the limit, and are the newest pairs.

@@ -82,7 +82,8 @@ impl Blocks {
     /// The first blocks, so many, and the others, of which there is one. The one error is want of memory.
     pub(crate) fn cut(self, at: usize) -> Result<(Blocks, Blocks), AllocError>
         requires { at < length self }
-        ensures paths { IfOk result (λ parts. all_paths parts.0 ++ all_paths parts.1 ≡ all_paths self) }
+        ensures paths { IfOk result (λ parts. all_paths parts.0 ++ all_paths parts.1
+            ≡ all_paths self) }
         ensures count { IfOk result (λ parts. length parts.0 ≡ at) }
         ensures some { IfOk result (λ parts. 0 < length (all_paths parts.1)) }
     {
@@ -147,7 +148,8 @@ impl Blocks {
     /// The place behind those paths that stand no higher than this one, by halving; None where there are none.
     fn place_of(&self, slot: &Slot) -> Option<(usize, usize)>
         requires { AreByRank (all_paths self.now) }
-        ensures { MatchOption result (prefix_len (is_up_to slot.now) (all_paths self.now) ≡ 0) (λ found. IsEndOf (is_up_to slot.now) self.now found.0 found.1 × (0 < found.1)) }
+        ensures { MatchOption result (prefix_len (is_up_to slot.now) (all_paths self.now) ≡ 0)
+            (λ found. IsEndOf (is_up_to slot.now) self.now found.0 found.1 × (0 < found.1)) }
     {
         let count = self.blocks_up_to(slot);
         if count == 0 {
@@ -173,7 +175,8 @@ impl Blocks {
     /// has become too large. The one error is want of memory.
     pub(crate) fn with(self, alloc: Global, slot: Slot) -> Result<Blocks, AllocError>
         requires { AreByRank (all_paths self) }
-        ensures { IfOk result (λ after. all_paths after ≡ insert (all_paths self) (prefix_len (is_up_to slot) (all_paths self)) slot) }
+        ensures { IfOk result (λ after. all_paths after
+            ≡ insert (all_paths self) (prefix_len (is_up_to slot) (all_paths self)) slot) }
     {
         if self.blocks.is_empty() {
             return Blocks::of_one(alloc, slot);
@@ -189,7 +192,8 @@ impl Blocks {
     pub(crate) fn without(self, alloc: Global, slot: &Slot) -> Result<Blocks, AllocError>
         requires order { AreByRank (all_paths self) }
         requires strict { IsStrict (all_paths self) }
-        ensures { IfOk result (λ after. all_paths after ≡ filter (λ q. not (is_tied slot.now q)) (all_paths self)) }
+        ensures { IfOk result (λ after. all_paths after ≡ filter
+            (λ q. not (is_tied slot.now q)) (all_paths self)) }
     {
         let Some((block, place)) = self.place_of(slot) else {
             return Ok(self);
@@ -215,7 +219,8 @@ impl Blocks {
     /// These paths with those in place of the paths of the block at the place.
     fn replaced(self, alloc: Global, i: usize, slots: Vec<Slot>) -> Result<Blocks, AllocError>
         requires { i < length self }
-        ensures { IfOk result (λ after. all_paths after ≡ all_paths (take i self) ++ (slots.items ++ all_paths (drop (i + 1) self))) }
+        ensures { IfOk result (λ after. all_paths after
+            ≡ all_paths (take i self) ++ (slots.items ++ all_paths (drop (i + 1) self))) }
     {
         let Blocks { mut blocks, .. } = self;
         let parts = in_blocks(alloc, slots)?;
@@ -243,7 +248,8 @@ fn begun_near(blocks: &[Block], slot: &Slot, near: usize) -> usize
 /// Whether there is that block, and it begins no higher than the path.
 fn has_begun(blocks: &[Block], slot: &Slot, block: usize) -> bool
     requires { IsPartitionedBy (first_passes (is_up_to slot.now)) blocks.now }
-    ensures begun { result ≡ nat_lt block (prefix_len (first_passes (is_up_to slot.now)) blocks.now) }
+    ensures begun { result
+        ≡ nat_lt block (prefix_len (first_passes (is_up_to slot.now)) blocks.now) }
     ensures there { result ≡ true → block < length blocks.now }
 {
     block < blocks.len() && begins_up_to(&blocks[block], slot)
@@ -309,7 +315,8 @@ fn in_blocks(alloc: Global, slots: Vec<Slot>) -> Result<Vec<Block>, AllocError>
 /// Puts the parts in place of the block at the place. The one error is want of memory.
 fn replace(blocks: &mut Vec<Block>, i: usize, mut parts: Vec<Block>) -> Result<(), AllocError>
     requires { i < length blocks.old.items }
-    ensures { OnOk result (blocks.new.items ≡ take i blocks.old.items ++ (parts.items ++ drop (i + 1) blocks.old.items)) }
+    ensures { OnOk result (blocks.new.items ≡ take i blocks.old.items
+        ++ (parts.items ++ drop (i + 1) blocks.old.items)) }
 {
     if parts.len() == 1 {
         blocks[i] = parts.remove(0);

@@ -30,7 +30,8 @@ impl Model for GroupList {
 
     ghost view = { λ s. all_paths s.groups };
 
-    ghost invariant = { λ s. AreStarts s.starts.items s.groups × (s.count ≡ length (all_paths s.groups)) × (length (all_paths s.groups) < 2 ^ 64) };
+    ghost invariant = { λ s. AreStarts s.starts.items s.groups
+        × (s.count ≡ length (all_paths s.groups)) × (length (all_paths s.groups) < 2 ^ 64) };
 }
 
 impl GroupList {
@@ -80,7 +81,8 @@ impl GroupList {
     /// The path at that place, and the number of its group; None past the last. It takes constant time where
     /// that is the group told or the next one, else time that follows the logarithm of the number of groups.
     pub(crate) fn get(&self, place: usize, near: usize) -> Option<(&Slot, usize)>
-        ensures { MatchOption result (slice_get self.now place ≡ None) (λ found. slice_get self.now place ≡ Some found.0.now) }
+        ensures { MatchOption result (slice_get self.now place ≡ None)
+            (λ found. slice_get self.now place ≡ Some found.0.now) }
     {
         if place < self.count {
             Some(self.at(place, near))
@@ -118,9 +120,11 @@ impl GroupList {
     /// How many paths stand before the key that the texts of the stack's first symbols make, so many of
     /// them; where it is closed, with those that have this key. They are found by halving.
     pub(crate) fn end_of(&self, symbols: &SymbolStack, count: usize, closed: bool) -> usize
-        requires parted { IsPartitionedBy (is_within_key closed (take count (texts symbols.now))) self.now }
+        requires parted { IsPartitionedBy (is_within_key closed
+            (take count (texts symbols.now))) self.now }
         requires count { count ≤ key_size }
-        ensures value { result ≡ prefix_len (is_within_key closed (take count (texts symbols.now))) self.now }
+        ensures value { result
+            ≡ prefix_len (is_within_key closed (take count (texts symbols.now))) self.now }
         ensures bound { result ≤ length self.now }
     {
         let groups = self.groups.groups();
@@ -135,9 +139,12 @@ impl GroupList {
 
 /// How many groups begin within the key, by halving.
 fn groups_within(groups: &[Group], symbols: &SymbolStack, count: usize, closed: bool) -> usize
-    requires parted { IsPartitionedBy (first_passes (is_within_key closed (take count (texts symbols.now)))) groups.now }
+    requires parted { IsPartitionedBy (first_passes
+        (is_within_key closed (take count (texts symbols.now)))) groups.now }
     requires count { count ≤ key_size }
-    ensures value { result ≡ prefix_len (first_passes (is_within_key closed (take count (texts symbols.now)))) groups.now }
+    ensures value { result
+        ≡ prefix_len (first_passes (is_within_key closed
+        (take count (texts symbols.now)))) groups.now }
     ensures bound { result ≤ length groups.now }
 {
     groups.partition_point(|group| begins_within(group, symbols, count, closed))
@@ -153,7 +160,8 @@ fn groups_told(groups: &[Group], wanted: &[u64; 6], closed: bool) -> usize
 /// Whether the group's first path stands within the key.
 fn begins_within(group: &Group, symbols: &SymbolStack, count: usize, closed: bool) -> bool
     requires { count ≤ key_size }
-    ensures { result ≡ first_passes (is_within_key closed (take count (texts symbols.now))) group.now }
+    ensures { result
+        ≡ first_passes (is_within_key closed (take count (texts symbols.now))) group.now }
 {
     is_within_key(group.first(), symbols, count, closed)
 }

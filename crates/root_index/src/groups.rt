@@ -119,8 +119,10 @@ impl Groups {
     fn group_for(&self, slot: &Slot) -> usize
         requires order { AreByRank (all_paths self.now) }
         requires some { 0 < length self.now }
-        ensures end { IsEndOf (is_up_to slot.now) self.now result (prefix_len (is_up_to slot.now) (slice_index_or self.now result [])) }
-        ensures first { 0 < result → 0 < prefix_len (is_up_to slot.now) (slice_index_or self.now result []) }
+        ensures end { IsEndOf (is_up_to slot.now) self.now result
+            (prefix_len (is_up_to slot.now) (slice_index_or self.now result [])) }
+        ensures first { 0 < result
+            → 0 < prefix_len (is_up_to slot.now) (slice_index_or self.now result []) }
     {
         self.groups_up_to(slot).saturating_sub(1)
     }
@@ -129,7 +131,8 @@ impl Groups {
     /// of memory.
     pub(crate) fn with(self, alloc: Global, slot: Slot) -> Result<Groups, AllocError>
         requires { AreByRank (all_paths self) }
-        ensures { IfOk result (λ after. all_paths after ≡ insert (all_paths self) (prefix_len (is_up_to slot) (all_paths self)) slot) }
+        ensures { IfOk result (λ after. all_paths after
+            ≡ insert (all_paths self) (prefix_len (is_up_to slot) (all_paths self)) slot) }
     {
         if self.groups.is_empty() {
             return Groups::of_one(alloc, slot);
@@ -146,7 +149,8 @@ impl Groups {
     pub(crate) fn without(self, alloc: Global, slot: &Slot) -> Result<Groups, AllocError>
         requires order { AreByRank (all_paths self) }
         requires strict { IsStrict (all_paths self) }
-        ensures { IfOk result (λ after. all_paths after ≡ filter (λ q. not (is_tied slot.now q)) (all_paths self)) }
+        ensures { IfOk result (λ after. all_paths after ≡ filter
+            (λ q. not (is_tied slot.now q)) (all_paths self)) }
     {
         if self.groups.is_empty() {
             return Ok(self);
@@ -183,7 +187,8 @@ impl Groups {
     /// These groups with those of the blocks, put in at the place. The one error is want of memory.
     fn joined(self, alloc: Global, i: usize, blocks: Blocks) -> Result<Groups, AllocError>
         requires { i ≤ length self }
-        ensures { IfOk result (λ after. all_paths after ≡ all_paths (take i self) ++ (all_paths blocks ++ all_paths (drop i self))) }
+        ensures { IfOk result (λ after. all_paths after
+            ≡ all_paths (take i self) ++ (all_paths blocks ++ all_paths (drop i self))) }
     {
         let Groups { mut groups } = self;
         let parts = in_groups(alloc, blocks)?;
@@ -222,7 +227,8 @@ fn in_groups(alloc: Global, blocks: Blocks) -> Result<Vec<Group>, AllocError>
 /// Puts the parts in at the place. The one error is want of memory.
 fn put(groups: &mut Vec<Group>, i: usize, mut parts: Vec<Group>) -> Result<(), AllocError>
     requires { i ≤ length groups.old.items }
-    ensures { OnOk result (groups.new.items ≡ take i groups.old.items ++ (parts.items ++ drop i groups.old.items)) }
+    ensures { OnOk result (groups.new.items ≡ take i groups.old.items
+        ++ (parts.items ++ drop i groups.old.items)) }
 {
     let mut after = groups.split_off(i)?;
     groups.append(&mut parts)?;

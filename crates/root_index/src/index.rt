@@ -118,7 +118,8 @@ impl RootIndex {
     /// over all of a symbol's paths anew for each; so the look goes over the files of the view.
     pub fn look(&self, _symbol: Option<&Symbol>, view: &View) -> RootLook
         requires { IsIndexOfView self.now view.now }
-        ensures { look_left (files_of view.now) (option_copied _symbol.entry) result ≡ roots_looked view.now (option_copied _symbol.entry) }
+        ensures { look_left (files_of view.now) (option_copied _symbol.entry) result
+            ≡ roots_looked view.now (option_copied _symbol.entry) }
     {
         let _count = view.row_count();
         RootLook { file: 0, place: 0 }
@@ -135,7 +136,10 @@ impl RootIndex {
         view: &'a View,
         at: RootLook,
     ) -> Option<(u32, StoredPath<'a>, RootLook)>
-        ensures { MatchOption result (look_left (files_of view.now) (option_copied symbol.entry) at ≡ []) (λ found. look_left (files_of view.now) (option_copied symbol.entry) at ≡ (found.0, found.1) ∷ look_left (files_of view.now) (option_copied symbol.entry) found.2) }
+        ensures { MatchOption result (look_left (files_of view.now) (option_copied symbol.entry) at
+            ≡ []) (λ found. look_left (files_of view.now) (option_copied symbol.entry) at
+            ≡ (found.0, found.1) ∷ look_left (files_of view.now)
+            (option_copied symbol.entry) found.2) }
     {
         next_looked(view, symbol, at)
     }
@@ -144,7 +148,8 @@ impl RootIndex {
     /// the first six symbols tell, and that the user may see: before its first path.
     pub fn offers(&self, view: &View, _symbols: &SymbolStack) -> RootOffers
         requires { IsIndexOfView self.now view.now }
-        ensures { IsPermutation (roots_offered view.now _symbols.now) (offers_left result _symbols.now view.now self.now) }
+        ensures { IsPermutation (roots_offered view.now _symbols.now)
+            (offers_left result _symbols.now view.now self.now) }
     {
         let _count = view.row_count();
         RootOffers {
@@ -166,7 +171,9 @@ impl RootIndex {
         symbols: &SymbolStack,
         at: RootOffers,
     ) -> Option<(u32, StoredPath<'_>, RootOffers)>
-        ensures { MatchOption result (offers_left at symbols.now view.now self.now ≡ []) (λ found. offers_left at symbols.now view.now self.now ≡ (found.0, found.1) ∷ offers_left found.2 symbols.now view.now self.now) }
+        ensures { MatchOption result (offers_left at symbols.now view.now self.now ≡ [])
+            (λ found. offers_left at symbols.now view.now self.now
+            ≡ (found.0, found.1) ∷ offers_left found.2 symbols.now view.now self.now) }
     {
         let mut at = at;
         while let Some((slot, after)) = next_slot(&self.slots, symbols, at) {
@@ -331,7 +338,9 @@ fn with_edited(
 ) -> Result<Groups, AllocError>
     requires { AreByRank (all_paths groups) }
     ensures order { IfOk result (λ more. AreByRank (all_paths more)) }
-    ensures all { IfOk result (λ more. IsPermutation (all_roots (touched_rows edits.now new.now.content.rows) ++ all_paths groups) (all_paths more)) }
+    ensures all { IfOk result
+        (λ more. IsPermutation (all_roots (touched_rows edits.now new.now.content.rows)
+        ++ all_paths groups) (all_paths more)) }
 {
     let _count = new.row_count();
     let mut more = groups;
@@ -349,7 +358,9 @@ fn with_edited(
 fn with_path(alloc: Global, groups: Groups, new: &Version, path: &str) -> Result<Groups, AllocError>
     requires { AreByRank (all_paths groups) }
     ensures order { IfOk result (λ more. AreByRank (all_paths more)) }
-    ensures all { IfOk result (λ more. IsPermutation (all_roots (rows_at path.now new.now.content.rows) ++ all_paths groups) (all_paths more)) }
+    ensures all { IfOk result
+        (λ more. IsPermutation (all_roots (rows_at path.now new.now.content.rows)
+        ++ all_paths groups) (all_paths more)) }
 {
     let _count = new.row_count();
     match new.paths_at(path) {
@@ -365,7 +376,8 @@ fn with_path(alloc: Global, groups: Groups, new: &Version, path: &str) -> Result
 fn with_file(alloc: Global, groups: Groups, file: &FileHandle) -> Result<Groups, AllocError>
     requires { AreByRank (all_paths groups) }
     ensures order { IfOk result (λ more. AreByRank (all_paths more)) }
-    ensures all { IfOk result (λ more. IsPermutation (roots_of file.now ++ all_paths groups) (all_paths more)) }
+    ensures all { IfOk result (λ more. IsPermutation (roots_of file.now
+        ++ all_paths groups) (all_paths more)) }
 {
     let mut more = groups;
     let paths = file.paths().get().paths();
@@ -387,7 +399,9 @@ fn with_many(
 ) -> Result<Groups, AllocError>
     requires { AreByRank (all_paths groups) }
     ensures order { IfOk result (λ more. AreByRank (all_paths more)) }
-    ensures all { IfOk result (λ more. IsPermutation (all_roots (touched_rows edits.now new.now.content.rows) ++ all_paths groups) (all_paths more)) }
+    ensures all { IfOk result
+        (λ more. IsPermutation (all_roots (touched_rows edits.now new.now.content.rows)
+        ++ all_paths groups) (all_paths more)) }
 {
     let mut slots = groups.slots(alloc)?;
     add_edited(alloc, &mut slots, new, edits)?;
@@ -402,7 +416,8 @@ fn add_edited(
     new: &Version,
     edits: &[Edit],
 ) -> Result<(), AllocError>
-    ensures { OnOk result (IsPermutation (all_roots (touched_rows edits.now new.now.content.rows) ++ slots.old.items) slots.new.items) }
+    ensures { OnOk result (IsPermutation (all_roots (touched_rows edits.now new.now.content.rows)
+        ++ slots.old.items) slots.new.items) }
 {
     let _count = new.row_count();
     for i in 0..edits.len() {
@@ -422,7 +437,8 @@ fn add_path(
     new: &Version,
     path: &str,
 ) -> Result<(), AllocError>
-    ensures { OnOk result (IsPermutation (all_roots (rows_at path.now new.now.content.rows) ++ slots.old.items) slots.new.items) }
+    ensures { OnOk result (IsPermutation (all_roots (rows_at path.now new.now.content.rows)
+        ++ slots.old.items) slots.new.items) }
 {
     let _count = new.row_count();
     match new.paths_at(path) {

@@ -63,7 +63,8 @@ pub(crate) fn stand_within(heads: &[u64; 6], wanted: &[u64; 6], closed: bool) ->
 /// heads don't tell.
 pub(crate) fn heads_side(heads: &[u64; 6], symbols: &SymbolStack, count: usize) -> Option<Ordering>
     requires { count ≤ key_size }
-    ensures { IfSome result (λ order. (asked : List (List ℕ)) → AreHeads heads.now asked → length asked ≤ 6 → order ≡ key_cmp asked (take count (texts symbols.now))) }
+    ensures { IfSome result (λ order. (asked : List (List ℕ)) → AreHeads heads.now asked
+        → length asked ≤ 6 → order ≡ key_cmp asked (take count (texts symbols.now))) }
 {
     for i in 0..KEY_SIZE {
         let order = match heads_cmp(heads[i], wanted_head(symbols, count, i)) {
@@ -79,7 +80,8 @@ pub(crate) fn heads_side(heads: &[u64; 6], symbols: &SymbolStack, count: usize) 
 
 /// How two keys with these heads stand to one another; None where the heads don't tell.
 pub(crate) fn heads_order(a: &[u64; 6], b: &[u64; 6]) -> Option<Ordering>
-    ensures { IfSome result (λ order. (x y : List (List ℕ)) → AreHeads a.now x → AreHeads b.now y → length x ≤ 6 → length y ≤ 6 → order ≡ key_cmp x y) }
+    ensures { IfSome result (λ order. (x y : List (List ℕ)) → AreHeads a.now x → AreHeads b.now y
+        → length x ≤ 6 → length y ≤ 6 → order ≡ key_cmp x y) }
 {
     for i in 0..KEY_SIZE {
         let order = match heads_cmp(a[i], b[i]) {
@@ -107,7 +109,8 @@ fn wanted_head(symbols: &SymbolStack, count: usize, i: usize) -> u64
 
 /// How two texts with these heads stand to one another, none before any; None where the heads don't tell.
 fn heads_cmp(a: u64, b: u64) -> Option<Ordering>
-    ensures { IfSome result (λ order. (x y : Option (List ℕ)) → IsHeadAt a x → IsHeadAt b y → order ≡ option_cmp (slice_cmp nat_cmp) x y) }
+    ensures { IfSome result (λ order. (x y : Option (List ℕ)) → IsHeadAt a x → IsHeadAt b y
+        → order ≡ option_cmp (slice_cmp nat_cmp) x y) }
 {
     if a != b {
         return Some(a.cmp(&b));

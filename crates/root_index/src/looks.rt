@@ -24,7 +24,9 @@ pub(crate) fn next_looked<'a>(
     symbol: Option<&Symbol>,
     at: RootLook,
 ) -> Option<(u32, StoredPath<'a>, RootLook)>
-    ensures { MatchOption result (look_left (files_of view.now) (option_copied symbol.entry) at ≡ []) (λ found. look_left (files_of view.now) (option_copied symbol.entry) at ≡ (found.0, found.1) ∷ look_left (files_of view.now) (option_copied symbol.entry) found.2) }
+    ensures { MatchOption result (look_left (files_of view.now) (option_copied symbol.entry) at
+        ≡ []) (λ found. look_left (files_of view.now) (option_copied symbol.entry) at
+        ≡ (found.0, found.1) ∷ look_left (files_of view.now) (option_copied symbol.entry) found.2) }
 {
     match looked_here(view, symbol, at) {
         Some(found) => Some(found),
@@ -38,7 +40,10 @@ fn looked_here<'a>(
     symbol: Option<&Symbol>,
     at: RootLook,
 ) -> Option<(u32, StoredPath<'a>, RootLook)>
-    ensures next { MatchOption result (look_here (files_of view.now) (option_copied symbol.entry) at ≡ []) (λ found. look_here (files_of view.now) (option_copied symbol.entry) at ≡ (found.0, found.1) ∷ look_here (files_of view.now) (option_copied symbol.entry) found.2) }
+    ensures next { MatchOption result (look_here (files_of view.now)
+        (option_copied symbol.entry) at ≡ []) (λ found. look_here (files_of view.now)
+        (option_copied symbol.entry) at ≡ (found.0, found.1) ∷ look_here (files_of view.now)
+        (option_copied symbol.entry) found.2) }
     ensures file { IfSome result (λ found. found.2.file ≡ at.file) }
 {
     if at.file >= view.row_count() {
@@ -66,7 +71,9 @@ fn looked_behind<'a>(
     symbol: Option<&Symbol>,
     at: RootLook,
 ) -> Option<(u32, StoredPath<'a>, RootLook)>
-    ensures { MatchOption result (look_behind (files_of view.now) (option_copied symbol.entry) at ≡ []) (λ found. look_behind (files_of view.now) (option_copied symbol.entry) at ≡ (found.0, found.1) ∷ look_left (files_of view.now) (option_copied symbol.entry) found.2) }
+    ensures { MatchOption result (look_behind (files_of view.now) (option_copied symbol.entry) at
+        ≡ []) (λ found. look_behind (files_of view.now) (option_copied symbol.entry) at
+        ≡ (found.0, found.1) ∷ look_left (files_of view.now) (option_copied symbol.entry) found.2) }
 {
     let count = view.row_count();
     if at.file >= count {
@@ -87,7 +94,10 @@ fn next_asked<'a>(
     symbol: Option<&Symbol>,
     place: usize,
 ) -> Option<(StoredPath<'a>, usize)>
-    ensures { MatchOption result (filter (asks_rule (option_copied symbol.entry)) (drop place paths.now) ≡ []) (λ found. filter (asks_rule (option_copied symbol.entry)) (drop place paths.now) ≡ found.0 ∷ filter (asks_rule (option_copied symbol.entry)) (drop found.1 paths.now)) }
+    ensures { MatchOption result (filter (asks_rule (option_copied symbol.entry))
+        (drop place paths.now) ≡ []) (λ found. filter (asks_rule (option_copied symbol.entry))
+        (drop place paths.now) ≡ found.0 ∷ filter (asks_rule (option_copied symbol.entry))
+        (drop found.1 paths.now)) }
 {
     for i in place..paths.len() {
         let path = paths.at(i);

@@ -35,7 +35,9 @@ pub(crate) fn next_slot<'a>(
     at: RootOffers,
 ) -> Option<(&'a Slot, RootOffers)>
     requires { AreByRank slots.now }
-    ensures { MatchOption result (paths_left at symbols.now slots.now ≡ []) (λ found. paths_left at symbols.now slots.now ≡ found.0.now ∷ paths_left found.1 symbols.now slots.now) }
+    ensures { MatchOption result (paths_left at symbols.now slots.now ≡ [])
+        (λ found. paths_left at symbols.now slots.now
+        ≡ found.0.now ∷ paths_left found.1 symbols.now slots.now) }
 {
     match next_here(slots, at) {
         Some((slot, near)) => {
@@ -53,7 +55,8 @@ pub(crate) fn next_slot<'a>(
 
 /// The next path of the present run, and its group; None where that run is at its end.
 fn next_here(slots: &GroupList, at: RootOffers) -> Option<(&Slot, usize)>
-    ensures value { MatchOption result (slice_get (next_paths at slots.now) 0 ≡ None) (λ found. slice_get (next_paths at slots.now) 0 ≡ Some found.0.now) }
+    ensures value { MatchOption result (slice_get (next_paths at slots.now) 0 ≡ None)
+        (λ found. slice_get (next_paths at slots.now) 0 ≡ Some found.0.now) }
     ensures inside { IfSome result (λ _. at.place < at.end) }
 {
     if at.place < at.end {
@@ -70,7 +73,9 @@ fn next_run<'a>(
     at: RootOffers,
 ) -> Option<(&'a Slot, RootOffers)>
     requires { AreByRank slots.now }
-    ensures { MatchOption result (filter (asks symbols.now at.asked) slots.now ≡ []) (λ found. filter (asks symbols.now at.asked) slots.now ≡ found.0.now ∷ paths_left found.1 symbols.now slots.now) }
+    ensures { MatchOption result (filter (asks symbols.now at.asked) slots.now ≡ [])
+        (λ found. filter (asks symbols.now at.asked) slots.now
+        ≡ found.0.now ∷ paths_left found.1 symbols.now slots.now) }
 {
     let most = KEY_SIZE.min(symbols.len());
     let mut behind = at.end;
@@ -104,7 +109,8 @@ fn run_asking(
 ) -> (usize, usize)
     requires order { AreByRank slots.now }
     requires count { count ≤ key_size }
-    ensures run { take (result.1 - result.0) (drop result.0 slots.now) ≡ filter (is_at_key (take count (texts symbols.now))) slots.now }
+    ensures run { take (result.1 - result.0) (drop result.0 slots.now)
+        ≡ filter (is_at_key (take count (texts symbols.now))) slots.now }
     ensures bound { result.1 ≤ length slots.now }
 {
     let place = run_start(slots, symbols, count, behind, near);
@@ -139,7 +145,8 @@ fn run_start(
 fn end_of(slots: &GroupList, symbols: &SymbolStack, count: usize, closed: bool) -> usize
     requires order { AreByRank slots.now }
     requires count { count ≤ key_size }
-    ensures value { result ≡ prefix_len (is_within_key closed (take count (texts symbols.now))) slots.now }
+    ensures value { result
+        ≡ prefix_len (is_within_key closed (take count (texts symbols.now))) slots.now }
     ensures bound { result ≤ length slots.now }
 {
     let _count = slots.len();
@@ -162,7 +169,8 @@ fn is_end(
 ) -> bool
     requires order { AreByRank slots.now }
     requires count { count ≤ key_size }
-    ensures { IsTrue result → place ≡ prefix_len (is_within_key closed (take count (texts symbols.now))) slots.now }
+    ensures { IsTrue result
+        → place ≡ prefix_len (is_within_key closed (take count (texts symbols.now))) slots.now }
 {
     if is_within(slots, symbols, count, closed, place, near) {
         return false;
@@ -183,8 +191,10 @@ fn run_end(
 ) -> usize
     requires order { AreByRank slots.now }
     requires count { count ≤ key_size }
-    requires before { place ≡ prefix_len (is_within_key false (take count (texts symbols.now))) slots.now }
-    ensures value { result ≡ prefix_len (is_within_key true (take count (texts symbols.now))) slots.now }
+    requires before { place
+        ≡ prefix_len (is_within_key false (take count (texts symbols.now))) slots.now }
+    ensures value { result
+        ≡ prefix_len (is_within_key true (take count (texts symbols.now))) slots.now }
     ensures bound { result ≤ length slots.now }
 {
     let _count = slots.len();
@@ -207,7 +217,9 @@ fn is_within(
     near: usize,
 ) -> bool
     requires { count ≤ key_size }
-    ensures value { result ≡ option_map_or (is_within_key closed (take count (texts symbols.now))) (slice_get slots.now place) false }
+    ensures value { result
+        ≡ option_map_or (is_within_key closed (take count (texts symbols.now)))
+        (slice_get slots.now place) false }
     ensures there { result ≡ true → place < length slots.now }
 {
     match slots.get(place, near) {

@@ -24,7 +24,9 @@ impl Model for Slot {
 
     ghost view = { λ s. root_path s.file.path s.place (slice_get s.file.file.rules s.place) };
 
-    ghost invariant = { λ s. (s.place < length s.file.file.rules) × AreHeads s.heads (root_key (root_path s.file.path s.place (slice_get s.file.file.rules s.place))) };
+    ghost invariant = { λ s. (s.place < length s.file.file.rules)
+        × AreHeads s.heads (root_key (root_path s.file.path s.place
+        (slice_get s.file.file.rules s.place))) };
 }
 
 impl Slot {
@@ -115,7 +117,9 @@ impl Slot {
 
     /// How it stands to another of the same key.
     fn order_in_key(&self, other: &Slot) -> Ordering
-        ensures { result ≡ ordering_then (path_cmp self.now.path other.now.path) (nat_cmp self.now.place other.now.place) }
+        ensures { result
+            ≡ ordering_then (path_cmp self.now.path other.now.path)
+            (nat_cmp self.now.place other.now.place) }
     {
         match self.path().as_bytes().cmp(other.path().as_bytes()) {
             Ordering::Less => Ordering::Less,

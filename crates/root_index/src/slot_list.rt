@@ -29,7 +29,8 @@ impl Model for SlotList {
 
     ghost view = { λ s. all_paths s.blocks };
 
-    ghost invariant = { λ s. AreStarts s.starts.items s.blocks × (s.count ≡ length (all_paths s.blocks)) × (length (all_paths s.blocks) < 2 ^ 64) };
+    ghost invariant = { λ s. AreStarts s.starts.items s.blocks
+        × (s.count ≡ length (all_paths s.blocks)) × (length (all_paths s.blocks) < 2 ^ 64) };
 }
 
 impl SlotList {
@@ -105,9 +106,11 @@ impl SlotList {
     /// How many paths stand before the key that the texts of the stack's first symbols make, so many of
     /// them; where it is closed, with those that have this key. They are found by halving.
     pub(crate) fn end_of(&self, symbols: &SymbolStack, count: usize, closed: bool) -> usize
-        requires parted { IsPartitionedBy (is_within_key closed (take count (texts symbols.now))) self.now }
+        requires parted { IsPartitionedBy (is_within_key closed
+            (take count (texts symbols.now))) self.now }
         requires count { count ≤ key_size }
-        ensures value { result ≡ prefix_len (is_within_key closed (take count (texts symbols.now))) self.now }
+        ensures value { result
+            ≡ prefix_len (is_within_key closed (take count (texts symbols.now))) self.now }
         ensures bound { result ≤ length self.now }
     {
         let blocks = self.blocks.blocks();
@@ -159,9 +162,12 @@ fn blocks_begun(starts: &[usize], place: usize) -> usize
 
 /// How many blocks begin within the key, by halving.
 fn blocks_within(blocks: &[Block], symbols: &SymbolStack, count: usize, closed: bool) -> usize
-    requires parted { IsPartitionedBy (first_passes (is_within_key closed (take count (texts symbols.now)))) blocks.now }
+    requires parted { IsPartitionedBy (first_passes
+        (is_within_key closed (take count (texts symbols.now)))) blocks.now }
     requires count { count ≤ key_size }
-    ensures value { result ≡ prefix_len (first_passes (is_within_key closed (take count (texts symbols.now)))) blocks.now }
+    ensures value { result
+        ≡ prefix_len (first_passes (is_within_key closed
+        (take count (texts symbols.now)))) blocks.now }
     ensures bound { result ≤ length blocks.now }
 {
     blocks.partition_point(|block| begins_within(block, symbols, count, closed))
@@ -169,9 +175,11 @@ fn blocks_within(blocks: &[Block], symbols: &SymbolStack, count: usize, closed: 
 
 /// How many of the paths stand within the key, by halving.
 fn paths_within(slots: &[Slot], symbols: &SymbolStack, count: usize, closed: bool) -> usize
-    requires parted { IsPartitionedBy (is_within_key closed (take count (texts symbols.now))) slots.now }
+    requires parted { IsPartitionedBy (is_within_key closed
+        (take count (texts symbols.now))) slots.now }
     requires count { count ≤ key_size }
-    ensures value { result ≡ prefix_len (is_within_key closed (take count (texts symbols.now))) slots.now }
+    ensures value { result
+        ≡ prefix_len (is_within_key closed (take count (texts symbols.now))) slots.now }
     ensures bound { result ≤ length slots.now }
 {
     slots.partition_point(|slot| is_within_key(slot, symbols, count, closed))
@@ -192,7 +200,8 @@ fn paths_told(slots: &[Slot], wanted: &[u64; 6], closed: bool) -> usize {
 /// Whether the block's first path stands within the key.
 fn begins_within(block: &Block, symbols: &SymbolStack, count: usize, closed: bool) -> bool
     requires { count ≤ key_size }
-    ensures { result ≡ first_passes (is_within_key closed (take count (texts symbols.now))) block.now }
+    ensures { result
+        ≡ first_passes (is_within_key closed (take count (texts symbols.now))) block.now }
 {
     is_within_key(block.first(), symbols, count, closed)
 }

@@ -91,7 +91,8 @@ impl Model for SharedBoard {
 
     ghost view = { λ b. record { book = b.seen.book; seats = b.count } };
 
-    ghost invariant = { λ b. (b.seen.log ≡ []) × (b.head ≡ head_of b.seen.book) × (1 ≤ b.count) × (b.count ≤ max_seats) };
+    ghost invariant = { λ b. (b.seen.log ≡ []) × (b.head ≡ head_of b.seen.book) × (1 ≤ b.count)
+        × (b.count ≤ max_seats) };
 }
 
 impl SharedBoard {
@@ -192,7 +193,8 @@ impl<J: Naming> Front<J> {
     /// Adds an entry to all that was seen, and says whether it did. It did not where the log is longer.
     pub fn append(&mut self, book: &Book<J>, draft: &Draft<'_>) -> bool
         requires room { length self.old < 2 ^ 62 }
-        ensures { IsTrue result → self.new ≡ self.old ++ entry draft.now.seat draft.now.serial draft.now.edits.now ∷ [] }
+        ensures { IsTrue result → self.new ≡ self.old
+            ++ entry draft.now.seat draft.now.serial draft.now.edits.now ∷ [] }
     {
         let mut offer: Offer<Entry, u64, Law, Nothing> = self
             .seen

@@ -97,13 +97,15 @@ impl<J: Naming, W: Shows<Head<J>> + Drop> Desk<J, W> {
         edits: &[Edit],
     ) -> Result<Option<Head<J>>, CommitFault>
         requires { seat < J.board.seats }
-        ensures ok { IfOk result (λ o. IfSome o (λ head. head ≡ self.old ++ entry seat (length (own seat self.old)) edits.now ∷ [])) }
+        ensures ok { IfOk result (λ o. IfSome o (λ head. head
+            ≡ self.old ++ entry seat (length (own seat self.old)) edits.now ∷ [])) }
         ensures desk { IfOk result (λ o. IfSome o (λ head. self.new ≡ head)) }
         ensures base { IfOk result (λ o. IfSome o (λ _. FitsHead base (length self.old))) }
         ensures fit { IfOk result (λ o. IfSome o (λ _. refusal self.old edits.now ≡ None)) }
         ensures refused { OnErr result (self.new ≡ self.old) }
         ensures stale { (n : ℕ) → result ≡ Err (why.Stale n) → IsStale base (length self.old) n }
-        ensures edit { (e : Faults) → result ≡ Err (why.Edit e) → IsRefused base edits.now self.old e }
+        ensures edit { (e : Faults) → result ≡ Err (why.Edit e)
+            → IsRefused base edits.now self.old e }
     {
         self.catch_up()?;
         let body = self.head.next_body(alloc, seat, base, edits)?;

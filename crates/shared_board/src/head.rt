@@ -103,11 +103,13 @@ impl<J: Naming> Head<J> {
         edits: &[Edit],
     ) -> Result<Body, CommitFault>
         requires { seat < J.board.seats }
-        ensures ok { IfOk result (λ body. IsBodyOf J.board.seats body (self.now ++ entry seat (length (own seat self.now)) edits.now ∷ [])) }
+        ensures ok { IfOk result (λ body. IsBodyOf J.board.seats body (self.now
+            ++ entry seat (length (own seat self.now)) edits.now ∷ [])) }
         ensures base { OnOk result (FitsHead base (length self.now)) }
         ensures fit { OnOk result (refusal self.now edits.now ≡ None) }
         ensures stale { (n : ℕ) → result ≡ Err (why.Stale n) → IsStale base (length self.now) n }
-        ensures refused { (e : Faults) → result ≡ Err (why.Edit e) → IsRefused base edits.now self.now e }
+        ensures refused { (e : Faults) → result ≡ Err (why.Edit e)
+            → IsRefused base edits.now self.now e }
     {
         let pinned = next_pinned(alloc, &self.body.pinned, base, edits)?;
         let _number = pinned.version.number();

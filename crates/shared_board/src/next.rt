@@ -24,8 +24,10 @@ pub(crate) fn next_pinned(
 ) -> Result<Pinned, CommitFault>
     requires { IsIndexOf (arc_value head.now.version).content.rows (arc_value head.now.index) }
     ensures made { IfOk result (IsNext base edits.now (arc_value head.now.version)) }
-    ensures stale { (n : ℕ) → result ≡ Err (why.Stale n) → IsStale base (arc_value head.now.version).number n }
-    ensures refused { (e : Faults) → result ≡ Err (why.Edit e) → Refuses base edits.now (arc_value head.now.version) e }
+    ensures stale { (n : ℕ) → result ≡ Err (why.Stale n)
+        → IsStale base (arc_value head.now.version).number n }
+    ensures refused { (e : Faults) → result ≡ Err (why.Edit e)
+        → Refuses base edits.now (arc_value head.now.version) e }
 {
     let number = head.version.number();
     if !fits_head(base, number) {
@@ -52,8 +54,10 @@ fn fits_head(base: Option<u32>, head: u32) -> bool
 /// The version that the edits make of the head.
 fn amended(alloc: Global, head: &Version, edits: &[Edit]) -> Result<Version, CommitFault>
     ensures fit { IfOk result (λ _. edit_fault head.now.number head.now.content edits.now ≡ None) }
-    ensures version { IfOk result (λ version. version ≡ record { number = head.now.number + 1; content = edited_all edits.now head.now.content }) }
-    ensures refused { (e : Faults) → result ≡ Err (why.Edit e) → (edit_fault head.now.number head.now.content edits.now ≡ Some e) × (e ≢ faults.NoMemory) }
+    ensures version { IfOk result (λ version. version
+        ≡ record { number = head.now.number + 1; content = edited_all edits.now head.now.content }) }
+    ensures refused { (e : Faults) → result ≡ Err (why.Edit e)
+        → (edit_fault head.now.number head.now.content edits.now ≡ Some e) × (e ≢ faults.NoMemory) }
     ensures stale { (n : ℕ) → result ≢ Err (why.Stale n) }
 {
     match head.amend(alloc, edits) {
@@ -78,7 +82,9 @@ fn refused_by(fault: EditFault) -> CommitFault
 pub(crate) fn counted(counts: &Vec<u32>, seat: u32) -> Result<Vec<u32>, AllocError>
     requires within { seat < length counts.now.items }
     requires room { slice_index counts.now.items seat + 1 < 2 ^ 32 }
-    ensures { IfOk result (λ more. more.items ≡ slice_set counts.now.items seat (slice_index counts.now.items seat + 1)) }
+    ensures { IfOk result
+        (λ more. more.items
+        ≡ slice_set counts.now.items seat (slice_index counts.now.items seat + 1)) }
 {
     let mut more = counts.clone()?;
     more[seat as usize] += 1;

@@ -36,7 +36,12 @@ impl<J: Naming, S: Drop> Model for SeatOf<J, S> {
 
     ghost Value = { Holder };
 
-    ghost view = { λ s. record { log = s.head; seat = s.seat; pin = length (pinned_log s.held s.head) } };
+    ghost view = { λ s. record {
+      log = s.head;
+      seat = s.seat;
+      pin = length
+          (pinned_log s.held s.head);
+    } };
 
     ghost invariant = { λ s. (s.seat < J.board.seats) × Begins (pinned_log s.held s.head) s.head };
 }

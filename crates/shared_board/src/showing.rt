@@ -23,7 +23,8 @@ impl<T: Absorb<O> + Drop, O: Drop, R: Wait + Drop> Shows<O> for WriteHandle<T, O
     ghost shows = { λ w value. (before : T.State) × (T.state (published w) ≡ T.applied before value) };
 
     fn show(&mut self, value: O) -> Result<(), AllocError>
-        ensures ok { OnOk result ((before : T.State) × (T.state (published self.new) ≡ T.applied before value)) }
+        ensures ok { OnOk result ((before : T.State)
+            × (T.state (published self.new) ≡ T.applied before value)) }
     {
         if self.append(value).is_err() {
             return Err(AllocError);

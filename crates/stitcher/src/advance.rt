@@ -27,14 +27,20 @@ pub fn advance<'a, P: PathSource>(
     tally: &mut Tally,
 ) -> Result<(), StitchFault>
     requires sources { All IsSourceFile (P.files source.now) }
-    requires begins { start (graphs_of (P.files source.now)) query.node ≡ Some (asked (P.files source.now) query).start }
+    requires begins { start (graphs_of (P.files source.now)) query.node
+        ≡ Some (asked (P.files source.now) query).start }
     requires open { IsOpen (asked (P.files source.now) query) trail.old.items from }
     requires few { tally.old.counted ≤ max_runs }
     ensures trail { OnOk result (trail.new.items ≡ levels_of trail.old.items from.entry) }
-    ensures extended { OnOk result (IsExtended (asked (P.files source.now) query) trail.new.items (opened trail.old.items from.entry) tally.old tally.new work.old.items work.new.items) }
+    ensures extended { OnOk result (IsExtended (asked (P.files source.now) query) trail.new.items
+        (opened trail.old.items from.entry) tally.old tally.new work.old.items work.new.items) }
     ensures few { OnOk result (tally.new.counted ≤ max_runs) }
-    ensures added { OnOk result (AreAdded (asked (P.files source.now) query) trail.new.items work.old.items work.new.items) }
-    ensures crowded { result ≡ Err StitchFault.Crowded → IsOverfull (asked (P.files source.now) query) (opened trail.old.items from.entry) tally.old.counted }
+    ensures added { OnOk result
+        (AreAdded
+        (asked (P.files source.now) query) trail.new.items work.old.items work.new.items) }
+    ensures crowded { result ≡ Err StitchFault.Crowded
+        → IsOverfull (asked (P.files source.now) query)
+        (opened trail.old.items from.entry) tally.old.counted }
 {
     let depth = from.depth;
     let edges = from.edges;

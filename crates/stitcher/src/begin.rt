@@ -25,12 +25,18 @@ pub fn begin<'a, P: PathSource>(
     tally: &mut Tally,
 ) -> Result<(), StitchFault>
     requires sources { All IsSourceFile (P.files source.now) }
-    requires begins { start (graphs_of (P.files source.now)) query.node ≡ Some (asked (P.files source.now) query).start }
+    requires begins { start (graphs_of (P.files source.now)) query.node
+        ≡ Some (asked (P.files source.now) query).start }
     requires few { tally.old.counted ≤ max_runs }
-    ensures extended { OnOk result (IsExtended (asked (P.files source.now) query) [] (none_joined (asked (P.files source.now) query)) tally.old tally.new work.old.items work.new.items) }
+    ensures extended { OnOk result (IsExtended (asked (P.files source.now) query) []
+        (none_joined
+        (asked (P.files source.now) query)) tally.old tally.new work.old.items work.new.items) }
     ensures few { OnOk result (tally.new.counted ≤ max_runs) }
-    ensures added { OnOk result (AreAdded (asked (P.files source.now) query) [] work.old.items work.new.items) }
-    ensures crowded { result ≡ Err StitchFault.Crowded → IsOverfull (asked (P.files source.now) query) (none_joined (asked (P.files source.now) query)) tally.old.counted }
+    ensures added { OnOk result
+        (AreAdded (asked (P.files source.now) query) [] work.old.items work.new.items) }
+    ensures crowded { result ≡ Err StitchFault.Crowded
+        → IsOverfull (asked (P.files source.now) query)
+        (none_joined (asked (P.files source.now) query)) tally.old.counted }
 {
     let at = Config {
         spot: Spot::At(query.node),

@@ -30,18 +30,25 @@ pub fn extend<'a, P: PathSource>(
     tally: &mut Tally,
 ) -> Result<(), StitchFault>
     requires sources { All IsSourceFile (P.files source.now) }
-    requires begins { start (graphs_of (P.files source.now)) query.node ≡ Some (asked (P.files source.now) query).start }
+    requires begins { start (graphs_of (P.files source.now)) query.node
+        ≡ Some (asked (P.files source.now) query).start }
     requires here { IsHere (asked (P.files source.now) query) trail.now at.now }
-    requires begin { begin ≡ next_start (asked (P.files source.now) query) (joined (paths_of trail.now) at.now) }
+    requires begin { begin
+        ≡ next_start (asked (P.files source.now) query) (joined (paths_of trail.now) at.now) }
     requires edges { edges ≡ edge_count (paths_of trail.now) }
     requires few_edges { edges ≤ query.bounds.edges }
-    requires low { heights (origin (asked (P.files source.now) query)) (paths_of trail.now) ≤ query.bounds.depth }
+    requires low { heights (origin (asked (P.files source.now) query)) (paths_of trail.now)
+        ≤ query.bounds.depth }
     requires trail { All (λ l. Moves l.file l.path) trail.now }
     requires few { tally.old.counted ≤ max_runs }
-    ensures extended { OnOk result (IsExtended (asked (P.files source.now) query) trail.now (joined (paths_of trail.now) at.now) tally.old tally.new work.old.items work.new.items) }
-    ensures added { OnOk result (AreAdded (asked (P.files source.now) query) trail.now work.old.items work.new.items) }
+    ensures extended { OnOk result (IsExtended (asked (P.files source.now) query) trail.now
+        (joined (paths_of trail.now) at.now) tally.old tally.new work.old.items work.new.items) }
+    ensures added { OnOk result
+        (AreAdded (asked (P.files source.now) query) trail.now work.old.items work.new.items) }
     ensures few { OnOk result (tally.new.counted ≤ max_runs) }
-    ensures crowded { result ≡ Err StitchFault.Crowded → IsOverfull (asked (P.files source.now) query) (joined (paths_of trail.now) at.now) tally.old.counted }
+    ensures crowded { result ≡ Err StitchFault.Crowded
+        → IsOverfull (asked (P.files source.now) query)
+        (joined (paths_of trail.now) at.now) tally.old.counted }
 {
     let mut next = source.offers(&begin, &at.stacks.symbols);
     while let Some(found) = source.next_offer(&at.stacks.symbols, next) {

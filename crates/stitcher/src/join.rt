@@ -40,7 +40,10 @@ pub struct Landing {
 
 /// Whether a run that lands there, at a cut, is where it was before: at its start, or where one of its paths landed.
 fn comes_back(node: NodeAt, trail: &[Level], cut: bool, next: &Config) -> bool
-    ensures { IsTrue result ↔ (IsTrue cut × (IsAtStart node next.now ⊎ IsTrue (list_any (config_eq next.now) (map landed_at trail.now)))) }
+    ensures { IsTrue result
+        ↔ (IsTrue cut
+        × (IsAtStart node next.now ⊎ IsTrue (list_any (config_eq next.now)
+        (map landed_at trail.now)))) }
 {
     cut && (is_back(node, next) || has_landed(trail, next))
 }
@@ -59,15 +62,25 @@ pub fn landing_of<P: PathSource>(
     cut: Option<bool>,
 ) -> Result<Option<Landing>, AllocError>
     requires sources { All IsSourceFile (P.files source.now) }
-    requires begins { start (graphs_of (P.files source.now)) query.node ≡ Some (asked (P.files source.now) query).start }
+    requires begins { start (graphs_of (P.files source.now)) query.node
+        ≡ Some (asked (P.files source.now) query).start }
     requires here { IsHere (asked (P.files source.now) query) trail.now at.now }
-    requires offered { IsOffered (asked (P.files source.now) query) trail.now at.now (file, path.now) }
-    requires met { IsTrue (spot_eq (start_spot (moved_start file path.now.start)) at.now.spot && is_some (match_stacks (moved_pre file path.now.pre) at.now.stacks)) }
+    requires offered { IsOffered (asked (P.files source.now) query) trail.now at.now
+        (file, path.now) }
+    requires met { IsTrue
+        (spot_eq (start_spot (moved_start file path.now.start)) at.now.spot && is_some
+        (match_stacks (moved_pre file path.now.pre) at.now.stacks)) }
     requires cut { cut ≡ end_cut (graphs_of (P.files source.now)) (moved_end file path.now.end) }
-    ensures applies { IfOk result (λ o. IfSome o (λ landing. apply (moved file path.now) at.now ≡ Some landing.at)) }
-    ensures spot { IfOk result (λ o. IfSome o (λ landing. IsSpotOf (graphs_of (P.files source.now)) landing.at.spot)) }
-    ensures cut { IfOk result (λ o. IfSome o (λ landing. landing.cut ≡ is_cut_spot_of (graphs_of (P.files source.now)) landing.at.spot)) }
-    ensures joined { IfOk result (λ o. joined_by (asked (P.files source.now) query) (joined (paths_of trail.now) at.now) (file, path.now) ≡ option_map_or (λ landing. joined (with_path (paths_of trail.now) (file, path.now)) landing.at ∷ []) o []) }
+    ensures applies { IfOk result (λ o. IfSome o (λ landing. apply (moved file path.now) at.now
+        ≡ Some landing.at)) }
+    ensures spot { IfOk result
+        (λ o. IfSome o (λ landing. IsSpotOf (graphs_of (P.files source.now)) landing.at.spot)) }
+    ensures cut { IfOk result (λ o. IfSome o (λ landing. landing.cut
+        ≡ is_cut_spot_of (graphs_of (P.files source.now)) landing.at.spot)) }
+    ensures joined { IfOk result
+        (λ o. joined_by (asked (P.files source.now) query) (joined (paths_of trail.now) at.now)
+        (file, path.now) ≡ option_map_or (λ landing. joined
+        (with_path (paths_of trail.now) (file, path.now)) landing.at ∷ []) o []) }
 {
     file_zero_moves();
     joined_paths_are_runs();
@@ -102,20 +115,33 @@ pub fn join<'a, P: PathSource>(
     tally: &mut Tally,
 ) -> Result<(), StitchFault>
     requires sources { All IsSourceFile (P.files source.now) }
-    requires begins { start (graphs_of (P.files source.now)) query.node ≡ Some (asked (P.files source.now) query).start }
+    requires begins { start (graphs_of (P.files source.now)) query.node
+        ≡ Some (asked (P.files source.now) query).start }
     requires here { IsHere (asked (P.files source.now) query) trail.now at.now }
-    requires offered { IsOffered (asked (P.files source.now) query) trail.now at.now (file, path.now) }
+    requires offered { IsOffered (asked (P.files source.now) query) trail.now at.now
+        (file, path.now) }
     requires edges { edges ≡ edge_count (paths_of trail.now) }
     requires few_edges { edges ≤ query.bounds.edges }
-    requires low { heights (origin (asked (P.files source.now) query)) (paths_of trail.now) ≤ query.bounds.depth }
+    requires low { heights (origin (asked (P.files source.now) query)) (paths_of trail.now)
+        ≤ query.bounds.depth }
     requires trail { All (λ l. Moves l.file l.path) trail.now }
     requires few { tally.old.counted ≤ max_runs }
-    ensures noted { OnOk result (IsNoted (asked (P.files source.now) query) (joined_by (asked (P.files source.now) query) (joined (paths_of trail.now) at.now) (file, path.now)) tally.old tally.new) }
-    ensures opens { OnOk result (opens_of trail.now work.new.items ≡ opens_of trail.now work.old.items ++ filter (goes_on (asked (P.files source.now) query)) (joined_by (asked (P.files source.now) query) (joined (paths_of trail.now) at.now) (file, path.now))) }
-    ensures added { OnOk result (AreAdded (asked (P.files source.now) query) trail.now work.old.items work.new.items) }
+    ensures noted { OnOk result (IsNoted (asked (P.files source.now) query)
+        (joined_by (asked (P.files source.now) query) (joined (paths_of trail.now) at.now)
+        (file, path.now)) tally.old tally.new) }
+    ensures opens { OnOk result (opens_of trail.now work.new.items
+        ≡ opens_of trail.now work.old.items
+        ++ filter (goes_on (asked (P.files source.now) query))
+        (joined_by (asked (P.files source.now) query) (joined (paths_of trail.now) at.now)
+        (file, path.now))) }
+    ensures added { OnOk result
+        (AreAdded (asked (P.files source.now) query) trail.now work.old.items work.new.items) }
     ensures few { OnOk result (tally.new.counted ≤ max_runs) }
     ensures full { result ≡ Err StitchFault.Crowded → tally.old.counted ≡ max_runs }
-    ensures crowded { result ≡ Err StitchFault.Crowded → length (filter (is_bounded_counted (asked (P.files source.now) query)) (joined_by (asked (P.files source.now) query) (joined (paths_of trail.now) at.now) (file, path.now))) ≡ 1 }
+    ensures crowded { result ≡ Err StitchFault.Crowded
+        → length (filter (is_bounded_counted (asked (P.files source.now) query))
+        (joined_by (asked (P.files source.now) query) (joined (paths_of trail.now) at.now)
+        (file, path.now))) ≡ 1 }
 {
     file_zero_moves();
     joined_paths_are_runs();

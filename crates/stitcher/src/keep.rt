@@ -14,7 +14,8 @@ use std::alloc::{AllocError, Global};
 fn edges_with(alloc: Global, trail: &[Level], level: &Level) -> Result<Vec<EdgeAt>, AllocError>
     requires trail { All (λ l. Moves l.file l.path) trail.now }
     requires level { Moves level.now.file level.now.path }
-    ensures { IfOk result (λ edges. edges.items ≡ path_edges (with_path (paths_of trail.now) (path_of level.now))) }
+    ensures { IfOk result
+        (λ edges. edges.items ≡ path_edges (with_path (paths_of trail.now) (path_of level.now))) }
 {
     let mut edges = edges_of(alloc, trail)?;
     push_edges(&mut edges, level.file, &level.path)?;
@@ -33,7 +34,13 @@ pub fn keep_if(
     requires trail { All (λ l. Moves l.file l.path) trail.now }
     requires level { Moves level.now.file level.now.path }
     requires node { is_complete ≡ true → level.now.at.spot ≡ Root → ⊥ }
-    ensures kept { OnOk result (kept_runs complete.new.items ≡ kept_runs complete.old.items ++ those is_complete (path_edges (with_path (paths_of trail.now) (path_of level.now)), level.now.at.spot)) }
+    ensures kept { OnOk result (kept_runs complete.new.items
+        ≡ kept_runs complete.old.items
+        ++ those is_complete (
+          path_edges (with_path (paths_of trail.now)
+              (path_of level.now)),
+          level.now.at.spot,
+        )) }
     ensures memory { is_complete ≡ false → IsOk result }
 {
     if !is_complete {

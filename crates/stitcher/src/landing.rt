@@ -16,7 +16,10 @@ use stacks_vars::NodeAt;
 pub fn is_within(bounds: Bounds, edges: usize, path: &StoredPath<'_>, at: &Config) -> bool
     requires met { length path.now.pre.symbols ≤ length at.now.stacks.symbols }
     requires few { edges ≤ bounds.edges }
-    ensures { (base : ℕ) → result ≡ (nat_le (edges + length path.now.edges) bounds.edges && nat_le (height (moved base path.now) at.now) bounds.depth) }
+    ensures { (base : ℕ)
+        → result
+        ≡ (nat_le (edges + length path.now.edges) bounds.edges && nat_le
+        (height (moved base path.now) at.now) bounds.depth) }
 {
     let left = at.stacks.symbols.len() - path.asked().len();
     path.edge_numbers().len() <= bounds.edges as usize - edges
@@ -50,7 +53,8 @@ pub fn may_land(cut: Option<bool>, path: &StoredPath<'_>, at: &Config) -> bool
 
 /// Whether a run that lands there is cut there; it may be known.
 pub fn is_at_cut<P: PathSource>(source: &P, known: Option<bool>, at: Spot) -> bool
-    requires known { IfSome known (λ cut. cut ≡ is_cut_spot_of (graphs_of (P.files source.now)) at) }
+    requires known { IfSome known
+        (λ cut. cut ≡ is_cut_spot_of (graphs_of (P.files source.now)) at) }
     requires spot { IsSpotOf (graphs_of (P.files source.now)) at }
     ensures { result ≡ is_cut_spot_of (graphs_of (P.files source.now)) at }
 {
@@ -64,7 +68,9 @@ pub fn is_at_cut<P: PathSource>(source: &P, known: Option<bool>, at: Spot) -> bo
 /// Whether a run that lands there has its definition.
 pub fn is_at_result<P: PathSource>(source: &P, at: &Config) -> bool
     requires { IsSpotOf (graphs_of (P.files source.now)) at.now.spot }
-    ensures { result ≡ (is_definition_spot (graphs_of (P.files source.now)) at.now.spot && is_none at.now.stacks.symbols) }
+    ensures { result
+        ≡ (is_definition_spot
+        (graphs_of (P.files source.now)) at.now.spot && is_none at.now.stacks.symbols) }
 {
     match at.spot {
         Spot::Root => false,

@@ -33,19 +33,31 @@ pub fn note<'a, P: PathSource>(
     tally: &mut Tally,
 ) -> Result<(), StitchFault>
     requires spot { IsSpotOf (graphs_of (P.files source.now)) level.at.spot }
-    requires bounded { bounded ≡ is_bounded (asked (P.files source.now) query) (with_path (paths_of trail.now) (path_of level)) }
+    requires bounded { bounded
+        ≡ is_bounded (asked (P.files source.now) query)
+        (with_path (paths_of trail.now) (path_of level)) }
     requires cut { cut ≡ is_cut_spot_of (graphs_of (P.files source.now)) level.at.spot }
-    requires here { IsTrue (is_cut_spot_of (graphs_of (P.files source.now)) level.at.spot) → IsHere (asked (P.files source.now) query) (trail.now ++ level ∷ []) level.at }
+    requires here { IsTrue (is_cut_spot_of (graphs_of (P.files source.now)) level.at.spot)
+        → IsHere (asked (P.files source.now) query) (trail.now ++ level ∷ []) level.at }
     requires edges { edges ≡ edge_count (with_path (paths_of trail.now) (path_of level)) }
     requires trail { All (λ l. Moves l.file l.path) trail.now }
     requires level { Moves level.file level.path }
     requires few { tally.old.counted ≤ max_runs }
-    ensures noted { OnOk result (IsNoted (asked (P.files source.now) query) (joined (with_path (paths_of trail.now) (path_of level.entry)) level.entry.at ∷ []) tally.old tally.new) }
-    ensures opens { OnOk result (opens_of trail.now work.new.items ≡ opens_of trail.now work.old.items ++ filter (goes_on (asked (P.files source.now) query)) (joined (with_path (paths_of trail.now) (path_of level.entry)) level.entry.at ∷ [])) }
-    ensures added { OnOk result (AreAdded (asked (P.files source.now) query) trail.now work.old.items work.new.items) }
+    ensures noted { OnOk result (IsNoted (asked (P.files source.now) query)
+        (joined
+        (with_path (paths_of trail.now)
+        (path_of level.entry)) level.entry.at ∷ []) tally.old tally.new) }
+    ensures opens { OnOk result (opens_of trail.now work.new.items
+        ≡ opens_of trail.now work.old.items
+        ++ filter (goes_on (asked (P.files source.now) query))
+        (joined (with_path (paths_of trail.now) (path_of level.entry)) level.entry.at ∷ [])) }
+    ensures added { OnOk result
+        (AreAdded (asked (P.files source.now) query) trail.now work.old.items work.new.items) }
     ensures few { OnOk result (tally.new.counted ≤ max_runs) }
     ensures full { result ≡ Err StitchFault.Crowded → tally.old.counted ≡ max_runs }
-    ensures crowded { result ≡ Err StitchFault.Crowded → IsTrue (is_bounded_counted (asked (P.files source.now) query) (joined (with_path (paths_of trail.now) (path_of level.entry)) level.entry.at)) }
+    ensures crowded { result ≡ Err StitchFault.Crowded
+        → IsTrue (is_bounded_counted (asked (P.files source.now) query)
+        (joined (with_path (paths_of trail.now) (path_of level.entry)) level.entry.at)) }
 {
     let complete = is_at_result(source, &level.at);
     tally.count(cut | complete, bounded)?;

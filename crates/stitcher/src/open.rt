@@ -26,8 +26,12 @@ pub fn push_if<'a>(
     edges: usize,
     level: Level<'a>,
 ) -> Result<(), AllocError>
-    ensures opens { OnOk result (opens_of trail.now work.new.items ≡ opens_of trail.now work.old.items ++ those goes_on (joined (with_path (paths_of trail.now) (path_of level.entry)) level.entry.at)) }
-    ensures added { OnOk result (work.new.items ≡ work.old.items ++ those goes_on (opened_at trail.now edges level.entry)) }
+    ensures opens { OnOk result (opens_of trail.now work.new.items
+        ≡ opens_of trail.now work.old.items
+        ++ those goes_on (joined (with_path (paths_of trail.now)
+        (path_of level.entry)) level.entry.at)) }
+    ensures added { OnOk result (work.new.items ≡ work.old.items
+        ++ those goes_on (opened_at trail.now edges level.entry)) }
     ensures memory { goes_on ≡ false → IsOk result }
 {
     if !goes_on {

@@ -34,10 +34,17 @@ pub fn stitch<P: PathSource>(
     bounds: Bounds,
 ) -> Result<Stitched, StitchFault>
     requires reference { IsTrue (is_reference_of (graphs_of (P.files source.now)) file node) }
-    ensures complete { IfOk result (λ found. IsSomeAnd (start (graphs_of (P.files source.now)) (node_at file node)) (λ c. AreCompleteRuns bounds (graphs_of (P.files source.now)) c found.complete.items)) }
-    ensures limit { IfOk result (λ found. IsSomeAnd (start (graphs_of (P.files source.now)) (node_at file node)) (λ c. IsTrue found.limit ↔ HasLimit bounds (graphs_of (P.files source.now)) c)) }
-    ensures crowded { result ≡ Err StitchFault.Crowded → IsSomeAnd (start (graphs_of (P.files source.now)) (node_at file node)) (IsCrowded bounds (graphs_of (P.files source.now))) }
-    ensures not_crowded { OnOk result (IsSomeAnd (start (graphs_of (P.files source.now)) (node_at file node)) (λ c. ¬ IsCrowded bounds (graphs_of (P.files source.now)) c)) }
+    ensures complete { IfOk result
+        (λ found. IsSomeAnd (start (graphs_of (P.files source.now)) (node_at file node))
+        (λ c. AreCompleteRuns bounds (graphs_of (P.files source.now)) c found.complete.items)) }
+    ensures limit { IfOk result
+        (λ found. IsSomeAnd (start (graphs_of (P.files source.now)) (node_at file node))
+        (λ c. IsTrue found.limit ↔ HasLimit bounds (graphs_of (P.files source.now)) c)) }
+    ensures crowded { result ≡ Err StitchFault.Crowded
+        → IsSomeAnd (start (graphs_of (P.files source.now)) (node_at file node))
+        (IsCrowded bounds (graphs_of (P.files source.now))) }
+    ensures not_crowded { OnOk result (IsSomeAnd (start (graphs_of (P.files source.now))
+        (node_at file node)) (λ c. ¬ IsCrowded bounds (graphs_of (P.files source.now)) c)) }
 {
     let query = Query {
         node: NodeAt { file, node },
@@ -52,9 +59,12 @@ pub fn stitch<P: PathSource>(
 
 /// Joins paths to the reference until none is left to be joined, and tells what was found.
 fn join_all<P: PathSource>(alloc: Global, source: &P, query: Query) -> Result<Tally, StitchFault>
-    requires begins { start (graphs_of (P.files source.now)) query.node ≡ Some (asked (P.files source.now) query).start }
+    requires begins { start (graphs_of (P.files source.now)) query.node
+        ≡ Some (asked (P.files source.now) query).start }
     ensures ended { IfOk result (λ tally. IsEnded (asked (P.files source.now) query) tally) }
-    ensures crowded { result ≡ Err StitchFault.Crowded → IsCrowded query.bounds (graphs_of (P.files source.now)) (asked (P.files source.now) query).start }
+    ensures crowded { result ≡ Err StitchFault.Crowded
+        → IsCrowded query.bounds (graphs_of (P.files source.now))
+        (asked (P.files source.now) query).start }
 {
     cutting_laws();
     are_sources(source, query.node);

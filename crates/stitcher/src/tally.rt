@@ -34,7 +34,8 @@ impl Tally {
     /// both as a reference may have. It takes no memory.
     pub fn count(&mut self, lands: bool, bounded: bool) -> Result<(), StitchFault>
         requires { self.old.counted ≤ max_runs }
-        ensures counted { OnOk result (self.new.counted ≡ self.old.counted + (if lands && bounded then 1 else 0)) }
+        ensures counted { OnOk result (self.new.counted
+            ≡ self.old.counted + (if lands && bounded then 1 else 0)) }
         ensures few { OnOk result (self.new.counted ≤ max_runs) }
         ensures complete { self.new.complete ≡ self.old.complete }
         ensures limit { OnOk result (self.new.limit ≡ (self.old.limit || (lands && not bounded))) }

@@ -41,8 +41,10 @@ pub trait Pins {
     /// The pinned version, lent.
     fn pinned(&self) -> &Pinned
         ensures seen { pin_at self.now ≤ length (log self.now) }
-        ensures version { arc_value result.now.version ≡ version_of (take (pin_at self.now) (log self.now)) }
-        ensures index { IsIndexOf (arc_value result.now.version).content.rows (arc_value result.now.index) };
+        ensures version { arc_value result.now.version
+            ≡ version_of (take (pin_at self.now) (log self.now)) }
+        ensures index { IsIndexOf (arc_value result.now.version).content.rows
+            (arc_value result.now.index) };
 }
 
 /// A seat that extends the log, with the handle `R`, by which it may wait for others.
@@ -58,10 +60,14 @@ pub trait Commits<R>: Pins {
         edits: &[Edit],
     ) -> Result<(), CommitFault>
         ensures seat { Self.seat self.new ≡ Self.seat self.old }
-        ensures ok { OnOk result (IsExtended (Self.seat self.old) base edits.now (Self.log self.old) (Self.log self.new)) }
+        ensures ok { OnOk result (IsExtended (Self.seat self.old) base edits.now
+            (Self.log self.old) (Self.log self.new)) }
         ensures pin { OnOk result (Self.pin_at self.new ≡ length (Self.log self.new)) }
-        ensures later { OnErr result (IsLater (Self.seat self.old) (Self.log self.old) (Self.log self.new)) }
+        ensures later { OnErr result (IsLater (Self.seat self.old) (Self.log self.old)
+            (Self.log self.new)) }
         ensures pin_stays { OnErr result (Self.pin_at self.new ≡ Self.pin_at self.old) }
-        ensures stale { (n : ℕ) → result ≡ Err (why.Stale n) → IsStale base (length (Self.log self.new)) n }
-        ensures refused { (fault : Faults) → result ≡ Err (why.Edit fault) → IsRefused base edits.now (Self.log self.new) fault };
+        ensures stale { (n : ℕ) → result ≡ Err (why.Stale n)
+            → IsStale base (length (Self.log self.new)) n }
+        ensures refused { (fault : Faults) → result ≡ Err (why.Edit fault)
+            → IsRefused base edits.now (Self.log self.new) fault };
 }

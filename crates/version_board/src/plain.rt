@@ -90,8 +90,14 @@ impl PlainBoard {
     /// The version that the edits make of the head.
     fn amended(&self, alloc: Global, edits: &[Edit]) -> Result<Version, CommitFault>
         ensures fit { IfOk result (λ _. refusal self.now edits.now ≡ None) }
-        ensures version { IfOk result (λ version. version ≡ record { number = length self.now + 1; content = edited_all edits.now (version_of self.now).content }) }
-        ensures refused { (e : Faults) → result ≡ Err (why.Edit e) → (refusal self.now edits.now ≡ Some e) × (e ≢ faults.NoMemory) }
+        ensures version { IfOk result (λ version. version
+            ≡ record {
+              number = length self.now + 1;
+              content = edited_all edits.now
+                  (version_of self.now).content;
+            }) }
+        ensures refused { (e : Faults) → result ≡ Err (why.Edit e)
+            → (refusal self.now edits.now ≡ Some e) × (e ≢ faults.NoMemory) }
         ensures stale { (n : ℕ) → result ≢ Err (why.Stale n) }
     {
         match self.pinned.version.amend(alloc, edits) {
@@ -109,10 +115,17 @@ impl PlainBoard {
     ) -> Result<Pinned, CommitFault>
         ensures base { IfOk result (λ _. FitsHead base (length self.now)) }
         ensures fit { IfOk result (λ _. refusal self.now edits.now ≡ None) }
-        ensures version { IfOk result (λ made. arc_value made.version ≡ record { number = length self.now + 1; content = edited_all edits.now (version_of self.now).content }) }
-        ensures index { IfOk result (λ made. arc_value made.index ≡ index_of (arc_value made.version).content.rows) }
+        ensures version { IfOk result (λ made. arc_value made.version
+            ≡ record {
+              number = length self.now + 1;
+              content = edited_all edits.now
+                  (version_of self.now).content;
+            }) }
+        ensures index { IfOk result (λ made. arc_value made.index
+            ≡ index_of (arc_value made.version).content.rows) }
         ensures stale { (n : ℕ) → result ≡ Err (why.Stale n) → IsStale base (length self.now) n }
-        ensures refused { (e : Faults) → result ≡ Err (why.Edit e) → IsRefused base edits.now self.now e }
+        ensures refused { (e : Faults) → result ≡ Err (why.Edit e)
+            → IsRefused base edits.now self.now e }
     {
         rows_have_one_index();
         let head = self.pinned.version.number();
@@ -156,7 +169,8 @@ impl PlainBoard {
         ensures ok { OnOk result (IsExtended 0 base edits.now self.old self.new) }
         ensures stays { OnErr result (self.new ≡ self.old) }
         ensures stale { (n : ℕ) → result ≡ Err (why.Stale n) → IsStale base (length self.old) n }
-        ensures refused { (e : Faults) → result ≡ Err (why.Edit e) → IsRefused base edits.now self.old e }
+        ensures refused { (e : Faults) → result ≡ Err (why.Edit e)
+            → IsRefused base edits.now self.old e }
     {
         let made = self.prepared(alloc, base, edits)?;
         let serial = self.pinned.version.number();

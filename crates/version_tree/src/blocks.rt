@@ -29,7 +29,8 @@ impl Model for Blocks {
 
     ghost view = { λ b. b.blocks.items };
 
-    ghost invariant = { λ b. AreBlocks b.blocks.items × (b.count ≡ length (all_rows b.blocks.items)) };
+    ghost invariant = { λ b. AreBlocks b.blocks.items
+        × (b.count ≡ length (all_rows b.blocks.items)) };
 }
 
 impl Blocks {
@@ -77,7 +78,8 @@ impl Blocks {
 
     /// The row with the path, by halving; None where there is none.
     pub(crate) fn row_with(&self, path: &str) -> Option<&RowHandle>
-        ensures row { MatchOption result (has_path path.now (all_rows self.now) ≡ false) (λ row. IsRowWith path.now (all_rows self.now) row.now) }
+        ensures row { MatchOption result (has_path path.now (all_rows self.now) ≡ false)
+            (λ row. IsRowWith path.now (all_rows self.now) row.now) }
         ensures rows { AreRows (all_rows self.now) }
     {
         match self.place(path) {
@@ -121,8 +123,11 @@ impl Blocks {
 
     /// The weight of the row with the path, 0 where there is none.
     pub(crate) fn weight_at(&self, path: &str) -> u64
-        ensures without { result + weight_of (without_row path.now (all_rows self.now)) ≡ weight_of (all_rows self.now) }
-        ensures with { (file : FileRules) → result + weight_of (with_row path.now file (all_rows self.now)) ≡ weight_of (all_rows self.now) + file.weight }
+        ensures without { result + weight_of (without_row path.now (all_rows self.now))
+            ≡ weight_of (all_rows self.now) }
+        ensures with { (file : FileRules)
+            → result + weight_of (with_row path.now file (all_rows self.now))
+            ≡ weight_of (all_rows self.now) + file.weight }
     {
         match self.place(path) {
             Some(i) => self.blocks[i].rows().weight_at(path),
@@ -148,7 +153,8 @@ impl Blocks {
     /// two halves where it has become too large. The one error is want of memory; more rows than 64
     /// bits can count are told as such.
     pub(crate) fn with(self, alloc: Global, row: RowHandle) -> Result<Blocks, AllocError>
-        ensures { IfOk result (λ after. all_rows after ≡ with_row row.path row.file (all_rows self)) }
+        ensures { IfOk result (λ after. all_rows after
+            ≡ with_row row.path row.file (all_rows self)) }
     {
         let Some(i) = self.place(row.path()) else {
             return Blocks::of_one(alloc, row);
@@ -188,8 +194,10 @@ impl Blocks {
     fn replaced(self, alloc: Global, i: usize, rows: SortedRows) -> Result<Blocks, AllocError>
         requires in_range { i < length self }
         requires few { length rows ≤ block_rows + 1 }
-        requires order { IsInOrder (all_rows (take i self) ++ (rows ++ all_rows (drop (i + 1) self))) }
-        ensures { IfOk result (λ after. all_rows after ≡ all_rows (take i self) ++ (rows ++ all_rows (drop (i + 1) self))) }
+        requires order { IsInOrder (all_rows (take i self)
+            ++ (rows ++ all_rows (drop (i + 1) self))) }
+        ensures { IfOk result (λ after. all_rows after
+            ≡ all_rows (take i self) ++ (rows ++ all_rows (drop (i + 1) self))) }
     {
         let Blocks { mut blocks, count } = self;
         let left = count - blocks[i].rows().len();
@@ -207,7 +215,8 @@ impl Blocks {
         user: &str,
         kept: &mut Vec<RowHandle>,
     ) -> Result<(), AllocError>
-        ensures kept { OnOk result (kept.new.items ≡ kept.old.items ++ covered grants.now user.now (all_rows self.now)) }
+        ensures kept { OnOk result (kept.new.items
+            ≡ kept.old.items ++ covered grants.now user.now (all_rows self.now)) }
         ensures rows { AreRows (all_rows self.now) }
     {
         for block in &self.blocks {
@@ -240,7 +249,8 @@ fn in_blocks(alloc: Global, rows: SortedRows) -> Result<Vec<Block>, AllocError>
 // Puts the parts in place of the block at the place. The one error is want of memory.
 fn replace(blocks: &mut Vec<Block>, i: usize, mut parts: Vec<Block>) -> Result<(), AllocError>
     requires { i < length blocks.old.items }
-    ensures { OnOk result (blocks.new.items ≡ take i blocks.old.items ++ (parts.items ++ drop (i + 1) blocks.old.items)) }
+    ensures { OnOk result (blocks.new.items ≡ take i blocks.old.items
+        ++ (parts.items ++ drop (i + 1) blocks.old.items)) }
 {
     let mut after = blocks.split_off(i + 1)?;
     blocks.truncate(i);

@@ -12,7 +12,8 @@ use std::alloc::Global;
 
 /// Refuses edits that remove a path that no row has: the first such path.
 pub(crate) fn no_absent_path(alloc: Global, rows: &Store, edits: &[Edit]) -> Result<(), EditFault>
-    ensures { MatchResult result (λ _. option_map Absent (absent rows.now edits.now) ≡ None) (Refuses (option_map Absent (absent rows.now edits.now))) }
+    ensures { MatchResult result (λ _. option_map Absent (absent rows.now edits.now)
+        ≡ None) (Refuses (option_map Absent (absent rows.now edits.now))) }
 {
     for edit in edits {
         if let Some(path) = absent_path(rows, edit) {
@@ -24,7 +25,8 @@ pub(crate) fn no_absent_path(alloc: Global, rows: &Store, edits: &[Edit]) -> Res
 
 // The path that the edit removes, where no row has it.
 fn absent_path<'a>(rows: &Store, edit: &'a Edit) -> Option<&'a PathText>
-    ensures { MatchOption result (first_absent rows.now (removed edit.now) ≡ None) (λ path. first_absent rows.now (removed edit.now) ≡ Some path.now) }
+    ensures { MatchOption result (first_absent rows.now (removed edit.now) ≡ None)
+        (λ path. first_absent rows.now (removed edit.now) ≡ Some path.now) }
 {
     match edit {
         Edit::Remove { path } => {
@@ -44,7 +46,8 @@ fn absent_path<'a>(rows: &Store, edit: &'a Edit) -> Option<&'a PathText>
 
 /// Refuses rows that are too many, else rows that are too heavy.
 pub(crate) fn few_enough(rows: &Store) -> Result<(), EditFault>
-    ensures fault { MatchResult result (λ _. size_fault rows.now ≡ None) (Refuses (size_fault rows.now)) }
+    ensures fault { MatchResult result (λ _. size_fault rows.now
+        ≡ None) (Refuses (size_fault rows.now)) }
     ensures few { OnOk result (AreFew rows.now) }
 {
     if rows.len() > MAX_FILES {

@@ -22,7 +22,8 @@ pub(crate) fn rules_after(
     edits: &[Edit],
 ) -> Result<SharedRules, EditFault>
     ensures ok { IfOk result (λ after. after ≡ ruled_all edits.now rules.now) }
-    ensures fault { MatchResult result (λ _. rule_fault rules.now edits.now ≡ None) (Refuses (rule_fault rules.now edits.now)) }
+    ensures fault { MatchResult result (λ _. rule_fault rules.now edits.now
+        ≡ None) (Refuses (rule_fault rules.now edits.now)) }
 {
     if !changes_rules(edits) {
         return Ok(rules.share(alloc)?);
@@ -41,7 +42,8 @@ fn changes_rules(edits: &[Edit]) -> bool
 // What the edits make of the rules, in one pass over a copy of them.
 fn ruled_copy(alloc: Global, rules: &Grants, edits: &[Edit]) -> Result<Grants, EditFault>
     ensures ok { IfOk result (λ after. after ≡ ruled_all edits.now rules.now) }
-    ensures fault { MatchResult result (λ _. rule_fault rules.now edits.now ≡ None) (Refuses (rule_fault rules.now edits.now)) }
+    ensures fault { MatchResult result (λ _. rule_fault rules.now edits.now
+        ≡ None) (Refuses (rule_fault rules.now edits.now)) }
 {
     let mut after = rules.copy(alloc)?;
     let mut noted = None;
@@ -62,8 +64,10 @@ fn rule_step(
     noted: Option<EditFault>,
 ) -> Result<Option<EditFault>, EditFault>
     ensures rules { OnOk result (rules.new ≡ ruled edit.now rules.old) }
-    ensures noted { IfOk result (λ after. after ≡ first_of noted (option_map no_deny (misses_deny rules.old edit.now))) }
-    ensures fault { MatchResult result (λ _. misses_grant rules.old edit.now ≡ None) (Refuses (option_map no_grant (misses_grant rules.old edit.now))) }
+    ensures noted { IfOk result
+        (λ after. after ≡ first_of noted (option_map no_deny (misses_deny rules.old edit.now))) }
+    ensures fault { MatchResult result (λ _. misses_grant rules.old edit.now
+        ≡ None) (Refuses (option_map no_grant (misses_grant rules.old edit.now))) }
 {
     match edit {
         Edit::Put { .. } | Edit::Remove { .. } => Ok(noted),

@@ -15,7 +15,8 @@ use std::alloc::{AllocError, Global};
 /// Refuses edits of which two name one path to put or remove: the least such path. It sorts the
 /// paths.
 pub(crate) fn no_path_twice(alloc: Global, edits: &[Edit]) -> Result<(), EditFault>
-    ensures { MatchResult result (λ _. option_map Twice (twice edits.now) ≡ None) (Refuses (option_map Twice (twice edits.now))) }
+    ensures { MatchResult result (λ _. option_map Twice (twice edits.now)
+        ≡ None) (Refuses (option_map Twice (twice edits.now))) }
 {
     let mut paths = touched_paths(alloc, edits)?;
     sort_paths(&mut paths)?;
@@ -41,7 +42,8 @@ fn touched_paths<'a>(alloc: Global, edits: &'a [Edit]) -> Result<Vec<&'a PathTex
 // Sorts the paths by their bytes. The one error is want of memory.
 fn sort_paths<'a>(paths: &mut Vec<&'a PathText>) -> Result<(), AllocError>
     ensures moved { IsPermutation paths.old.items paths.new.items }
-    ensures sorted { OnOk result (IsSortedBy (λ p q. is_lt (path_cmp p.now q.now)) paths.new.items) }
+    ensures sorted { OnOk result (IsSortedBy
+        (λ p q. is_lt (path_cmp p.now q.now)) paths.new.items) }
 {
     paths.sort_by(|p, q| p.as_str().as_bytes().cmp(q.as_str().as_bytes()))?;
     Ok(())
@@ -49,7 +51,8 @@ fn sort_paths<'a>(paths: &mut Vec<&'a PathText>) -> Result<(), AllocError>
 
 // The first path that is the one before it once more.
 fn first_repeat<'a>(paths: &[&'a PathText]) -> Option<&'a PathText>
-    ensures { MatchOption result (repeat_from None (map (λ p. p.now) paths.now) ≡ None) (λ path. repeat_from None (map (λ p. p.now) paths.now) ≡ Some path.now) }
+    ensures { MatchOption result (repeat_from None (map (λ p. p.now) paths.now) ≡ None)
+        (λ path. repeat_from None (map (λ p. p.now) paths.now) ≡ Some path.now) }
 {
     let mut last: Option<&'a PathText> = None;
     for path in paths {

@@ -79,7 +79,8 @@ impl SortedRows {
 
     /// The row with the path, by halving; None where there is none.
     pub(crate) fn row_with(&self, path: &str) -> Option<&RowHandle>
-        ensures { MatchOption result (has_path path.now self.now ≡ false) (λ row. IsRowWith path.now self.now row.now) }
+        ensures { MatchOption result (has_path path.now self.now ≡ false)
+            (λ row. IsRowWith path.now self.now row.now) }
     {
         match self.find(path) {
             Ok(i) => Some(&self.rows[i]),
@@ -114,7 +115,8 @@ impl SortedRows {
     /// The weight of the row with the path, 0 where there is none.
     pub(crate) fn weight_at(&self, path: &str) -> u64
         ensures without { result + weight_of (without_row path.now self.now) ≡ weight_of self.now }
-        ensures with { (file : FileRules) → result + weight_of (with_row path.now file self.now) ≡ weight_of self.now + file.weight }
+        ensures with { (file : FileRules) → result + weight_of (with_row path.now file self.now)
+            ≡ weight_of self.now + file.weight }
     {
         match self.find(path) {
             Ok(i) => u64::from(self.rows[i].weight()),
@@ -140,7 +142,8 @@ impl SortedRows {
         user: &str,
         kept: &mut Vec<RowHandle>,
     ) -> Result<(), AllocError>
-        ensures kept { OnOk result (kept.new.items ≡ kept.old.items ++ covered grants.now user.now self.now) }
+        ensures kept { OnOk result (kept.new.items
+            ≡ kept.old.items ++ covered grants.now user.now self.now) }
         ensures rows { AreRows self.now }
     {
         for row in &self.rows {

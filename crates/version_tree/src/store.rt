@@ -59,7 +59,8 @@ impl Store {
 
     /// The row with the path, by halving; None where there is none.
     pub(crate) fn find(&self, path: &str) -> Option<&RowHandle>
-        ensures row { MatchOption result (has_path path.now self.now ≡ false) (λ row. IsRowWith path.now self.now row.now) }
+        ensures row { MatchOption result (has_path path.now self.now ≡ false)
+            (λ row. IsRowWith path.now self.now row.now) }
         ensures rows { AreRows self.now }
     {
         self.blocks.row_with(path)
@@ -126,7 +127,8 @@ impl Store {
         user: &str,
         kept: &mut Vec<RowHandle>,
     ) -> Result<(), AllocError>
-        ensures kept { OnOk result (kept.new.items ≡ kept.old.items ++ covered grants.now user.now self.now) }
+        ensures kept { OnOk result (kept.new.items
+            ≡ kept.old.items ++ covered grants.now user.now self.now) }
         ensures rows { AreRows self.now }
     {
         self.blocks.grant(grants, user, kept)

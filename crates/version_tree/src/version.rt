@@ -68,7 +68,8 @@ impl Version {
     /// The path and the file at that place, from 0 and in the order of the paths; None past the last. It
     /// takes time that follows the number of blocks of 1 to 64 files, and no memory.
     pub fn row(&self, place: u32) -> Option<(&str, &SharedPaths)>
-        ensures { option_map (λ row. file_row row.0.now row.1.now) result ≡ slice_get self.now.content.rows place }
+        ensures { option_map (λ row. file_row row.0.now row.1.now) result
+            ≡ slice_get self.now.content.rows place }
     {
         match self.rows.row(place as usize) {
             Some(row) => Some((row.path(), row.paths())),
@@ -89,10 +90,13 @@ impl Version {
     /// The version that the edits make of this one, its number one more. They are refused by the
     /// first of the faults of `EditFault` in their order; want of memory may come before any.
     pub fn amend(&self, alloc: Global, edits: &[Edit]) -> Result<Version, EditFault>
-        ensures fit { IfOk result (λ version. edit_fault self.now.number self.now.content edits.now ≡ None) }
+        ensures fit { IfOk result (λ version. edit_fault self.now.number self.now.content edits.now
+            ≡ None) }
         ensures number { IfOk result (λ version. version.number ≡ self.now.number + 1) }
-        ensures content { IfOk result (λ version. version.content ≡ edited_all edits.now self.now.content) }
-        ensures refused { IfErr result (Refuses (edit_fault self.now.number self.now.content edits.now)) }
+        ensures content { IfOk result (λ version. version.content
+            ≡ edited_all edits.now self.now.content) }
+        ensures refused { IfErr result
+            (Refuses (edit_fault self.now.number self.now.content edits.now)) }
     {
         no_path_twice(alloc, edits)?;
         no_absent_path(alloc, &self.rows, edits)?;

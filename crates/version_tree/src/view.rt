@@ -68,7 +68,8 @@ impl View {
 
     /// The number of the file with the path, by halving; `None` where no file that is seen has it.
     pub fn find(&self, path: &str) -> Option<u32>
-        ensures { MatchOption result (has_path path.now self.now ≡ false) (λ file. path_at self.now file ≡ Some path.now) }
+        ensures { MatchOption result (has_path path.now self.now ≡ false)
+            (λ file. path_at self.now file ≡ Some path.now) }
     {
         match self.rows.find(path) {
             Ok(i) => Some(i as u32),
