@@ -145,3 +145,12 @@ fn jobs_are_numbered_among_new_documents_and_left_after_a_fault(
     assert_eq!(rt; told.as_str(), "1111 1111, 2 kept, a fault");
     Ok(())
 }
+
+#[test]
+fn another_document_of_one_path_is_a_job_of_its_own(rt: HostRuntime) -> Result<(), Fail> {
+    let others =
+        r#"a.sg.json|{"nodes":[],"edges":[]};a.sg.json|{"edges":[],"nodes":[]};b.sg.json|{"nodes":[],"edges":[]}"#;
+    let told = told(&rt, rt.alloc(), "", others)?;
+    assert_eq!(rt; told.as_str(), "111 111, 3 kept, 0/0 0/0 0/0");
+    Ok(())
+}

@@ -67,13 +67,14 @@ pub struct Ahead<'a> {
     hands: Vec<Vec<Worked<'a>>>,
     /// By a document's place in the list, which thread's it is and its place among these.
     places: Vec<Option<(usize, usize)>>,
+    counts: Counts,
 }
 
 impl<'a> Ahead<'a> {
     ghost use Rattle.std.specs.Prelude.{◌≡◌, IfSome};
 
     /// Makes the digest of each document, and works on it where the store doesn't keep it, as a job between `enter` and
-    /// `leave` of the gate; the jobs have numbers from 0. As many threads do so as `threads_for` says, each of which takes
+    /// `leave` of the gate; each job has a number of its own, from 0. As many threads do so as `threads_for` says, each of which takes
     /// the next document that is left, so that none waits for a thread that begins late; where a thread can't be made, the
     /// caller does its work. A document whose path one before it has is left to the caller, since it may be the same, and so
     /// is one for whose answer there was no room. The one error is want of memory.
@@ -85,12 +86,25 @@ impl<'a> Ahead<'a> {
         gate: &G,
     ) -> Result<Ahead<'a>, AllocError> {
         let firsts = firsts_of_paths(alloc, docs)?;
-        let hands = share_out(rt, alloc, firsts.as_slice(), store, gate)?;
+        let counts = Counts {
+            taken: AtomicU64::new(0),
+            jobs: AtomicU64::new(0),
+        };
+        let hands = share_out(rt, alloc, firsts.as_slice(), store, gate, &counts)?;
         let mut places = vec![in alloc; None; docs.len()]?;
         for i in 0..hands.len() {
             place_all(hands[i].as_slice(), i, places.as_mut_slice());
         }
-        Ok(Ahead { hands, places })
+        Ok(Ahead {
+            hands,
+            places,
+            counts,
+        })
+    }
+
+    /// The number of the next job, that of a document which wasn't worked on ahead: no job has it yet.
+    pub fn next_job(&self) -> usize {
+        next_job(&self.counts)
     }
 
     /// The document at the place with its digest and what came of the work on it, where that was made ahead.
@@ -137,7 +151,7 @@ fn firsts_of_paths<'a>(
 struct Counts {
     /// How many documents were taken.
     taken: AtomicU64,
-    /// How many of them were worked on.
+    /// How many jobs there were, each the work on a document.
     jobs: AtomicU64,
 }
 
@@ -150,6 +164,7 @@ fn share_out<'a, R: Threads + Sync, G: Gate + Sync>(
     wanted: &[(usize, &'a Document)],
     store: &PathStore,
     gate: &G,
+    counts: &Counts,
 ) -> Result<Vec<Vec<Worked<'a>>>, AllocError> {
     let threads = threads_for(rt, wanted.len());
     let count = if threads > 1 { threads + 1 } else { 1 };
@@ -160,17 +175,13 @@ fn share_out<'a, R: Threads + Sync, G: Gate + Sync>(
     if threads > 1 {
         ask_for(alloc, AT_ONCE);
     }
-    let counts = Counts {
-        taken: AtomicU64::new(0),
-        jobs: AtomicU64::new(0),
-    };
     thread::for_each_mut(
         rt,
         hands.as_mut_slice(),
         count,
         &|i, hand| {
             if i < threads {
-                take_all(alloc, wanted, store, gate, threads, &counts, hand);
+                take_all(alloc, wanted, store, gate, threads, counts, hand);
             }
         },
     );
@@ -217,8 +228,12 @@ fn done_on<G: Gate>(
     if store.find(doc).is_some() {
         return None;
     }
-    let job = counts.jobs.fetch_add(1, Ordering::SeqCst) as usize;
-    Some(work(alloc, doc.doc(), job, gate))
+    Some(work(alloc, doc.doc(), next_job(counts), gate))
+}
+
+/// The number of the next job.
+fn next_job(counts: &Counts) -> usize {
+    counts.jobs.fetch_add(1, Ordering::SeqCst) as usize
 }
 
 /// Before a thread's first document, and then before each one so many later, asks for the room of the next ones, of so

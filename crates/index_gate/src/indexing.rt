@@ -24,7 +24,7 @@ use std::thread::Threads;
 /// The first document with a fault is told with its first fault, in the order of `FileFault`; then the
 /// store is as it was. `NoMemory` comes where memory is refused, and may come in place of any answer; then
 /// the store may keep the first of the new documents. Each document that is indexed is a job between
-/// `enter` and `leave` of the gate, with its number from 0. One step is counted for each walk made. It
+/// `enter` and `leave` of the gate, with a number of its own, from 0. One step is counted for each walk made. It
 /// takes time for the documents that the store doesn't keep, and for the others that of finding them. What
 /// the store comes to keep of a document is shared with it, and not copied.
 ///
@@ -103,21 +103,33 @@ fn paths_for<G: Gate, L: Ledger>(
             alloc,
             worked.doc(),
             worked.done(),
+            ahead,
             store,
             fresh,
             gate,
             steps,
         ),
-        None => paths_by(alloc, &Digested::of(doc), None, store, fresh, gate, steps),
+        None => paths_by(
+            alloc,
+            &Digested::of(doc),
+            None,
+            ahead,
+            store,
+            fresh,
+            gate,
+            steps,
+        ),
     }
 }
 
-/// The paths of the document, on which the work came to this where it was done ahead.
+/// The paths of the document, on which the work came to this where it was done ahead; else it is the next job behind
+/// those of `jobs`.
 #[tactic(auto, using(crate::proofs::Adding::held_adds, crate::proofs::Adding::fresh_adds, crate::proofs::Adding::new_adds, crate::proofs::Adding::not_held, crate::proofs::Adding::weight_none))]
 fn paths_by<G: Gate, L: Ledger>(
     alloc: Global,
     doc: &Digested,
     ahead: Option<&Done>,
+    jobs: &Ahead,
     store: &PathStore,
     fresh: &mut PathStore,
     gate: &G,
@@ -140,7 +152,7 @@ fn paths_by<G: Gate, L: Ledger>(
     if let Some(paths) = find_shared(fresh, doc)? {
         return Ok(paths);
     }
-    let paths = index_new(alloc, doc.doc(), ahead, fresh.len(), gate, steps)?;
+    let paths = index_new(alloc, doc.doc(), ahead, jobs, gate, steps)?;
     fresh.keep(alloc, doc, paths.share()?)?;
     Ok(paths)
 }
@@ -158,12 +170,12 @@ fn find_shared(store: &PathStore, doc: &Digested) -> Result<Option<SharedPaths>,
 }
 
 /// The paths of a document that no store keeps: those of the work ahead, or, where it was left out there, of the work
-/// that is done now, as the job of that number.
+/// that is done now, as the next job.
 fn index_new<G: Gate, L: Ledger>(
     alloc: Global,
     doc: &Document,
     ahead: Option<&Done>,
-    job: usize,
+    jobs: &Ahead,
     gate: &G,
     steps: &mut Steps<L>,
 ) -> Result<SharedPaths, IndexFault>
@@ -175,7 +187,7 @@ fn index_new<G: Gate, L: Ledger>(
 {
     match ahead {
         Some(done) => take_up(alloc, doc, done, steps),
-        None => take_up(alloc, doc, &work(alloc, doc, job, gate), steps),
+        None => take_up(alloc, doc, &work(alloc, doc, jobs.next_job(), gate), steps),
     }
 }
 
