@@ -1,5 +1,5 @@
 //! What came of a query, as an editor is told of it.
-ghost use Rattle.std.specs.Prelude.{◌≡◌, ◌≢◌, map, IfOk};
+ghost use Rattle.std.specs.Prelude.{◌≡◌, ◌≢◌, map, IfOk, OnErr};
 ghost use Rattle.lsp_texts.specs.Texts.{texts_in};
 ghost use Rattle.nav_answers.specs.declared.found.AskFault.TheVariants as ask;
 ghost use Rattle.lsp_answers.specs.Queries.{located, location_of, outcome_of_fault};
@@ -42,6 +42,7 @@ fn location_of(
 pub(crate) fn outcome_of_fault(fault: AskFault) -> Result<Outcome, AllocError>
     ensures told { IfOk result (λ outcome. outcome ≡ outcome_of_fault fault) }
     ensures definite { IfOk result (λ _. fault ≢ ask.NoMemory) }
+    ensures memory { OnErr result (fault ≡ ask.NoMemory) }
 {
     match fault {
         AskFault::NoFile | AskFault::NoReference | AskFault::NoDefinition => Ok(Outcome::Null),

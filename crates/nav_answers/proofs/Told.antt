@@ -1,5 +1,5 @@
 -- What is known of a reference, told as a reply; and that the node that is meant is of the kind.
-use Rattle.std.proofs.Common.{◌≡◌, refl, sym, ◌∙◌, ap, subst, ℕ, suc, ◌+◌, List, [], ◌∷◌, map, Bool, true, false, cond, Option, Some, None, IsSomeAnd, Ok, Err, IsTrue, ◌↔◌, slice_get, arith}
+use Rattle.std.proofs.Common.{◌≡◌, ◌≢◌, refl, sym, ◌∙◌, ap, subst, ℕ, suc, ◌+◌, List, [], ◌∷◌, map, Bool, true, false, cond, Option, Some, None, IsSomeAnd, Ok, Err, IsTrue, ◌↔◌, slice_get, arith}
 use Rattle.std.specs.Prelude.{ok_or}
 use Rattle.std.specs.List.{position_from}
 use Rattle.std.specs.Option.{option_map, option_map_or, option_and_then}
@@ -9,6 +9,8 @@ use Rattle.graph_nodes.specs.declared.node.Node.{Node}
 use Rattle.graph_nodes.specs.declared.node.NodeKind.{NodeKind}
 use Rattle.graph_nodes.specs.Graph.{Graph, kind_at}
 use Rattle.stacks_vars.specs.declared.scopes.NodeAt.{NodeAt}
+use Rattle.stitcher.specs.declared.found.StitchFault.{StitchFault}
+use Rattle.stitcher.specs.declared.found.StitchFault.TheVariants as stitch
 use Rattle.partial_path.specs.declared.config.Config.{Config}
 use Rattle.partial_path.specs.declared.bounds.Bounds.{Bounds}
 use Rattle.partial_path.specs.Spots.{node_at}
@@ -22,7 +24,8 @@ use Rattle.whole_search.specs.Answers.{AreDefinitions, IsDefinitionFrom}
 use Rattle.nav_answers.specs.declared.found.At.{At}
 use Rattle.nav_answers.specs.declared.found.At.TheVariants as at
 use Rattle.nav_answers.specs.declared.found.AskFault.{AskFault}
-use Rattle.nav_answers.specs.declared.found.AskFault.TheVariants.{NoFile, Crowded}
+use Rattle.nav_answers.specs.declared.found.AskFault.TheVariants.{NoFile, Crowded, NoMemory}
+use Rattle.nav_answers.specs.Faults.{ask_fault}
 use Rattle.nav_answers.specs.Points.{has_point, is_there, node_meant}
 use Rattle.nav_answers.specs.Replies.{graphs_in, number_of, meant_in, meant, row_of, IsReplyAbout, IsDefinitionReply}
 use Rattle.nav_answers.specs.Sources.{graphs_seen}
@@ -59,6 +62,11 @@ crowded_told bounds view node h =
     subst (λ (gs : List Graph). IsSomeAnd (start gs node) (λ c. IsReplyAbout (IsDefinitionFrom bounds gs c) (HasLimit bounds gs c) (IsCrowded bounds gs c) (graph_rows view) (Err Crowded)))
     (same_graphs view)
     (refused bounds (graphs_seen view) (graph_rows view) (start (graphs_seen view) node) h)
+
+-- a fault of stitching that isn't told as want of memory is that the reference is crowded
+pub was_crowded : (fault : StitchFault) (told : AskFault) → told ≡ ask_fault fault → told ≢ NoMemory → (fault ≡ stitch.Crowded) × (told ≡ Crowded)
+was_crowded stitch.Crowded told e h = (refl, e)
+was_crowded stitch.NoMemory told e h = absurd (h e)
 
 -- the first element that passes stands at the place that is told
 first_passes : {X : Type 0} (p : X → Bool) (xs : List X) (i n : ℕ) → position_from p i xs ≡ Some n

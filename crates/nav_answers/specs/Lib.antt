@@ -7,3 +7,4 @@ pub mod Kept
 pub mod Links
 pub mod Asking
 pub mod Callers
+pub mod Faults

@@ -12,7 +12,7 @@ ghost use Rattle.nav_answers.specs.Sources.{graphs_seen};
 use crate::asked_view::AskedView;
 use crate::asking::Query;
 use crate::defining::rows_told;
-use crate::found::{AskFault, At};
+use crate::found::{AskFault, At, ask_fault};
 use crate::links::{Links, rows_of_any};
 use crate::meaning::{Asked, meant};
 use crate::referring::{MOST_LINKS, references_to};
@@ -25,7 +25,6 @@ use root_index::RootIndex;
 use stacks_vars::NodeAt;
 use std::alloc::{AllocError, Global};
 use std::thread::Threads;
-use stitcher::StitchFault;
 use version_tree::{Rows, View};
 use whole_search::Hit;
 
@@ -134,8 +133,7 @@ fn callers_among<R: Threads + Sync, G: Gate + Sync>(
             let hits = callers_by(alloc, view, node, leading, links)?;
             Ok(rows_told(alloc, view, &hits)?)
         }
-        Err(StitchFault::Crowded) => Err(AskFault::Crowded),
-        Err(StitchFault::NoMemory) => Err(AskFault::NoMemory),
+        Err(fault) => Err(ask_fault(fault)),
     }
 }
 

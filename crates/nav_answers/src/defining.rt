@@ -9,7 +9,7 @@ ghost use Rattle.whole_search.specs.Answers.{AreDefinitions};
 ghost use Rattle.nav_answers.specs.Replies.{IsDefineReply, IsDefinitionReply, row_of};
 ghost use Rattle.nav_answers.specs.Sources.{graphs_seen};
 
-use crate::found::{AskFault, At};
+use crate::found::{AskFault, At, ask_fault};
 use crate::meaning::{Asked, meant};
 use crate::rows::rows_of;
 use crate::source::{ViewSource, file_in};
@@ -63,8 +63,7 @@ fn define_node(
 {
     match definitions_of(alloc, view, index, node, bounds) {
         Ok(found) => Ok(answer_of(alloc, view, &found)?),
-        Err(StitchFault::Crowded) => Err(AskFault::Crowded),
-        Err(StitchFault::NoMemory) => Err(AskFault::NoMemory),
+        Err(fault) => Err(ask_fault(fault)),
     }
 }
 

@@ -1,8 +1,10 @@
 ghost use Rattle.std.specs.Prelude.{◌≡◌};
 ghost use Rattle.nav_answers.specs.declared.found.AskFault.TheVariants.{NoMemory};
+ghost use Rattle.nav_answers.specs.Faults.{ask_fault};
 
 use std::alloc::{AllocError, AllocFailed};
 use std::fmt;
+use stitcher::StitchFault;
 
 /// Where in a file a query asks: at a node, by its position from 0, or at a point of the text, by its line and its
 /// column in bytes, both from 0.
@@ -36,6 +38,16 @@ impl fmt::Display for AskFault {
             AskFault::Crowded => "a reference has too many runs",
             AskFault::NoMemory => "memory was refused",
         })
+    }
+}
+
+/// What a query says where stitching has the fault.
+pub fn ask_fault(fault: StitchFault) -> AskFault
+    ensures { result ≡ ask_fault fault }
+{
+    match fault {
+        StitchFault::Crowded => AskFault::Crowded,
+        StitchFault::NoMemory => AskFault::NoMemory,
     }
 }
 

@@ -1,4 +1,4 @@
-ghost use Rattle.std.specs.Prelude.{◌≡◌, ◌≢◌, Contains, Err, IfOk};
+ghost use Rattle.std.specs.Prelude.{◌≡◌, ◌≢◌, Contains, Err, IfOk, OnErr};
 ghost use Rattle.version_tree.specs.Graphs.{graph_rows};
 ghost use Rattle.root_index.specs.Roots.{IsIndexOfView};
 ghost use Rattle.whole_search.specs.declared.found.Hit.{Hit};
@@ -156,11 +156,22 @@ fn find_all<R: Threads + Sync, G: Gate + Sync>(
             bounds,
             told: Told::Each(links.in_order()),
         }),
-        Err(StitchFault::Crowded) => Ok(Known {
+        Err(fault) => Ok(Known {
             bounds,
-            told: Told::Crowded,
+            told: told_of(fault)?,
         }),
-        Err(StitchFault::NoMemory) => Err(AllocError),
+    }
+}
+
+/// What is known of references that aren't told, for this fault; the one error is want of memory.
+fn told_of(fault: StitchFault) -> Result<Told, AllocError>
+    ensures told { IfOk result (λ told. told ≡ Told.Crowded) }
+    ensures definite { IfOk result (λ _. fault ≡ StitchFault.Crowded) }
+    ensures memory { OnErr result (fault ≡ StitchFault.NoMemory) }
+{
+    match fault {
+        StitchFault::Crowded => Ok(Told::Crowded),
+        StitchFault::NoMemory => Err(AllocError),
     }
 }
 

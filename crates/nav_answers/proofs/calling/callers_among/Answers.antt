@@ -1,11 +1,14 @@
-use Rattle.std.proofs.Common.{ap, subst, ◌∙◌, map, Err, List}
+use Rattle.std.proofs.Common.{ap, sym, subst, ◌∙◌, map, Err, List}
 use Rattle.partial_path.specs.declared.bounds.Bounds.{Bounds}
 use Rattle.version_tree.specs.Graphs.{graph_rows}
 use Rattle.whole_search.specs.declared.found.Hit.{Hit}
+use Rattle.nav_answers.specs.declared.found.AskFault.{AskFault}
 use Rattle.nav_answers.specs.Asking.{IsCrowdedAmong}
-use Rattle.nav_answers.specs.Replies.{row_of}
+use Rattle.nav_answers.specs.Callers.{LeadsCrowded, TellsUnless}
+use Rattle.nav_answers.specs.Replies.{graphs_in, row_of}
 use Rattle.nav_answers.specs.Sources.{graphs_seen}
 use Rattle.nav_answers.proofs.Called.{among_leads, crowded_tells, links_are, none_leads, rows_tell, usual_is}
+use Rattle.nav_answers.proofs.Told.{was_crowded}
 use Rattle.nav_answers.proofs.calling.callers_among.Goals as goal
 
 pub callers_by-requires-clause-links : goal.callers_by-requires-clause-links
@@ -22,9 +25,11 @@ returns-in_ok-rows_told-in-Ok g c _ =
     c.in_ok-hits-in-Ok.ensures
     (c.in_ok-rows_told-in-Ok.ensures ∙ ap (λ (hits : List Hit). map (row_of (graph_rows c.args.view.now)) hits) c.deref.ensures.value)
 
-pub returns-in-Err-Crowded : goal.returns-in-Err-Crowded
-returns-in-Err-Crowded g c _ =
-    crowded_tells c.args.view.now c.args.node
+pub returns-in-Err : goal.returns-in-Err
+returns-in-Err g c h =
+    let p = was_crowded c.in-Err.fault c.ask_fault.result c.ask_fault.ensures (λ e. h (ap (λ x. Err x) e)) in
+    subst (λ (told : AskFault). TellsUnless (LeadsCrowded (graphs_in (graph_rows c.args.view.now)) c.args.node) (graph_rows c.args.view.now) c.args.node (Err told)) (sym p.1)
+    (crowded_tells c.args.view.now c.args.node
     (among_leads (graphs_seen c.args.view.now) c.args.node c.args.leading.now c.requires.leading
     (subst (λ (b : Bounds). IsCrowdedAmong b (graphs_seen c.args.view.now) c.args.leading.now) (usual_is c.usual.result c.usual.ensures.edges c.usual.ensures.depth)
-    (c.in-Err-Crowded.ensures.crowded (ap (λ x. Err x) c.in-Err-Crowded.field-0-is))))
+    (c.in-Err.ensures.crowded (ap (λ x. Err x) p.0)))))
