@@ -36,6 +36,9 @@ use version_tree::Edit;
 /// The memory of the reply to a change is taken before it is committed, with its newline, so that no entry is left without
 /// its reply for want of memory.
 ///
+/// A view that the desk keeps is that of the version which the board pins; `Desk::forget_view` makes it so where the pin
+/// was moved otherwise than by a line.
+///
 /// A commit's documents are indexed, unless the desk keeps them, and are kept; after an accepted one the oldest go until
 /// all cost at most `MAX_COST`. Each walk that is made counts a step. The first query after `hello`, `pin` or a change
 /// looks at all files of the version once, the others only where their runs go.

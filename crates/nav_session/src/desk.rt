@@ -67,8 +67,9 @@ impl Desk {
         self.view = None;
     }
 
-    /// Forgets what the user sees, before another version is pinned.
-    pub(crate) fn forget_view(&mut self)
+    /// Forgets what the user sees, before another version is pinned. Whoever moves a board's pin between two lines, or
+    /// goes on at another board, calls it first. It takes no memory.
+    pub fn forget_view(&mut self)
         ensures { self.new ≡ record { store = self.old.store; user = self.old.user; view = None } }
     {
         self.view = None;
