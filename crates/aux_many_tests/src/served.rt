@@ -3,7 +3,8 @@ ghost use Rattle.std.specs.Prelude.{◌≡◌, ◌<◌};
 
 use futures::task::{Doorbell, Solo};
 use graph_nodes::Steps;
-use nav_poll::{MemLink, MemPort, MemYard, run_many};
+use nav_poll::MemLink;
+use poll_many::{MemPort, MemYard, run_many};
 use std::alloc::{AllocError, AllocGlobal, Global};
 use std::marker::Brand;
 use std::random::RandomSource;

@@ -3,11 +3,3 @@ pub mod MemLinks
 pub mod Polling
 pub mod Scripts
 pub mod Turns
-pub mod Arrivals
-pub mod MemPorts
-pub mod Connections
-pub mod Ports
-pub mod Yards
-pub mod Places
-pub mod Rounds
-pub mod ManyWords

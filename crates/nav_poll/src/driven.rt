@@ -24,7 +24,8 @@ use version_board::{Commits, Pins};
 /// can be polled where the gate is `Unguarded`; `go_on` does the same with every gate.
 #[derive(Drop)]
 pub struct Driven<'a, B: Pins, K, G, L: Ledger, R> {
-    pub(crate) polled: &'a mut Polled<B, K>,
+    /// The session.
+    pub polled: &'a mut Polled<B, K>,
     pub(crate) rt: &'a R,
     pub(crate) gate: &'a G,
     pub(crate) steps: &'a mut Steps<L>,

@@ -28,8 +28,8 @@ impl Model for Calls {
     ghost view = { λ calls. record { not_yet = calls.not_yet.items; failing = calls.failing.items; made = calls.made } };
 }
 
-// Whether the call with this number is one of these.
-fn is_listed(numbers: &[u32], call: u64) -> bool
+/// Whether the call with this number is one of these, as those of a link in memory that are to wait, or to fail.
+pub fn is_listed(numbers: &[u32], call: u64) -> bool
     ensures { result ≡ fails_now numbers.now call }
 {
     numbers.iter().any(|number| u64::from(*number) == call)

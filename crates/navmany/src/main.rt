@@ -14,7 +14,7 @@ use crate::yard::MioYard;
 use futures::executor::block_on;
 use futures::future::lazy;
 use graph_nodes::Steps;
-use nav_poll::run_many;
+use poll_many::run_many;
 use std::alloc::AllocGlobal;
 use std::cell::Cell;
 use std::marker::Brand;

@@ -7,7 +7,7 @@ use crate::told::Told;
 use mio::net::{TcpListener, TcpStream};
 use mio::{Events, Interest, Poll, Token};
 use nav_io::Failed;
-use nav_poll::{Arrived, Port};
+use poll_many::{Arrived, Port};
 use std::alloc::Global;
 use std::cell::Cell;
 use std::io;

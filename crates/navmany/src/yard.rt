@@ -4,7 +4,7 @@ ghost use Rattle.std.specs.Prelude.{◌≡◌, ◌≤◌, ℕ, None};
 use crate::port::MioPort;
 use crate::told::Told;
 use nav_io::HouseFault;
-use nav_poll::Yard;
+use poll_many::Yard;
 use std::alloc::Global;
 use std::cell::Cell;
 use std::net::Net;

@@ -1,0 +1,30 @@
+-- Settling changes neither list, and what rounds keep is kept by one more.
+use Rattle.std.proofs.Common.{arith, ◌∙◌, sym, subst, ◌≡◌}
+use Rattle.poll_many.specs.Connections.{outside}
+use Rattle.poll_many.proofs.PlaceTurns.{settled}
+use Rattle.poll_many.proofs.rounds.go_on.Goals as goal
+
+pub returns-in_err-is_quiet-clause-kept : goal.returns-in_err-is_quiet-clause-kept
+returns-in_err-is_quiet-clause-kept g c fact h = c.in_err-is_quiet.ensures.kept fact (c.loop.invariant.kept fact h)
+
+pub returns-then-are_over-clause-kept : goal.returns-then-are_over-clause-kept
+returns-then-are_over-clause-kept g c fact h = c.go_round.ensures.kept fact (c.loop.invariant.kept fact h)
+
+pub returns-in_err-settle_if-clause-kept : goal.returns-in_err-settle_if-clause-kept
+returns-in_err-settle_if-clause-kept g c fact h = c.go_round.ensures.kept fact (c.loop.invariant.kept fact h)
+
+pub returns-in_err-settle_if-clause-under_way : goal.returns-in_err-settle_if-clause-under_way
+returns-in_err-settle_if-clause-under_way g c =
+    settled (outside g.P.Port.gave g.P.Port.got_back g.P.Port.faults g.P.K.Link.left g.P.K.Link.held g.P.K.Link.counts g.B.Pins.seat g.B.Pins.log g.B.Pins.pin_at)
+    c.args.call.now 0 c.go_round.new.wanted c.go_round.new.port c.settle_if.new.port c.go_round.new.places
+    c.settle_if.ensures.given c.settle_if.ensures.back c.settle_if.ensures.count c.go_round.ensures.under_way
+
+pub loop-preserved : goal.loop-preserved
+loop-preserved g c = record {
+  under_way = settled (outside g.P.Port.gave g.P.Port.got_back g.P.Port.faults g.P.K.Link.left g.P.K.Link.held g.P.K.Link.counts g.B.Pins.seat g.B.Pins.log g.B.Pins.pin_at)
+      c.args.call.now 0 c.go_round.new.wanted c.go_round.new.port c.settle_if.new.port c.go_round.new.places
+      c.settle_if.ensures.given c.settle_if.ensures.back c.settle_if.ensures.count c.go_round.ensures.under_way;
+  len = c.go_round.ensures.len ∙ c.loop.invariant.len;
+  count = omega (arith, c.loop.invariant.count, c.go_round.ensures.count, c.settle_if.ensures.count);
+  kept = λ fact h. c.go_round.ensures.kept fact (c.loop.invariant.kept fact h);
+}

@@ -1,0 +1,11 @@
+-- What is kept by all turns is kept by one more.
+use Rattle.std.proofs.Common.{arith, ◌∙◌}
+use Rattle.poll_many.proofs.rounds.take_turns.Goals as goal
+
+pub loop-n-preserved : goal.loop-n-preserved
+loop-n-preserved g c = record {
+  under_way = c.take_turn_at.ensures.under_way;
+  len = c.take_turn_at.ensures.len ∙ c.loop-n.invariant.len;
+  count = omega (arith, c.loop-n.invariant.count, c.take_turn_at.ensures.count);
+  kept = λ fact h. c.take_turn_at.ensures.kept fact (c.loop-n.invariant.kept fact h);
+}

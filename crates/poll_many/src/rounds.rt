@@ -1,0 +1,308 @@
+//! The rounds in which many sessions are served: links are taken for free seats, then each open session is polled once.
+ghost use Rattle.std.specs.Prelude.{◌≡◌, ◌≤◌, ◌<◌, ◌+◌, ◌||◌, not, true, false, length, OnOk, OnErr};
+ghost use Rattle.std.specs.List.{list_any};
+ghost use Rattle.futures.specs.Task.{Keeps};
+ghost use Rattle.nav_io.specs.Faults.{HasRisen};
+ghost use Rattle.poll_many.specs.Connections.{outside};
+ghost use Rattle.poll_many.specs.Places.{is_busy, is_free};
+ghost use Rattle.poll_many.specs.Rounds.{IsUnderWay, AreOver, NoneBusy, RestBefore, still_wanted};
+
+use crate::call::Call;
+use crate::place::{Asked, Place, Turn, close_place, take_link, take_turn};
+use crate::port::Port;
+use futures::task::Context;
+use graph_nodes::Steps;
+use nav_io::Failed;
+use std::alloc::Global;
+use std::sync::Wait;
+use std::sync::ledger::Ledger;
+use std::thread::Threads;
+use version_board::{Commits, Pins};
+
+/// Asks the port for a link for the n-th place, if that is free.
+fn take_link_at<B: Pins + Drop, P: Port>(
+    alloc: Global,
+    call: &Call<P, B>,
+    places: &mut [Place<B, P::K>],
+    n: usize,
+    port: &mut P,
+    wanted: &mut u32,
+) -> Asked
+where
+    P::K: Drop,
+    requires inside { n < length places.old }
+    requires some { 0 < wanted.old }
+    requires under_way { IsUnderWay (outside P.gave P.got_back P.faults P.K.left P.K.held P.K.counts
+        B.seat B.log B.pin_at) call.now 0 wanted.old port.old places.old }
+    ensures under_way { IsUnderWay (outside P.gave P.got_back P.faults P.K.left P.K.held P.K.counts
+        B.seat B.log B.pin_at) call.now 0 wanted.new port.new places.new }
+    ensures len { length places.new ≡ length places.old }
+    ensures failed { result ≡ Asked.Failed → HasRisen (P.faults port.old) (P.faults port.new) }
+    ensures count { P.faults port.old ≤ P.faults port.new }
+{
+    let asked = take_link(alloc, &mut places[n], port);
+    *wanted = still_wanted(*wanted, asked);
+    asked
+}
+
+/// How many links are wanted still, after one was asked for.
+fn still_wanted(wanted: u32, asked: Asked) -> u32
+    requires { 0 < wanted }
+    ensures { result ≡ still_wanted asked wanted }
+{
+    match asked {
+        Asked::Given => wanted - 1,
+        _ => wanted,
+    }
+}
+
+/// Takes links for the free seats, in their order, while links are wanted and until none is there. True where one was
+/// given out.
+fn take_links<B: Pins + Drop, P: Port>(
+    alloc: Global,
+    call: &Call<P, B>,
+    places: &mut [Place<B, P::K>],
+    port: &mut P,
+    wanted: &mut u32,
+) -> Result<bool, Failed>
+where
+    P::K: Drop,
+    requires under_way { IsUnderWay (outside P.gave P.got_back P.faults P.K.left P.K.held P.K.counts
+        B.seat B.log B.pin_at) call.now 0 wanted.old port.old places.old }
+    ensures under_way { IsUnderWay (outside P.gave P.got_back P.faults P.K.left P.K.held P.K.counts
+        B.seat B.log B.pin_at) call.now 0 wanted.new port.new places.new }
+    ensures len { length places.new ≡ length places.old }
+    ensures failed { OnErr result (HasRisen (P.faults port.old) (P.faults port.new)) }
+    ensures count { P.faults port.old ≤ P.faults port.new }
+{
+    let mut any = false;
+    for n in 0..places.len() {
+        if *wanted == 0 {
+            return Ok(any);
+        }
+        match take_link_at(alloc, call, places, n, port, wanted) {
+            Asked::Unasked => {}
+            Asked::Given => any = true,
+            Asked::NotYet => return Ok(any),
+            Asked::Failed => return Err(Failed),
+        }
+    }
+    Ok(any)
+}
+
+/// Polls the session at the n-th place, if one is there.
+fn take_turn_at<R: Threads + Sync, B: Commits<R> + Drop, P: Port, L: Ledger>(
+    rt: &R,
+    cx: &mut Context<'_>,
+    call: &Call<P, B>,
+    places: &mut [Place<B, P::K>],
+    n: usize,
+    port: &mut P,
+    wanted: u32,
+    steps: &mut Steps<L>,
+) -> Turn
+where
+    P::K: Drop,
+    requires inside { n < length places.old }
+    requires under_way { IsUnderWay (outside P.gave P.got_back P.faults P.K.left P.K.held P.K.counts
+        B.seat B.log B.pin_at) call.now 0 wanted port.old places.old }
+    ensures under_way { IsUnderWay (outside P.gave P.got_back P.faults P.K.left P.K.held P.K.counts
+        B.seat B.log B.pin_at) call.now 0 wanted port.new places.new }
+    ensures len { length places.new ≡ length places.old }
+    ensures count { P.faults port.old ≤ P.faults port.new }
+    ensures kept { Keeps cx.old cx.new }
+{
+    let _ = wanted;
+    take_turn(rt, cx, &mut places[n], port, steps)
+}
+
+/// Polls each open session once, in the order of the seats. True where one ended.
+fn take_turns<R: Threads + Sync, B: Commits<R> + Drop, P: Port, L: Ledger>(
+    rt: &R,
+    cx: &mut Context<'_>,
+    call: &Call<P, B>,
+    places: &mut [Place<B, P::K>],
+    port: &mut P,
+    wanted: u32,
+    steps: &mut Steps<L>,
+) -> bool
+where
+    P::K: Drop,
+    requires under_way { IsUnderWay (outside P.gave P.got_back P.faults P.K.left P.K.held P.K.counts
+        B.seat B.log B.pin_at) call.now 0 wanted port.old places.old }
+    ensures under_way { IsUnderWay (outside P.gave P.got_back P.faults P.K.left P.K.held P.K.counts
+        B.seat B.log B.pin_at) call.now 0 wanted port.new places.new }
+    ensures len { length places.new ≡ length places.old }
+    ensures count { P.faults port.old ≤ P.faults port.new }
+    ensures kept { Keeps cx.old cx.new }
+{
+    let mut any = false;
+    for n in 0..places.len() {
+        if take_turn_at(rt, cx, call, places, n, port, wanted, steps) == Turn::Ended {
+            any = true;
+        }
+    }
+    any
+}
+
+/// Whether a round came to nothing: no link was given out, and every poll was pending.
+fn is_quiet(given: bool, ended: bool) -> bool
+    ensures { result ≡ not (given || ended) }
+{
+    !given && !ended
+}
+
+/// One round. True where it came to nothing.
+fn go_round<R: Threads + Sync, B: Commits<R> + Drop, P: Port, L: Ledger>(
+    rt: &R,
+    alloc: Global,
+    cx: &mut Context<'_>,
+    call: &Call<P, B>,
+    places: &mut [Place<B, P::K>],
+    port: &mut P,
+    wanted: &mut u32,
+    steps: &mut Steps<L>,
+) -> Result<bool, Failed>
+where
+    P::K: Drop,
+    requires under_way { IsUnderWay (outside P.gave P.got_back P.faults P.K.left P.K.held P.K.counts
+        B.seat B.log B.pin_at) call.now 0 wanted.old port.old places.old }
+    ensures under_way { IsUnderWay (outside P.gave P.got_back P.faults P.K.left P.K.held P.K.counts
+        B.seat B.log B.pin_at) call.now 0 wanted.new port.new places.new }
+    ensures len { length places.new ≡ length places.old }
+    ensures failed { OnErr result (HasRisen (P.faults port.old) (P.faults port.new)) }
+    ensures count { P.faults port.old ≤ P.faults port.new }
+    ensures kept { Keeps cx.old cx.new }
+{
+    let given = take_links(alloc, call, places, port, wanted)?;
+    let ended = take_turns(rt, cx, call, places, port, *wanted, steps);
+    Ok(is_quiet(given, ended))
+}
+
+/// Waits for the port where the round came to nothing.
+fn settle_if<P: Port>(port: &mut P, is_quiet: bool) -> Result<(), Failed>
+    ensures given { P.gave port.new ≡ P.gave port.old }
+    ensures back { P.got_back port.new ≡ P.got_back port.old }
+    ensures failed { OnErr result (HasRisen (P.faults port.old) (P.faults port.new)) }
+    ensures count { P.faults port.old ≤ P.faults port.new }
+    ensures busy { is_quiet ≡ false → port.new ≡ port.old }
+{
+    if !is_quiet {
+        return Ok(());
+    }
+    port.settle()
+}
+
+/// Whether the sessions are over: none is open, and no link is wanted or no seat is free.
+fn are_over<B: Pins + Drop, K: Drop>(places: &[Place<B, K>], wanted: u32) -> bool
+    ensures { result ≡ true → AreOver wanted places.now }
+{
+    !any_busy(places) && (wanted == 0 || !any_free(places))
+}
+
+/// Whether a session is open.
+fn any_busy<B: Pins + Drop, K: Drop>(places: &[Place<B, K>]) -> bool
+    ensures { result ≡ list_any is_busy places.now }
+{
+    places.iter().any(|place| is_busy(place))
+}
+
+/// Whether a seat is free.
+fn any_free<B: Pins + Drop, K: Drop>(places: &[Place<B, K>]) -> bool
+    ensures { result ≡ list_any is_free places.now }
+{
+    places.iter().any(|place| is_free(place))
+}
+
+/// Whether a session is open there.
+fn is_busy<B: Pins + Drop, K: Drop>(place: &Place<B, K>) -> bool
+    ensures { result ≡ is_busy place.now }
+{
+    matches!(place, Place::Busy(_))
+}
+
+/// Whether a free seat is there.
+fn is_free<B: Pins + Drop, K: Drop>(place: &Place<B, K>) -> bool
+    ensures { result ≡ is_free place.now }
+{
+    matches!(place, Place::Free(_, _))
+}
+
+/// Goes round until the sessions are over, or the port fails.
+pub(crate) fn go_on<R: Threads + Wait + Sync, B: Commits<R> + Drop, P: Port, L: Ledger>(
+    rt: &R,
+    alloc: Global,
+    cx: &mut Context<'_>,
+    call: &Call<P, B>,
+    places: &mut [Place<B, P::K>],
+    port: &mut P,
+    wanted: &mut u32,
+    steps: &mut Steps<L>,
+) -> Result<(), Failed>
+where
+    P::K: Drop,
+    requires under_way { IsUnderWay (outside P.gave P.got_back P.faults P.K.left P.K.held P.K.counts
+        B.seat B.log B.pin_at) call.now 0 wanted.old port.old places.old }
+    ensures under_way { IsUnderWay (outside P.gave P.got_back P.faults P.K.left P.K.held P.K.counts
+        B.seat B.log B.pin_at) call.now 0 wanted.new port.new places.new }
+    ensures over { OnOk result (AreOver wanted.new places.new) }
+    ensures len { length places.new ≡ length places.old }
+    ensures failed { OnErr result (HasRisen (P.faults port.old) (P.faults port.new)) }
+    ensures count { P.faults port.old ≤ P.faults port.new }
+    ensures kept { Keeps cx.old cx.new }
+{
+    for _ in rt.forever() {
+        let is_quiet = go_round(rt, alloc, cx, call, places, port, wanted, steps)?;
+        if are_over(places, *wanted) {
+            return Ok(());
+        }
+        settle_if(port, is_quiet)?;
+    }
+    unreachable!()
+}
+
+/// Breaks the session at the n-th place off, if one is there.
+fn close_at<B: Pins + Drop, P: Port>(
+    call: &Call<P, B>,
+    places: &mut [Place<B, P::K>],
+    n: usize,
+    port: &mut P,
+    wanted: u32,
+)
+where
+    P::K: Drop,
+    requires inside { n < length places.old }
+    requires under_way { IsUnderWay (outside P.gave P.got_back P.faults P.K.left P.K.held P.K.counts
+        B.seat B.log B.pin_at) call.now n wanted port.old places.old }
+    requires before { RestBefore n places.old }
+    ensures under_way { IsUnderWay (outside P.gave P.got_back P.faults P.K.left P.K.held P.K.counts
+        B.seat B.log B.pin_at) call.now (n + 1) wanted port.new places.new }
+    ensures before { RestBefore (n + 1) places.new }
+    ensures len { length places.new ≡ length places.old }
+    ensures count { P.faults port.old ≤ P.faults port.new }
+{
+    let _ = wanted;
+    close_place(&mut places[n], port);
+}
+
+/// Breaks all open sessions off.
+pub(crate) fn close_all<B: Pins + Drop, P: Port>(
+    call: &Call<P, B>,
+    places: &mut [Place<B, P::K>],
+    port: &mut P,
+    wanted: u32,
+)
+where
+    P::K: Drop,
+    requires under_way { IsUnderWay (outside P.gave P.got_back P.faults P.K.left P.K.held P.K.counts
+        B.seat B.log B.pin_at) call.now 0 wanted port.old places.old }
+    ensures under_way { IsUnderWay (outside P.gave P.got_back P.faults P.K.left P.K.held P.K.counts
+        B.seat B.log B.pin_at) call.now (length places.new) wanted port.new places.new }
+    ensures rest { NoneBusy places.new }
+    ensures len { length places.new ≡ length places.old }
+    ensures count { P.faults port.old ≤ P.faults port.new }
+{
+    for n in 0..places.len() {
+        close_at(call, places, n, port, wanted);
+    }
+}
