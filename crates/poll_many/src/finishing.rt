@@ -8,9 +8,9 @@ ghost use Rattle.poll_many.specs.Rounds.{IsUnderWay, AreFinished, AreNamed, Serv
 
 use crate::call::Call;
 use crate::place::{NO_MEMORY, Place};
+use crate::port::Port;
 use crate::rounds::{close_all, go_on};
 use crate::seating::{places_of, take_apart};
-use crate::port::Port;
 use futures::task::Context;
 use graph_nodes::Steps;
 use std::alloc::Global;

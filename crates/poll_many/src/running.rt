@@ -8,9 +8,9 @@ ghost use Rattle.poll_many.specs.Yards.{yard_with, ServesYard};
 
 use crate::finishing::PORT_FAILED;
 use crate::place::NO_MEMORY;
+use crate::port::Port;
 use crate::serving::serve_many;
 use crate::words::{Wanted, wanted_by};
-use crate::port::Port;
 use crate::yard::Yard;
 use futures::task::Context;
 use graph_nodes::Steps;
