@@ -1,5 +1,5 @@
 -- Where the first element fails a test that holds first, looked for by halving.
-use Rattle.std.proofs.Common.{◌≡◌, zero, refl, sym, ◌∙◌, ap, ℕ, suc, ◌+◌, ◌<◌, ◌≤◌, List, [], ◌∷◌, length, get_or, Bool, true, false, cond, arith}
+use Rattle.std.proofs.Common.{◌≡◌, zero, sym, ◌∙◌, ap, ℕ, suc, ◌+◌, ◌<◌, ◌≤◌, List, [], ◌∷◌, length, get_or, Bool, true, false, cond, arith}
 use Rattle.std.specs.List.{prefix_len}
 use Rattle.std.specs.List.Sorted.{IsPartitionedBy}
 

@@ -1,13 +1,9 @@
 -- Parts that were put into pools, and what parts behind them change.
-use Rattle.std.proofs.Common.{◌≡◌, zero, refl, sym, ◌∙◌, ap, subst, ℕ, suc, ◌+◌, ◌-◌, ◌<◌, ◌≤◌, List, [], ◌∷◌, ◌++◌, length, map, take, drop, get_or, min, arith}
+use Rattle.std.proofs.Common.{◌≡◌, refl, sym, ◌∙◌, ap, subst, ℕ, ◌+◌, ◌-◌, ◌≤◌, List, [], ◌∷◌, ◌++◌, length, map, take, drop, min, arith, append_assoc, append-nil}
 use Rattle.std.specs.Prelude.{All}
 use Rattle.std.specs.List.{AllByRecursion}
-use Rattle.std.proofs.lemmas.List.{length-append, length-drop, length-map, length-take, take-map, drop-map, drop-append-le, take-append-le, take_more, map_push}
+use Rattle.std.proofs.lemmas.List.{length-append, length-drop, length-map, length-take, take-map, drop-map, drop-append-le, take-append-le, map_push}
 use Rattle.std.proofs.lemmas.List.Elements.{All-from_recursion, recursion_from_All, All-push}
-use Rattle.stacks_vars.specs.declared.scopes.NodeAt.{NodeAt}
-use Rattle.stacks_vars.specs.declared.patterns.SymPat.{SymPat}
-use Rattle.stacks_vars.specs.declared.patterns.SymOut.{SymOut}
-use Rattle.stacks_vars.specs.declared.patterns.Tail.{Tail}
 use Rattle.partial_path.specs.declared.config.EdgeAt.{EdgeAt}
 use Rattle.partial_path.specs.declared.path_row.Part.{Part}
 use Rattle.partial_path.specs.declared.path_row.PathRow.{PathRow}
@@ -89,25 +85,33 @@ rows_still : (old new : Pools) (rows : List PathRow) → AreAddedTo old new → 
 rows_still old new [] added all = tt
 rows_still old new (row ∷ rows) added all = (row_still old new row added all.0, rows_still old new rows added all.1)
 
--- the rows so far are those of the first paths
+-- the rows are those of the paths, in their order
 pub record AreKept (pools : Pools) (rows : List PathRow) (paths : List Rule) : Type 0 where
   pub rules : rules_in pools rows ≡ paths
   pub within : All (IsRowIn pools) rows
 
-pub kept_none : (pools : Pools) (rows : List PathRow) (paths : List Rule) → rows ≡ [] → AreKept pools rows (take 0 paths)
-kept_none pools rows paths none =
-    subst (λ (rs : List PathRow). AreKept pools rs (take 0 paths)) (sym none) (record { rules = refl; within = All-from_recursion (IsRowIn pools) [] tt })
+pub kept_none : (pools : Pools) (rows : List PathRow) → rows ≡ [] → AreKept pools rows []
+kept_none pools rows none =
+    subst (λ (rs : List PathRow). AreKept pools rs []) (sym none) (record { rules = refl; within = All-from_recursion (IsRowIn pools) [] tt })
 
 -- a row more is that of the next path
-pub kept_more : (old new : Pools) (rows : List PathRow) (row : PathRow) (paths : List Rule) (k : ℕ) (d : Rule) → k < length paths
-    → AreKept old rows (take k paths) → AreAddedTo old new → IsKept new row (get_or paths k d) → AreKept new (rows ++ row ∷ []) (take (k + 1) paths)
-kept_more old new rows row paths k d below kept added one = record {
+pub kept_more : (old new : Pools) (rows : List PathRow) (row : PathRow) (paths : List Rule) (path : Rule)
+    → AreKept old rows paths → AreAddedTo old new → IsKept new row path → AreKept new (rows ++ row ∷ []) (paths ++ path ∷ [])
+kept_more old new rows row paths path kept added one = record {
   rules = map_push (rule_in new) rows row
       ∙ ap (λ rs. rs ++ rule_in new row ∷ []) (rows_same old new rows added (recursion_from_All (IsRowIn old) rows kept.within) ∙ kept.rules)
-      ∙ ap (λ r. take k paths ++ r ∷ []) one.same
-      ∙ sym (take_more paths k d below);
+      ∙ ap (λ r. paths ++ r ∷ []) one.same;
   within = All-push (IsRowIn new) rows row (All-from_recursion (IsRowIn new) rows (rows_still old new rows added (recursion_from_All (IsRowIn old) rows kept.within))) one.within;
 }
+
+-- a path more that came from those that are left
+pub one_came : (done rest next all : List Rule) (path : Rule) → rest ≡ path ∷ next → done ++ rest ≡ all → (done ++ path ∷ []) ++ next ≡ all
+one_came done rest next all path is e = append_assoc done (path ∷ []) next ∙ ap (λ rs. done ++ rs) (sym is) ∙ e
+
+-- none is left
+pub all_came : (done rest all : List Rule) → length rest ≡ 0 → done ++ rest ≡ all → done ≡ all
+all_came done [] all none e = sym (append-nil done) ∙ e
+all_came done (path ∷ rest) all none e = absurd (omega arith)
 
 -- the paths of the rows between two places are those of all rows between these places
 pub rules_between : (pools : Pools) (rows : List PathRow) (low n : ℕ) → rules_in pools (take n (drop low rows)) ≡ take n (drop low (rules_in pools rows))

@@ -1,6 +1,6 @@
 -- How a file's paths are kept: their parts in pools, and a row for each path that tells where its parts stand. No
 -- public clause cites this.
-use Rattle.std.specs.Prelude.{◌≡◌, ℕ, ◌+◌, ◌≤◌, List, ◌++◌, map, take, drop, length, All}
+use Rattle.std.specs.Prelude.{◌≡◌, ◌+◌, ◌≤◌, List, ◌++◌, map, take, drop, length}
 use Rattle.stacks_vars.specs.declared.scopes.NodeAt.{NodeAt}
 use Rattle.stacks_vars.specs.declared.patterns.SymPat.{SymPat}
 use Rattle.stacks_vars.specs.declared.patterns.Pre.{Pre}

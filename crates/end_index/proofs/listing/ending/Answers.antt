@@ -11,24 +11,24 @@ loop-place-init c = record { same = refl; passed = refl }
 
 pub loop-place-preserved-then-not-may_end : goal.loop-place-preserved-then-not-may_end
 loop-place-preserved-then-not-may_end c =
-    left_skipped (may_in (graphs_of (files_of c.args.view.now)) c.args.spot c.args.file) c.args.paths.now c.args.paths.now c.loop-place.place c.args.left.now c.loop-place.left c.at-path.result (omega (arith, c.loop-place-test.true, c.len.ensures))
+    left_skipped (may_in (graphs_of (files_of c.args.view.now)) c.args.spot c.args.file) c.args.paths.now c.args.paths.now c.loop-place.place c.args.left.now c.loop-place.left c.at-path.result (omega (arith, c.loop-place-test.true, c.len-place-end.ensures))
     (ap (may_in (graphs_of (files_of c.args.view.now)) c.args.spot c.args.file) (sym c.at-path.ensures.is) ∙ sym c.may_end.ensures ∙ c.if-not-may_end.true) c.loop-place.invariant
 
 pub returns-then-left-eq0-clause-found : goal.returns-then-left-eq0-clause-found
 returns-then-left-eq0-clause-found c =
     ap Some c.at-path.ensures.is
-    ∙ left_found (may_in (graphs_of (files_of c.args.view.now)) c.args.spot c.args.file) c.args.paths.now c.args.paths.now c.loop-place.place c.args.left.now c.loop-place.left c.at-path.result (omega (arith, c.loop-place-test.true, c.len.ensures))
+    ∙ left_found (may_in (graphs_of (files_of c.args.view.now)) c.args.spot c.args.file) c.args.paths.now c.args.paths.now c.loop-place.place c.args.left.now c.loop-place.left c.at-path.result (omega (arith, c.loop-place-test.true, c.len-place-end.ensures))
     (ap (may_in (graphs_of (files_of c.args.view.now)) c.args.spot c.args.file) (sym c.at-path.ensures.is) ∙ sym c.may_end.ensures ∙ c.if-not-may_end.false) c.if-left-eq0.true c.loop-place.invariant
 
 pub loop-place-preserved : goal.loop-place-preserved
 loop-place-preserved c =
-    left_counted (may_in (graphs_of (files_of c.args.view.now)) c.args.spot c.args.file) c.args.paths.now c.args.paths.now c.loop-place.place c.args.left.now c.loop-place.left c.at-path.result (omega (arith, c.loop-place-test.true, c.len.ensures))
+    left_counted (may_in (graphs_of (files_of c.args.view.now)) c.args.spot c.args.file) c.args.paths.now c.args.paths.now c.loop-place.place c.args.left.now c.loop-place.left c.at-path.result (omega (arith, c.loop-place-test.true, c.len-place-end.ensures))
     (ap (may_in (graphs_of (files_of c.args.view.now)) c.args.spot c.args.file) (sym c.at-path.ensures.is) ∙ sym c.may_end.ensures ∙ c.if-not-may_end.false) (omega arith) c.loop-place.invariant
 
 pub returns-clause-found : goal.returns-clause-found
 returns-clause-found c =
-    (left_none (may_in (graphs_of (files_of c.args.view.now)) c.args.spot c.args.file) c.args.paths.now c.args.paths.now c.loop-place.place c.args.left.now c.loop-place.left (omega (arith, c.loop-place-test.false, c.len.ensures)) c.loop-place.invariant).0
+    (left_none (may_in (graphs_of (files_of c.args.view.now)) c.args.spot c.args.file) c.args.paths.now c.args.paths.now c.loop-place.place c.args.left.now c.loop-place.left (omega (arith, c.loop-place-test.false, c.len-place-end.ensures)) c.loop-place.invariant).0
 
 pub returns-clause-rest : goal.returns-clause-rest
 returns-clause-rest c =
-    (left_none (may_in (graphs_of (files_of c.args.view.now)) c.args.spot c.args.file) c.args.paths.now c.args.paths.now c.loop-place.place c.args.left.now c.loop-place.left (omega (arith, c.loop-place-test.false, c.len.ensures)) c.loop-place.invariant).1
+    (left_none (may_in (graphs_of (files_of c.args.view.now)) c.args.spot c.args.file) c.args.paths.now c.args.paths.now c.loop-place.place c.args.left.now c.loop-place.left (omega (arith, c.loop-place-test.false, c.len-place-end.ensures)) c.loop-place.invariant).1

@@ -12,7 +12,7 @@ returns-in-Ok-clause-known g c =
     (table_is c.args.query.now.bounds (graphs_seen c.args.query.now.view.now) (IsHeld c.in-Ok.links.whole c.args.query.now.definitions.now) c.in-Ok.links.list.items c.in_order.result.list.items c.in-Ok.links.limit
     c.in_order.result.limit c.in-Ok.ensures.found c.in_order.ensures.order c.in_order.ensures.exact c.in_order.ensures.limit)
 
-pub returns-in_ok-told-clause-known : goal.returns-in_ok-told-clause-known
-returns-in_ok-told-clause-known g c =
-    subst (λ (told : Told). IsTold c.args.query.now.bounds (graphs_seen c.args.query.now.view.now) c.args.query.now.definitions.now told) (sym c.in_ok-told.ensures.told)
-    (c.in-Err.ensures.crowded (ap (λ x. Err x) c.in_ok-told.ensures.definite))
+pub returns-in_ok-told_of-in-Err-clause-known : goal.returns-in_ok-told_of-in-Err-clause-known
+returns-in_ok-told_of-in-Err-clause-known g c =
+    subst (λ (told : Told). IsTold c.args.query.now.bounds (graphs_seen c.args.query.now.view.now) c.args.query.now.definitions.now told) (sym c.in_ok-told_of-in-Err.ensures.told)
+    (c.in-Err.ensures.crowded (ap (λ x. Err x) c.in_ok-told_of-in-Err.ensures.definite))

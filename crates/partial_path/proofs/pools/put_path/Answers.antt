@@ -1,19 +1,20 @@
 -- Each part stands in its pool, where the row says it.
-use Rattle.std.proofs.Common.{◌≡◌, sym, ◌∙◌, ap, subst}
+use Rattle.std.proofs.Common.{◌≡◌, sym, ◌∙◌, subst, All}
 use Rattle.partial_path.specs.Rules.{rule_of}
-use Rattle.partial_path.specs.FileNumbers.{IsOfFileZero}
+use Rattle.partial_path.specs.FileNumbers.{IsOfFileZero, EdgeIn}
 use Rattle.partial_path.specs.Pooled.{pre_of, post_of}
 use Rattle.partial_path.proofs.Pooling.{row_kept}
 use Rattle.partial_path.proofs.pools.put_path.Goals as goal
 
 pub row_start-requires : goal.row_start-requires
-row_start-requires c = (subst IsOfFileZero (sym c.into_parts.ensures.value) c.requires).start
+row_start-requires c = (subst IsOfFileZero (sym c.into_parts-start.ensures.value) c.requires).start
 
 pub row_end-requires : goal.row_end-requires
-row_end-requires c = (subst IsOfFileZero (sym c.into_parts.ensures.value) c.requires).end
+row_end-requires c = (subst IsOfFileZero (sym c.into_parts-start.ensures.value) c.requires).end
 
-pub put_edges-edges-requires : goal.put_edges-edges-requires
-put_edges-edges-requires c = (subst IsOfFileZero (sym c.into_parts.ensures.value) c.requires).edges
+pub put_edges-requires : goal.put_edges-requires
+put_edges-requires c =
+    subst (All (EdgeIn (λ file. file ≡ 0))) (sym c.as_slice.ensures.value) (subst IsOfFileZero (sym c.into_parts-start.ensures.value) c.requires).edges
 
 pub returns-clause-added : goal.returns-clause-added
 returns-clause-added c = record {
@@ -31,6 +32,6 @@ returns-clause-kept c =
     let made = c.in_ok-made.ensures.value ∙ c.into_items-3.ensures in
     let scopes = c.in_ok-scopes.ensures.value ∙ c.into_items-4.ensures in
     let same =
-    (λ i. rule_of (c.row_start.ensures i) (c.row_end.ensures i) (pre_of (asked i) (fixed i)) (post_of (made i) (scopes i) c.into_parts.result.post.scopes.tail) c.into_parts.result.peak (c.in_ok-edges.ensures.value i))
-    ∙ c.into_parts.ensures.value in
-    row_kept _ _ _ c.in_ok-asked.ensures.within c.in_ok-fixed.ensures.within c.in_ok-made.ensures.within c.in_ok-scopes.ensures.within c.in_ok-edges.ensures.within same c.into_parts.ensures.rule
+    (λ i. rule_of (c.row_start.ensures i) (c.row_end.ensures i) (pre_of (asked i) (fixed i)) (post_of (made i) (scopes i) c.into_parts-start.result.post.scopes.tail) c.into_parts-start.result.peak ((c.in_ok-edges.ensures.value ∙ c.as_slice.ensures.value) i))
+    ∙ c.into_parts-start.ensures.value in
+    row_kept _ _ _ c.in_ok-asked.ensures.within c.in_ok-fixed.ensures.within c.in_ok-made.ensures.within c.in_ok-scopes.ensures.within c.in_ok-edges.ensures.within same c.into_parts-start.ensures.rule

@@ -28,7 +28,7 @@ returns-then-not-is_from_root c =
     ∙ sym (ap (λ (ps : List RootPath). c.loop-place.slots.items ++ ps)
     (none_behind c.args.file.now.path c.paths-paths.result c.loop-place.place c.at.result
     (subst (λ (rs : List Rule). IsByStart rs) (sym c.paths-paths.ensures.value) c.paths-paths.ensures.order)
-    c.loop-place.invariant.behind (omega (arith, c.loop-place-test.true, c.len.ensures))
+    c.loop-place.invariant.behind (omega (arith, c.loop-place-test.true, c.len-place-end.ensures))
     (ap (begins_at root) (sym c.at.ensures.is) ∙ sym c.is_from_root.ensures ∙ c.if-not-is_from_root.true)))
     ∙ c.loop-place.invariant.added
 
@@ -42,7 +42,7 @@ loop-place-preserved c =
     record {
       added = ap (λ (ps : List RootPath). ps ++ roots_from c.args.file.now.path (c.loop-place.place + 1) (drop (c.loop-place.place + 1) c.paths-paths.result))
           (c.in_ok-push.ensures.items ∙ ap (λ (p : RootPath). c.loop-place.slots.items ++ p ∷ []) slot_is)
-          ∙ one_added c.args.file.now.path c.loop-place.place c.paths-paths.result c.at.result c.loop-place.slots.items _ (omega (arith, c.loop-place-test.true, c.len.ensures))
+          ∙ one_added c.args.file.now.path c.loop-place.place c.paths-paths.result c.at.result c.loop-place.slots.items _ (omega (arith, c.loop-place-test.true, c.len-place-end.ensures))
           (ap (begins_at root) (sym c.at.ensures.is) ∙ sym c.is_from_root.ensures ∙ c.if-not-is_from_root.false) c.loop-place.invariant.added;
       behind = omega (arith, c.loop-place.invariant.behind);
     }

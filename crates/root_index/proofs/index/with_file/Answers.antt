@@ -27,14 +27,14 @@ loop-place-preserved c =
             order = subst AreByRank (sym added) (order_with (all_paths c.loop-place.more) w.of.result c.loop-place.invariant.order);
             all = subst (λ ps. IsPermutation whole (roots_from c.args.file.now.path (c.loop-place.place + 1) (drop (c.loop-place.place + 1) c.paths-paths.result) ++ ps))
                 (sym (added ∙ ap (insert (all_paths c.loop-place.more) (prefix_len (is_up_to w.of.result) (all_paths c.loop-place.more))) slot_is))
-                (one_in c.args.file.now.path c.loop-place.place c.paths-paths.result c.at.result whole (all_paths c.loop-place.more) (omega (arith, c.loop-place-test.true, c.len.ensures)) c.loop-place.invariant.all
+                (one_in c.args.file.now.path c.loop-place.place c.paths-paths.result c.at.result whole (all_paths c.loop-place.more) (omega (arith, c.loop-place-test.true, c.len-place-end.ensures)) c.loop-place.invariant.all
                 (ap (begins_at root) (sym c.at.ensures.is) ∙ sym c.is_from_root.ensures ∙ w.if-is_from_root.true) (prefix_len (is_up_to w.of.result) (all_paths c.loop-place.more)));
           }
       | else-is_from_root w ↦ record {
         order = subst AreByRank (sym (ap all_paths w.more-is)) c.loop-place.invariant.order;
         all = subst (λ ps. IsPermutation whole (roots_from c.args.file.now.path (c.loop-place.place + 1) (drop (c.loop-place.place + 1) c.paths-paths.result) ++ ps))
             (sym (ap all_paths w.more-is))
-            (none_in c.args.file.now.path c.loop-place.place c.paths-paths.result c.at.result whole (all_paths c.loop-place.more) (omega (arith, c.loop-place-test.true, c.len.ensures)) c.loop-place.invariant.all
+            (none_in c.args.file.now.path c.loop-place.place c.paths-paths.result c.at.result whole (all_paths c.loop-place.more) (omega (arith, c.loop-place-test.true, c.len-place-end.ensures)) c.loop-place.invariant.all
             (ap (begins_at root) (sym c.at.ensures.is) ∙ sym c.is_from_root.ensures ∙ w.if-is_from_root.false));
       }
     ]

@@ -35,7 +35,7 @@ loop-place-preserved c =
           ∙ one_out c.args.file.now c.loop-place.place (all_paths c.args.groups) c.requires.from
       | else-is_from_root w ↦
           let count = ap length rules_are in
-          let inside : c.loop-place.place < length c.args.file.now.file.rules = omega (arith, c.loop-place-test.true, c.len.ensures, count) in
+          let inside : c.loop-place.place < length c.args.file.now.file.rules = omega (arith, c.loop-place-test.true, c.len-place-end.ensures, count) in
           ap all_paths w.rest-is ∙ c.loop-place.invariant
           ∙ none_out c.args.file.now c.loop-place.place (all_paths c.args.groups) c.requires.from c.at.result inside
           (ap (begins_at root) (sym (c.at.ensures.is ∙ ap (λ (rs : List Rule). get_or rs c.loop-place.place c.at.result) rules_are))
@@ -47,4 +47,4 @@ returns c =
     let rules_are : c.paths-paths.result ≡ c.args.file.now.file.rules
     = c.paths-paths.ensures.value ∙ ap (λ (f : FileRules). f.rules) (c.get.ensures.value ∙ c.paths.ensures) in
     let count = ap length rules_are in
-    c.loop-place.invariant ∙ all_out c.args.file.now (all_paths c.args.groups) c.loop-place.place c.requires.from (omega (arith, c.loop-place-test.false, c.len.ensures, count))
+    c.loop-place.invariant ∙ all_out c.args.file.now (all_paths c.args.groups) c.loop-place.place c.requires.from (omega (arith, c.loop-place-test.false, c.len-place-end.ensures, count))

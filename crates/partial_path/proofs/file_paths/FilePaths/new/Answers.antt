@@ -8,8 +8,8 @@ use Rattle.partial_path.proofs.Reordered.{path_set_reordered, set_of_file_zero}
 use Rattle.partial_path.proofs.file_paths.FilePaths.new.Goals as goal
 
 -- what is kept is what was sorted
-pub of-paths-requires : goal.of-paths-requires
-of-paths-requires c =
+pub of-requires : goal.of-requires
+of-requires c =
     set_of_file_zero c.args.graph _ (path_set_reordered c.args.graph c.args.paths.items _ c.sort_paths.ensures.permutation c.requires.paths)
 
 pub returns-clause-paths : goal.returns-clause-paths

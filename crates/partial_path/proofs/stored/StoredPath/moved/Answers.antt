@@ -1,5 +1,5 @@
 -- The moved parts are those of a rule.
-use Rattle.std.proofs.Common.{◌≡◌, ◌∙◌, ap, sym, subst, rules}
+use Rattle.std.proofs.Common.{◌≡◌, ◌∙◌, sym, subst, rules}
 use Rattle.partial_path.specs.Moved.{moved, moved_pre, moved_post, Fits}
 use Rattle.partial_path.specs.Pooled.{pre_of, post_of}
 use Rattle.partial_path.proofs.FileNumberLaws.{moved-fits}
