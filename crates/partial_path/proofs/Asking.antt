@@ -28,7 +28,7 @@ left_skipped p xs zs i k n d h fails left =
     = ap (filter p) (drop_more zs i d h) ∙ ap (λ b. cond b (get_or zs i d ∷ filter p (drop (i + 1) zs)) (filter p (drop (i + 1) zs))) fails in
     record { same = left.same ∙ ap (λ ys. slice_get ys n) e; passed = left.passed ∙ ap (λ ys. k + length ys) e }
 
-kept_here : {X : Type 0} (p : X → Bool) (zs : List X) (i : ℕ) (d : X) → i < length zs → p (get_or zs i d) ≡ true
+pub kept_here : {X : Type 0} (p : X → Bool) (zs : List X) (i : ℕ) (d : X) → i < length zs → p (get_or zs i d) ≡ true
     → filter p (drop i zs) ≡ get_or zs i d ∷ filter p (drop (i + 1) zs)
 kept_here p zs i d h passes =
     ap (filter p) (drop_more zs i d h) ∙ ap (λ b. cond b (get_or zs i d ∷ filter p (drop (i + 1) zs)) (filter p (drop (i + 1) zs))) passes

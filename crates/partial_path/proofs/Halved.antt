@@ -86,7 +86,7 @@ at_from Less e = absurd (omega (arith, e))
 at_from Equal e = refl
 at_from Greater e = absurd (omega (arith, e))
 
-before_not_at : (o : Ordering) → is_lt o ≡ true → is_eq o ≡ false
+pub before_not_at : (o : Ordering) → is_lt o ≡ true → is_eq o ≡ false
 before_not_at Less e = refl
 before_not_at Equal e = absurd (false≢true e)
 before_not_at Greater e = refl

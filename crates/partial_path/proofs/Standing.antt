@@ -1,6 +1,6 @@
 -- How a key stands to the texts of a stack's first symbols, and elements in order of which some are taken one
 -- after the other.
-use Rattle.std.proofs.Common.{◌≡◌, refl, sym, ◌∙◌, ap, ℕ, zero, suc, ◌+◌, ◌-◌, ◌<◌, ◌≤◌, List, [], ◌∷◌, ◌++◌, length, take, drop, get_or, Bool, true, false, cond, Some, None, arith, slice_get, inl, inr}
+use Rattle.std.proofs.Common.{◌≡◌, refl, sym, ◌∙◌, ap, ℕ, zero, suc, ◌+◌, ◌-◌, ◌<◌, ◌≤◌, List, [], ◌∷◌, ◌++◌, length, take, drop, get_or, Bool, true, false, cond, Some, arith, slice_get, inl, inr}
 use Rattle.std.specs.Prelude.{filter, ◌&&◌, ◌||◌, nat_eq}
 use Rattle.std.specs.Option.{unwrap_or}
 use Rattle.std.specs.Str.{bytes_eq}
@@ -97,10 +97,6 @@ pub next_taken : {X : Type 0} (xs : List X) (place end : ℕ) (d : X) → place 
 next_taken xs place end d h inside =
     let more : end - place ≡ suc (end - (place + 1)) = omega (arith, h) in
     (λ i. take (more i) (drop_more xs place d inside i))
-
-pub no_first : {X : Type 0} (xs : List X) → slice_get xs 0 ≡ None → xs ≡ []
-no_first [] e = refl
-no_first (x ∷ xs) e = absurd (none-some x (sym e))
 
 pub first_taken : {X : Type 0} (xs : List X) (place k : ℕ) (x : X) → slice_get (take k (drop place xs)) 0 ≡ Some x → (place < length xs) × (get_or xs place x ≡ x)
 first_taken [] zero zero x e = absurd (none-some x e)

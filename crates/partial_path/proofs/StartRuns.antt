@@ -1,35 +1,18 @@
--- The run of a start among rules in order: told by the rules at its ends, and where what is asked of the start stands.
-use Rattle.std.proofs.Common.{◌≡◌, refl, sym, ◌∙◌, ap, ℕ, ◌+◌, ◌-◌, ◌<◌, ◌≤◌, inl, inr, List, [], ◌∷◌, length, take, drop, get_or, Bool, true, false, cond, arith, min}
-use Rattle.std.specs.Prelude.{filter}
+-- The run of a start among rules in order, told by the rules at its ends.
+use Rattle.std.proofs.Common.{◌≡◌, refl, sym, ◌∙◌, ap, ℕ, ◌+◌, ◌-◌, ◌<◌, ◌≤◌, inl, inr, List, [], ◌∷◌, length, take, drop, get_or, true, false, arith, min}
 use Rattle.std.specs.Ordering.{ordering_index, is_lt, is_eq, is_gt}
 use Rattle.std.specs.declared.cmp.Ordering.{Ordering}
 use Rattle.std.specs.declared.cmp.Ordering.TheVariants.{Less, Equal, Greater}
 use Rattle.std.specs.List.{prefix_len}
 use Rattle.std.proofs.lemmas.Bool.{false≢true, cases_lt}
 use Rattle.std.proofs.lemmas.List.Sums.{prefix_len_is}
-use Rattle.std.proofs.lemmas.List.{length-take, length-drop, get_or-take, get_or-drop, take-take, drop-drop, drop-take}
+use Rattle.std.proofs.lemmas.List.{length-take, length-drop, get_or-take, get_or-drop}
 use Rattle.partial_path.specs.declared.rule.Start.{Start}
 use Rattle.partial_path.specs.Rules.{Rule}
 use Rattle.partial_path.specs.Starts.{start_cmp, IsByStart, is_before, begins_at, rules_at}
-use Rattle.partial_path.specs.Keys.{IsByKey, slot_cmp, slot_of, has_slot, rules_asking}
+use Rattle.partial_path.specs.Keys.{IsByKey, slot_cmp, slot_of}
 use Rattle.partial_path.proofs.Orders.{start_eq_is}
 use Rattle.partial_path.proofs.Halved.{side, start_side, starts_rise, at_is, run_is}
-use Rattle.partial_path.proofs.Standing.{first_of}
-
--- what passes a test that asks for more is found among those that pass the test
-twice_case : {X : Type 0} (p q : X → Bool) (x : X) (xs : List X) (b c : Bool) → p x ≡ b → q x ≡ c → (q x ≡ true → p x ≡ true) → filter q (filter p xs) ≡ filter q xs
-    → filter q (filter p (x ∷ xs)) ≡ filter q (x ∷ xs)
-twice_case p q x xs true c e f inside rest = ap (λ b. filter q (cond b (x ∷ filter p xs) (filter p xs))) e ∙ ap (λ ys. cond (q x) (x ∷ ys) ys) rest
-twice_case p q x xs false true e f inside rest = absurd (false≢true (sym e ∙ inside f))
-twice_case p q x xs false false e f inside rest =
-    ap (λ b. filter q (cond b (x ∷ filter p xs) (filter p xs))) e ∙ rest ∙ sym (ap (λ b. cond b (x ∷ filter q xs) (filter q xs)) f)
-
-filter_twice : {X : Type 0} (p q : X → Bool) → ((x : X) → q x ≡ true → p x ≡ true) → (xs : List X) → filter q (filter p xs) ≡ filter q xs
-filter_twice p q inside [] = refl
-filter_twice p q inside (x ∷ xs) = twice_case p q x xs (p x) (q x) refl refl (inside x) (filter_twice p q inside xs)
-
-pub asked_in_run : (start : Start) (asked : List (List ℕ)) (rules : List Rule) → rules_asking start asked (rules_at start rules) ≡ rules_asking start asked rules
-asked_in_run start asked rules = filter_twice (begins_at start) (has_slot start asked) (λ rule e. first_of (begins_at start rule) _ e) rules
 
 -- a piece of rules in order is in order
 pub piece_sorted : (rules : List Rule) (low n : ℕ) → IsByKey rules → IsByKey (take n (drop low rules))
@@ -42,19 +25,6 @@ piece_sorted rules low n sorted k d above below =
     let here : get_or (take n (drop low rules)) k d ≡ get_or rules (low + k) d
     = get_or-take n (drop low rules) k d (omega (arith, taken, below)) ∙ get_or-drop low rules k d in
     (λ i. is_lt (slot_cmp (slot_of (next i)) (slot_of (here i)))) ∙ sorted (low + k) d (omega arith) (omega (arith, taken, rest, below))
-
--- a piece of a piece
-pub shifted : (rules : List Rule) (low n p e : ℕ) → p ≤ e → e ≤ length (take n (drop low rules))
-    → take (e - p) (drop p (take n (drop low rules))) ≡ take ((low + e) - (low + p)) (drop (low + p) rules)
-shifted rules low n p e rise within =
-    let taken : length (take n (drop low rules)) ≡ min n (length (drop low rules)) = length-take n (drop low rules) in
-    let whole : n ≡ p + (n - p) = omega (arith, rise, within, taken) in
-    let size : (low + e) - (low + p) ≡ e - p = omega arith in
-    ap (λ m. take (e - p) (drop p (take m (drop low rules)))) whole
-    ∙ ap (take (e - p)) (drop-take p (n - p) (drop low rules))
-    ∙ take-take (e - p) (n - p) (drop p (drop low rules)) (omega (arith, rise, within, taken))
-    ∙ ap (take (e - p)) (drop-drop p low rules)
-    ∙ ap (λ m. take m (drop (low + p) rules)) (sym size)
 
 pub lt_index : (o : Ordering) → is_lt o ≡ true → ordering_index o ≡ 0
 lt_index Less e = refl

@@ -1,22 +1,27 @@
 -- What a `FilePaths` and a `FileList` keep of their parts, and how a rule is found. No public clause cites this.
-use Rattle.std.specs.Prelude.{ℕ, ◌≤◌, ◌^◌, List, length, take, All, Bool}
+use Rattle.std.specs.Prelude.{◌≡◌, ℕ, ◌≤◌, ◌<◌, ◌^◌, List, length, take, All, Bool, true, false, Option, Some, None, MatchOption}
+use Rattle.std.specs.List.{AllWithin, HoldsAt}
+use Rattle.std.specs.Str.{bytes_eq}
 use Rattle.std.specs.Ordering.{is_lt, is_eq}
 use Rattle.std.specs.declared.cmp.Ordering.{Ordering}
 use Rattle.partial_path.specs.declared.config.Spot.TheVariants as spot
+use Rattle.stacks_vars.specs.declared.items.SymbolItem.{SymbolItem}
 use Rattle.stacks_vars.specs.declared.patterns.SymPat.{SymPat}
 use Rattle.partial_path.specs.declared.rule.Start.{Start}
 use Rattle.partial_path.specs.declared.rule.Start.TheVariants.{Before, After}
 use Rattle.partial_path.specs.Spots.{node_at}
-use Rattle.partial_path.specs.declared.offers.FileOffers.{FileOffers}
 use Rattle.partial_path.specs.Rules.{Rule}
 use Rattle.partial_path.specs.PathSets.{FileRules, AreFileRules}
 use Rattle.partial_path.specs.Keys.{IsByKey, asked_texts, key_size, slot_of, slot_cmp}
-use Rattle.partial_path.specs.Sources.{IsSourceFile}
+use Rattle.partial_path.specs.Heads.{AreFirstHeads}
+use Rattle.partial_path.specs.Sources.{IsSourceFile, is_offered}
 
--- the rules are the graph's path set, in the order of their starts and keys, and the weight is its weight
-pub record IsStored (file : FileRules) : Type 0 where
+-- the rules are the graph's path set, in the order of their starts and keys, the weight is its weight, and the
+-- numbers, where there are as many, are the heads of the rules' first symbols
+pub record IsStored (file : FileRules) (numbers : List ℕ) : Type 0 where
   pub sets : AreFileRules file
   pub order : IsByKey file.rules
+  pub heads : AreFirstHeads numbers file.rules
 
 -- path sets of files, few enough for their numbers
 pub record AreStored (files : List FileRules) : Type 0 where
@@ -51,6 +56,30 @@ start_inside (Before node) = Before (node_at 0 node.node)
 start_inside (After spot.Root) = After spot.Root
 start_inside (After (spot.At node)) = After (spot.At (node_at 0 node.node))
 
--- a look-up that stands at that place
-abbrev pub offers_at : Start → ℕ → ℕ → ℕ → FileOffers
-offers_at start place end asked = record { start = start; place = place; end = end; asked = asked }
+-- none of the rules from one place on and before another is offered
+abbrev pub NoneOffered : Start → List SymbolItem → List Rule → ℕ → ℕ → Type 0
+NoneOffered start symbols rules low high = AllWithin (λ rule. is_offered start symbols rule ≡ false) rules low high
+
+-- the first of them that is offered stands at that place
+pub record IsFirstOffered (start : Start) (symbols : List SymbolItem) (rules : List Rule) (low high place : ℕ) : Type 0 where
+  pub from : low ≤ place
+  pub within : place < high
+  pub none : NoneOffered start symbols rules low place
+  pub is : HoldsAt (λ rule. is_offered start symbols rule ≡ true) rules place
+
+-- the place of the first of them that is offered, None where none is
+abbrev pub IsNextOffer : Start → List SymbolItem → List Rule → ℕ → ℕ → Option ℕ → Type 0
+IsNextOffer start symbols rules low high next =
+    MatchOption next (NoneOffered start symbols rules low high) (λ place. IsFirstOffered start symbols rules low high place)
+
+-- the first of the rules that stands at that start and key has that place
+pub record IsFirstAtSlot (start : Start) (asked : List (List ℕ)) (rules : List Rule) (place : ℕ) : Type 0 where
+  pub within : place < length rules
+  pub before : AllWithin (λ rule. is_before_slot start asked rule ≡ true) rules 0 place
+  pub is : HoldsAt (λ rule. is_at_slot start asked rule ≡ true) rules place
+
+-- whether a text that is asked for, or none, is met by that text, or by none
+abbrev pub meets_text : Option (List ℕ) → Option (List ℕ) → Bool
+meets_text None symbol = true
+meets_text (Some asked) None = false
+meets_text (Some asked) (Some symbol) = bytes_eq asked symbol

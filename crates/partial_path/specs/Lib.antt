@@ -14,6 +14,7 @@ pub mod PathSets
 pub mod Pooled
 pub mod Starts
 pub mod Keys
+pub mod Heads
 pub mod Inside
 pub mod Sources
 pub mod Offers

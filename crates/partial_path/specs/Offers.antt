@@ -1,5 +1,5 @@
 -- What a look-up by a start and a stack of symbols still has to offer, of one file and of a list of files.
-use Rattle.std.specs.Prelude.{ℕ, ◌+◌, ◌-◌, List, [], ◌++◌, length, map, take, drop, filter, Bool, true, false, ◌&&◌, nat_le, if◌then◌else◌, slice_get}
+use Rattle.std.specs.Prelude.{ℕ, ◌+◌, List, [], ◌++◌, map, drop, filter, Bool, true, false, if◌then◌else◌, slice_get}
 use Rattle.std.specs.Option.{option_map_or}
 use Rattle.stacks_vars.specs.declared.items.SymbolItem.{SymbolItem}
 use Rattle.partial_path.specs.declared.config.Spot.TheVariants as spot
@@ -9,20 +9,11 @@ use Rattle.partial_path.specs.declared.offers.FileOffers.{FileOffers}
 use Rattle.partial_path.specs.declared.file_list.ListOffers.{ListOffers}
 use Rattle.partial_path.specs.Rules.{Rule}
 use Rattle.partial_path.specs.PathSets.{FileRules}
-use Rattle.partial_path.specs.Keys.{key}
 use Rattle.partial_path.specs.Sources.{is_offered, numbered, rules_offered_after}
-
--- the rules at the places that come next
-abbrev pub next_rules : FileOffers → List Rule → List Rule
-next_rules at rules = take (at.end - at.place) (drop at.place rules)
-
--- whether the rule is offered after those: it asks for at least so many symbols
-abbrev pub is_later : FileOffers → List SymbolItem → Rule → Bool
-is_later at symbols rule = is_offered at.start symbols rule && nat_le at.asked (length (key rule))
 
 -- what a look-up that stands there still has to offer of one file's rules
 abbrev pub offers_left : FileOffers → List SymbolItem → List Rule → List Rule
-offers_left at symbols rules = next_rules at rules ++ filter (is_later at symbols) rules
+offers_left at symbols rules = filter (is_offered at.start symbols) (drop at.place rules)
 
 -- whether paths of more than one file can have the start
 abbrev pub is_shared : Start → Bool

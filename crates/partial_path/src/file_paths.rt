@@ -1,7 +1,7 @@
 use crate::offers::{FileOffers, next_offer};
 use crate::path::PartialPath;
 use crate::rule::Start;
-use crate::slots::run_within;
+use crate::slots::run_asking;
 use crate::sorting::sort_paths;
 use crate::start_table::StartTable;
 use crate::stored::StoredPath;
@@ -32,7 +32,7 @@ impl Model for FilePaths {
 
     ghost view = { λ f. file_rules f.graph f.paths f.weight };
 
-    ghost invariant = { λ f. IsStored (file_rules f.graph f.paths f.weight) };
+    ghost invariant = { λ f. IsStored (file_rules f.graph f.paths f.weight) f.starts.heads.items };
 }
 
 impl FilePaths {
@@ -98,7 +98,7 @@ impl FilePaths {
     }
 
     /// The paths that begin there and whose key is made of the texts of the stack's first symbols, so many
-    /// of them, found by halving among those that begin there, first over the heads of their first symbols.
+    /// of them, found by halving.
     pub fn paths_asking<'a>(
         &'a self,
         start: Start,
@@ -111,15 +111,13 @@ impl FilePaths {
         ensures sets { AreFileRules self.now }
     {
         let paths = self.paths.lent();
-        let run = self.starts.run(&paths, start);
-        let heads = self.starts.heads(run.0, run.1);
-        let (place, end) = run_within(&paths, heads, run, start, symbols, count);
+        let (place, end) = run_asking(&paths, start, symbols, count);
         paths.between(place, end)
     }
 
     /// The path that comes next in a look-up that stands there, and where the look-up stands after it; None
-    /// where no more is offered. It takes constant time within a run of equal keys. The next run is found by
-    /// halving among the paths that begin there, at most seven in a look-up.
+    /// where no more is offered. It looks at the heads of the paths that begin there, by halving, at up to eight
+    /// paths whose first symbol has the head of the stack's first one, and at more of these by halving.
     pub fn next_offer<'a>(
         &'a self,
         symbols: &SymbolStack,

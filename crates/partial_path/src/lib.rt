@@ -10,6 +10,7 @@ mod file_list;
 mod file_paths;
 mod filling;
 mod halving;
+mod heads;
 mod laws;
 mod matching;
 mod moving;

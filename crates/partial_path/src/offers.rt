@@ -1,34 +1,38 @@
 //! Taking what a file offers at a start to a stack of symbols, path by path.
-ghost use Rattle.std.specs.Prelude.{◌≡◌, ◌<◌, [], ◌∷◌, filter, slice_get, IfSome, MatchOption};
-ghost use Rattle.partial_path.specs.Keys.{IsByKey};
-ghost use Rattle.partial_path.specs.Offers.{is_later, next_rules, offers_left};
+ghost use Rattle.std.specs.Prelude.{◌≡◌, ◌≤◌, [], ◌∷◌, length, slice_get, true, IfSome, MatchOption};
+ghost use Rattle.std.specs.List.{AllWithin};
+ghost use Rattle.partial_path.specs.Heads.{AreFirstHeads, AreHeadsBelow, AreNoLess, IsHeadAt};
+ghost use Rattle.partial_path.specs.Inside.{IsNextOffer};
+ghost use Rattle.partial_path.specs.Keys.{IsByKey, texts};
+ghost use Rattle.partial_path.specs.Offers.{offers_left};
+ghost use Rattle.partial_path.specs.Starts.{begins_at};
 
+use crate::heads::{wanted_head, zone_from};
 use crate::rule::Start;
-use crate::slots::{KEY_SIZE, run_within};
+use crate::slots::{KEY_SIZE, first_in_slot, stands_first};
 use crate::start_table::StartTable;
 use crate::stored::StoredPath;
 use crate::stored_paths::StoredPaths;
 use stacks_vars::SymbolStack;
+
+/// How many paths of one head are looked at one by one, before the others are halved.
+const NEAR: usize = 8;
 
 /// Where a look-up in the paths of one file stands.
 #[derive(Clone, Copy, Debug)]
 pub struct FileOffers {
     /// Where the paths begin, by the file's own numbers.
     pub start: Start,
-    /// The place of the path that comes next, and the one at which the present run of equal keys ends.
+    /// From which place on paths are still to be offered.
     pub place: usize,
-    pub end: usize,
-    /// Behind that run come the paths that ask for so many symbols or more.
-    pub asked: usize,
 }
 
 impl FileOffers {
-    ghost use Rattle.std.specs.Prelude.{◌≡◌, ◌<◌, ◌+◌, filter, List};
+    ghost use Rattle.std.specs.Prelude.{◌≡◌, filter, List};
     ghost use Rattle.stacks_vars.specs.declared.items.SymbolItem.{SymbolItem};
     ghost use Rattle.partial_path.specs.Rules.{Rule};
     ghost use Rattle.partial_path.specs.Sources.{is_offered};
     ghost use Rattle.partial_path.specs.Offers.{offers_left};
-    ghost use Rattle.partial_path.specs.Inside.{offers_at};
 
     /// Before the first path that is offered at the start.
     pub fn at(start: Start) -> FileOffers
@@ -36,25 +40,7 @@ impl FileOffers {
         ensures all { (symbols : List SymbolItem) (rules : List Rule)
             → offers_left result symbols rules ≡ filter (is_offered start symbols) rules }
     {
-        FileOffers {
-            start,
-            place: 0,
-            end: 0,
-            asked: 0,
-        }
-    }
-
-    /// Behind the path that comes next.
-    fn passed(self) -> FileOffers
-        requires { self.place < self.end }
-        ensures { result ≡ offers_at self.start (self.place + 1) self.end self.asked }
-    {
-        FileOffers {
-            start: self.start,
-            place: self.place + 1,
-            end: self.end,
-            asked: self.asked,
-        }
+        FileOffers { start, place: 0 }
     }
 }
 
@@ -66,56 +52,130 @@ pub fn next_offer<'a>(
     symbols: &SymbolStack,
     at: FileOffers,
 ) -> Option<(StoredPath<'a>, FileOffers)>
-    requires { IsByKey paths.now }
+    requires order { IsByKey paths.now }
+    requires heads { AreFirstHeads starts.now.heads.items paths.now }
     ensures next { MatchOption result (offers_left at symbols.now paths.now ≡ [])
         (λ found. offers_left at symbols.now paths.now
         ≡ found.0 ∷ offers_left found.1 symbols.now paths.now) }
     ensures start { IfSome result (λ found. found.1.start ≡ at.start) }
 {
-    match next_here(paths, at) {
-        Some(path) => Some((path, at.passed())),
-        None => next_run(paths, starts, symbols, at),
-    }
-}
-
-/// The next path of the present run; None where that is at its end.
-fn next_here<'a>(paths: &StoredPaths<'a>, at: FileOffers) -> Option<StoredPath<'a>>
-    ensures value { result ≡ slice_get (next_rules at paths.now) 0 }
-    ensures inside { IfSome result (λ _. at.place < at.end) }
-{
-    if at.place < at.end {
-        paths.get(at.place)
-    } else {
-        None
-    }
-}
-
-/// The first path of the runs to come, and where the look-up stands after it; None where they have none.
-fn next_run<'a>(
-    paths: &StoredPaths<'a>,
-    starts: &StartTable,
-    symbols: &SymbolStack,
-    at: FileOffers,
-) -> Option<(StoredPath<'a>, FileOffers)>
-    requires { IsByKey paths.now }
-    ensures next { MatchOption result (filter (is_later at symbols.now) paths.now ≡ [])
-        (λ found. filter (is_later at symbols.now) paths.now
-        ≡ found.0 ∷ offers_left found.1 symbols.now paths.now) }
-    ensures start { IfSome result (λ found. found.1.start ≡ at.start) }
-{
-    let most = KEY_SIZE.min(symbols.len());
-    let run = starts.run(paths, at.start);
-    let heads = starts.heads(run.0, run.1);
-    for asked in at.asked..most + 1 {
-        let (place, end) = run_within(paths, heads, run, at.start, symbols, asked);
-        if place < end {
+    let (low, high) = starts.run(paths, at.start);
+    let from = at.place.max(low);
+    match offered_in_run(
+        paths,
+        starts.heads.as_slice(),
+        from,
+        high,
+        at.start,
+        symbols,
+    ) {
+        Some(place) => {
             let after = FileOffers {
                 start: at.start,
                 place: place + 1,
-                end,
-                asked: asked + 1,
             };
-            return Some((paths.at(place), after));
+            Some((paths.at(place), after))
+        }
+        None => None,
+    }
+}
+
+/// The place of the first path that is offered, of those between two places, all of which begin there. Those
+/// that ask for nothing come first, then those whose first symbol has the head of the stack's first symbol.
+fn offered_in_run(
+    paths: &StoredPaths<'_>,
+    heads: &[u64],
+    from: usize,
+    high: usize,
+    start: Start,
+    symbols: &SymbolStack,
+) -> Option<usize>
+    requires order { IsByKey paths.now }
+    requires heads { AreFirstHeads heads.now paths.now }
+    requires bound { high ≤ length paths.now }
+    requires begin { AllWithin (λ rule. begins_at start rule ≡ true) paths.now from high }
+    ensures { IsNextOffer start symbols.now paths.now from high result }
+{
+    if from >= high {
+        return None;
+    }
+    let size = paths.len();
+    let count = heads.len();
+    if count != size {
+        return offered_between(paths, from, high, start, symbols);
+    }
+    let first = heads[from];
+    if first == 0 {
+        return Some(from);
+    }
+    let wanted = wanted_head(symbols);
+    let place = zone_from(heads, from, high, wanted);
+    offered_in_zone(paths, heads, place, high, start, symbols, wanted)
+}
+
+/// The same of paths that ask for symbols, and of which none has a lesser head: one by one as far as they have that
+/// head, and by halving where these are many.
+fn offered_in_zone(
+    paths: &StoredPaths<'_>,
+    heads: &[u64],
+    from: usize,
+    high: usize,
+    start: Start,
+    symbols: &SymbolStack,
+    wanted: u64,
+) -> Option<usize>
+    requires order { IsByKey paths.now }
+    requires len { length heads.now ≡ length paths.now }
+    requires heads { AreHeadsBelow (length paths.now) heads.now paths.now }
+    requires bounds { (from ≤ high) × (high ≤ length paths.now) }
+    requires begin { AllWithin (λ rule. begins_at start rule ≡ true) paths.now from high }
+    requires wanted { IsHeadAt wanted (slice_get (texts symbols.now) 0) }
+    requires some { AreNoLess heads.now from high 1 }
+    requires least { AreNoLess heads.now from high wanted }
+    ensures { IsNextOffer start symbols.now paths.now from high result }
+{
+    let near = (high - from).min(NEAR);
+    let most = from + near;
+    for place in from..most {
+        let head = heads[place];
+        if head != wanted {
+            return None;
+        }
+        if stands_first(&paths.at(place), symbols) {
+            return Some(place);
+        }
+    }
+    offered_between(paths, most, high, start, symbols)
+}
+
+/// The place of the first path that is offered, of those between two places, by halving.
+fn offered_between(
+    paths: &StoredPaths<'_>,
+    from: usize,
+    high: usize,
+    start: Start,
+    symbols: &SymbolStack,
+) -> Option<usize>
+    requires order { IsByKey paths.now }
+    requires bounds { (from ≤ high) × (high ≤ length paths.now) }
+    ensures { IsNextOffer start symbols.now paths.now from high result }
+{
+    match first_offered(&paths.between(from, high), start, symbols) {
+        Some(place) => Some(from + place),
+        None => None,
+    }
+}
+
+/// The place of the first path that is offered: of those that ask for nothing, else of those that ask for one
+/// symbol, and so on.
+fn first_offered(paths: &StoredPaths<'_>, start: Start, symbols: &SymbolStack) -> Option<usize>
+    requires { IsByKey paths.now }
+    ensures { IsNextOffer start symbols.now paths.now 0 (length paths.now) result }
+{
+    let most = KEY_SIZE.min(symbols.len());
+    for count in 0..most + 1 {
+        if let Some(place) = first_in_slot(paths, start, symbols, count) {
+            return Some(place);
         }
     }
     None

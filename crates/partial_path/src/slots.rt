@@ -1,14 +1,13 @@
 //! In which order a file's paths are stored, and how those of one start and key are found: by halving.
-ghost use Rattle.std.specs.Prelude.{◌≡◌, ◌≤◌, ◌<◌, ◌+◌, ◌-◌, true, length, take, drop, slice_get, slice_index_or, option_copied, IsTrue};
-ghost use Rattle.std.specs.Ordering.{nat_cmp, is_lt, is_eq, is_gt};
+ghost use Rattle.std.specs.Prelude.{◌≡◌, ◌≤◌, ◌<◌, ◌-◌, false, length, take, drop, slice_get, option_copied, All, MatchOption};
+ghost use Rattle.std.specs.Ordering.{nat_cmp};
 ghost use Rattle.std.specs.Option.{option_cmp};
 ghost use Rattle.std.specs.Cmp.Lexicographic.{slice_cmp};
 ghost use Rattle.std.specs.List.{prefix_len};
 ghost use Rattle.std.specs.List.Sorted.{IsPartitionedBy};
 ghost use Rattle.partial_path.specs.Keys.{IsByKey, key, key_cmp, key_size, rules_asking, slot_cmp, slot_of, texts};
-ghost use Rattle.partial_path.specs.Inside.{asked_key, slot_side, is_before_slot, is_at_slot};
-ghost use Rattle.partial_path.specs.Rules.{Rule};
-ghost use Rattle.partial_path.specs.Starts.{rules_at};
+ghost use Rattle.partial_path.specs.Inside.{IsFirstAtSlot, asked_key, slot_side, is_before_slot, is_at_slot, meets_text};
+ghost use Rattle.partial_path.specs.Sources.{stand_first};
 
 use crate::halving::middle_of;
 use crate::path::PartialPath;
@@ -53,7 +52,7 @@ fn asked_cmp(a: &[SymPat], b: &[SymPat]) -> Ordering
 }
 
 /// The symbol at that place, from 0, of those that a path asks for; None where it asks for fewer.
-fn asked_at(asked: &[SymPat], i: usize) -> Option<&Symbol>
+pub fn asked_at(asked: &[SymPat], i: usize) -> Option<&Symbol>
     requires { i < key_size }
     ensures { option_copied result ≡ slice_get (asked_key asked.now) i }
 {
@@ -104,7 +103,7 @@ pub fn key_side(path: &StoredPath<'_>, symbols: &SymbolStack, count: usize) -> O
 }
 
 /// The symbol at that place, from the front on, of the first `count`; None where there are fewer.
-fn symbol_at(symbols: &SymbolStack, count: usize, i: usize) -> Option<&Symbol>
+pub fn symbol_at(symbols: &SymbolStack, count: usize, i: usize) -> Option<&Symbol>
     ensures { option_copied result ≡ slice_get (take count (texts symbols.now)) i }
 {
     let items = symbols.reversed();
@@ -117,7 +116,7 @@ fn symbol_at(symbols: &SymbolStack, count: usize, i: usize) -> Option<&Symbol>
 
 /// Where the paths stand that begin there and whose key is made of the texts of the stack's first symbols,
 /// so many of them: from which place on, and before which. The paths are in the order of their keys.
-fn run_asking(
+pub fn run_asking(
     paths: &StoredPaths<'_>,
     start: Start,
     symbols: &SymbolStack,
@@ -134,167 +133,54 @@ fn run_asking(
     (low, low + many)
 }
 
-/// The same, of paths whose start's run is known, with the heads of their first symbols: it stands between
-/// those two places, and nothing else is looked at.
-pub fn run_within(
+/// The place of the first of the paths that stands in that slot.
+pub fn first_in_slot(
     paths: &StoredPaths<'_>,
-    heads: &[u64],
-    run: (usize, usize),
     start: Start,
     symbols: &SymbolStack,
     count: usize,
-) -> (usize, usize)
+) -> Option<usize>
     requires order { IsByKey paths.now }
     requires count { count ≤ key_size }
-    requires bounds { (run.0 ≤ run.1) × (run.1 ≤ length paths.now) }
-    requires starts { take (run.1 - run.0) (drop run.0 paths.now) ≡ rules_at start paths.now }
-    ensures run { take (result.1 - result.0) (drop result.0 paths.now)
-        ≡ rules_asking start (take count (texts symbols.now)) paths.now }
-    ensures bounds { (result.0 ≤ result.1) × (result.1 ≤ length paths.now) }
+    ensures { MatchOption result (All (λ rule. is_at_slot start
+        (take count (texts symbols.now)) rule ≡ false) paths.now)
+        (λ place. IsFirstAtSlot start (take count (texts symbols.now)) paths.now place) }
 {
-    let (low, high) = run;
-    let (place, end) = run_by_heads(&paths.between(low, high), heads, start, symbols, count);
-    (low + place, low + end)
-}
-
-/// The head of the first symbol that the path asks for; 0 where it asks for none.
-pub fn first_head(path: &StoredPath<'_>) -> u64 {
-    match asked_at(path.asked(), 0) {
-        Some(symbol) => symbol.head(),
-        None => 0,
-    }
-}
-
-/// The head of the stack's first symbol, as the paths that ask for so many symbols have it; 0 where that is none.
-fn wanted_head(symbols: &SymbolStack, count: usize) -> u64 {
-    match symbol_at(symbols, count, 0) {
-        Some(symbol) => symbol.head(),
-        None => 0,
-    }
-}
-
-/// Where the paths stand that begin there and whose key is made of the texts of the stack's first symbols. The
-/// heads of the paths' first symbols tell between which places to look, and what they tell is taken only where
-/// the paths around these say the same, so that nothing rests on the heads but time.
-fn run_by_heads(
-    paths: &StoredPaths<'_>,
-    heads: &[u64],
-    start: Start,
-    symbols: &SymbolStack,
-    count: usize,
-) -> (usize, usize)
-    requires order { IsByKey paths.now }
-    requires count { count ≤ key_size }
-    ensures run { take (result.1 - result.0) (drop result.0 paths.now)
-        ≡ rules_asking start (take count (texts symbols.now)) paths.now }
-    ensures bounds { (result.0 ≤ result.1) × (result.1 ≤ length paths.now) }
-{
-    let (low, high) = heads_run(heads, wanted_head(symbols, count));
-    if low <= high && high <= paths.len() && has_all(paths, low, high, start, symbols, count) {
-        let (place, end) = run_or_all(&paths.between(low, high), start, symbols, count);
-        return (low + place, low + end);
-    }
-    run_asking(paths, start, symbols, count)
-}
-
-/// Between which places that head stands among the heads, which rise.
-fn heads_run(heads: &[u64], wanted: u64) -> (usize, usize) {
-    let low = heads.partition_point(|head| *head < wanted);
-    let many = heads[low..].partition_point(|head| *head == wanted);
-    (low, low + many)
-}
-
-/// Whether the slot's paths all stand between those two places: the path before them stands before the slot, and
-/// the one behind them behind it.
-fn has_all(
-    paths: &StoredPaths<'_>,
-    low: usize,
-    high: usize,
-    start: Start,
-    symbols: &SymbolStack,
-    count: usize,
-) -> bool
-    requires order { IsByKey paths.now }
-    requires count { count ≤ key_size }
-    requires bounds { (low ≤ high) × (high ≤ length paths.now) }
-    ensures { IsTrue result
-        → rules_asking start (take count (texts symbols.now))
-        (take (high - low) (drop low paths.now)) ≡ rules_asking start
-        (take count (texts symbols.now)) paths.now }
-{
-    if !stands_before(paths, low, start, symbols, count) {
-        return false;
-    }
-    stands_behind(paths, high, start, symbols, count)
-}
-
-/// Whether the path before that place stands before the slot; true where there is none.
-fn stands_before(
-    paths: &StoredPaths<'_>,
-    low: usize,
-    start: Start,
-    symbols: &SymbolStack,
-    count: usize,
-) -> bool
-    requires count { count ≤ key_size }
-    requires bound { low ≤ length paths.now }
-    ensures { IsTrue result → 0 < low → (d : Rule)
-        → is_lt (slot_side start (take count (texts symbols.now))
-        (slice_index_or paths.now (low - 1) d)) ≡ true }
-{
-    low == 0 || slot_side(&paths.at(low - 1), start, symbols, count).is_lt()
-}
-
-/// Whether the path at that place stands behind the slot; true where there is none.
-fn stands_behind(
-    paths: &StoredPaths<'_>,
-    high: usize,
-    start: Start,
-    symbols: &SymbolStack,
-    count: usize,
-) -> bool
-    requires count { count ≤ key_size }
-    requires bound { high ≤ length paths.now }
-    ensures { IsTrue result → high < length paths.now → (d : Rule)
-        → is_gt (slot_side start (take count (texts symbols.now))
-        (slice_index_or paths.now high d)) ≡ true }
-{
-    high == paths.len() || slot_side(&paths.at(high), start, symbols, count).is_gt()
-}
-
-/// Where the paths of that slot stand among these, after a look whether all of them do.
-fn run_or_all(
-    paths: &StoredPaths<'_>,
-    start: Start,
-    symbols: &SymbolStack,
-    count: usize,
-) -> (usize, usize)
-    requires order { IsByKey paths.now }
-    requires count { count ≤ key_size }
-    ensures run { take (result.1 - result.0) (drop result.0 paths.now)
-        ≡ rules_asking start (take count (texts symbols.now)) paths.now }
-    ensures bounds { (result.0 ≤ result.1) × (result.1 ≤ length paths.now) }
-{
-    if are_there(paths, start, symbols, count) {
-        return (0, paths.len());
-    }
-    run_asking(paths, start, symbols, count)
-}
-
-/// Whether the first and the last of the paths stand in that slot; true where there is none.
-fn are_there(paths: &StoredPaths<'_>, start: Start, symbols: &SymbolStack, count: usize) -> bool
-    requires { count ≤ key_size }
-    ensures first { IsTrue result → 0 < length paths.now → (d : Rule)
-        → is_eq (slot_side start (take count (texts symbols.now)) (slice_index_or paths.now 0 d))
-        ≡ true }
-    ensures last { IsTrue result → 0 < length paths.now → (d : Rule)
-        → is_eq (slot_side start (take count (texts symbols.now))
-        (slice_index_or paths.now (length paths.now - 1) d)) ≡ true }
-{
+    let place = count_before(paths, start, symbols, count);
     let size = paths.len();
-    size == 0
-        || (slot_side(&paths.at(0), start, symbols, count).is_eq()
-            && slot_side(&paths.at(size - 1), start, symbols, count).is_eq())
+    if place == size {
+        return None;
+    }
+    if slot_side(&paths.at(place), start, symbols, count).is_eq() {
+        Some(place)
+    } else {
+        None
+    }
+}
+
+/// Whether the first symbols that the path asks for, those of its key, have the texts of the stack's first ones.
+pub fn stands_first(path: &StoredPath<'_>, symbols: &SymbolStack) -> bool
+    ensures { result ≡ stand_first (key path.now) symbols.now }
+{
+    let asked = path.asked();
+    let count = KEY_SIZE.min(asked.len());
+    for i in 0..count {
+        if !is_met(asked_at(asked, i), symbol_at(symbols, KEY_SIZE, i)) {
+            return false;
+        }
+    }
+    true
+}
+
+/// Whether the symbol that is asked for is that one; true where none is asked for.
+fn is_met(asked: Option<&Symbol>, symbol: Option<&Symbol>) -> bool
+    ensures { result ≡ meets_text (option_copied asked.entry) (option_copied symbol.entry) }
+{
+    match (asked, symbol) {
+        (None, _) => true,
+        (Some(_), None) => false,
+        (Some(asked), Some(symbol)) => asked.same(symbol),
+    }
 }
 
 /// How many of the paths, which are in the order of their keys, stand before that slot.

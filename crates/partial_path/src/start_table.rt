@@ -9,8 +9,8 @@ ghost use Rattle.partial_path.specs.Starts.{IsByStart, begins_at, is_before, rul
 
 use crate::config::Spot;
 use crate::halving::middle_of;
+use crate::heads::heads_or_none;
 use crate::rule::Start;
-use crate::slots::first_head;
 use crate::stored::StoredPath;
 use crate::stored_paths::StoredPaths;
 use std::alloc::{AllocError, Global};
@@ -21,39 +21,30 @@ use std::cmp::Ordering;
 /// where there was no memory for it.
 #[derive(Debug, Drop)]
 pub struct StartTable {
-    before: Vec<u32>,
-    nodes: u32,
-    heads: Vec<u64>,
+    pub before: Vec<u32>,
+    pub nodes: u32,
+    pub heads: Vec<u64>,
 }
 
 impl StartTable {
     ghost use Rattle.std.specs.Prelude.{◌≡◌, ◌≤◌, ◌-◌, length, take, drop};
+    ghost use Rattle.partial_path.specs.Heads.{AreFirstHeads};
     ghost use Rattle.partial_path.specs.Starts.{IsByStart, rules_at};
 
     /// The table of these paths, which are in the order of their starts, of a file with so many nodes. It
     /// takes memory for two numbers a node and one a path, and does without a table where that is refused.
-    pub fn of(alloc: Global, paths: &StoredPaths<'_>, nodes: u32) -> StartTable {
+    pub fn of(alloc: Global, paths: &StoredPaths<'_>, nodes: u32) -> StartTable
+        ensures { AreFirstHeads result.heads.items paths.now }
+    {
         let before = match counts_of(alloc, paths, nodes) {
             Ok(before) => before,
             Err(_) => Vec::new(alloc),
         };
-        let heads = match heads_of(alloc, paths) {
-            Ok(heads) => heads,
-            Err(_) => Vec::new(alloc),
-        };
+        let heads = heads_or_none(alloc, paths);
         StartTable {
             before,
             nodes,
             heads,
-        }
-    }
-
-    /// The heads of the first symbols of the paths between those two places; none where the table doesn't tell.
-    pub fn heads(&self, low: usize, high: usize) -> &[u64] {
-        if low <= high && high <= self.heads.len() {
-            &self.heads[low..high]
-        } else {
-            &[]
         }
     }
 
@@ -96,15 +87,6 @@ fn counts_of(alloc: Global, paths: &StoredPaths<'_>, nodes: u32) -> Result<Vec<u
         before.resize(places, count_of(paths.len()))?;
     }
     Ok(before)
-}
-
-/// The heads of the paths' first symbols. The one error is want of memory.
-fn heads_of(alloc: Global, paths: &StoredPaths<'_>) -> Result<Vec<u64>, AllocError> {
-    let mut heads = Vec::with_capacity(alloc, paths.len())?;
-    for i in 0..paths.len() {
-        heads.push(first_head(&paths.at(i)))?;
-    }
-    Ok(heads)
 }
 
 /// The number as the table keeps it; its greatest number for one that is greater.

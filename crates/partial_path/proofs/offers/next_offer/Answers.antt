@@ -1,15 +1,20 @@
-use Rattle.std.proofs.Common.{◌≡◌, ◌∙◌, [], sym, ap, subst, ◌∷◌, MatchOption, List}
-use Rattle.partial_path.specs.Rules.{Rule}
-use Rattle.partial_path.specs.Offers.{offers_left}
-use Rattle.partial_path.proofs.Offered.{next_is_here, none_here}
+use Rattle.std.proofs.Common.{arith}
+use Rattle.partial_path.proofs.Offered.{begin_in_run, none_left, first_left}
 use Rattle.partial_path.proofs.offers.next_offer.Goals as goal
+
+pub offered_in_run-requires-clause-begin : goal.offered_in_run-requires-clause-begin
+offered_in_run-requires-clause-begin c =
+    begin_in_run c.args.at.start c.args.paths.now c.run-low.result.0 c.run-low.result.1 c.max-from.result c.run-low.ensures.bounds.0 c.run-low.ensures.bounds.1
+    c.run-low.ensures.run (omega (arith, c.max-from.ensures))
 
 pub returns-in-Some-clause-next : goal.returns-in-Some-clause-next
 returns-in-Some-clause-next c =
-    next_is_here c.args.paths.now c.args.at c.args.symbols.now c.in-Some.path c.in-Some.ensures.value c.in-Some.ensures.inside
-    ∙ ap (λ after. c.in-Some.path ∷ offers_left after c.args.symbols.now c.args.paths.now) (sym c.passed.ensures)
+    first_left c.args.at.start c.args.symbols.now c.args.paths.now c.run-low.result.0 c.run-low.result.1 c.args.at.place c.max-from.result c.in-Some.place c.at.result
+    c.run-low.ensures.bounds.0 c.run-low.ensures.bounds.1 c.run-low.ensures.run (λ h. omega (arith, h, c.max-from.ensures)) (λ h. omega (arith, h, c.max-from.ensures))
+    (omega (arith, c.max-from.ensures)) c.in-Some.ensures c.at.ensures.is
 
 pub returns-in-None-clause-next : goal.returns-in-None-clause-next
 returns-in-None-clause-next c =
-    subst (λ (left : List Rule). MatchOption c.next_run.result (left ≡ []) (λ found. left ≡ found.0 ∷ offers_left found.1 c.args.symbols.now c.args.paths.now))
-    (sym (none_here c.args.paths.now c.args.at c.args.symbols.now c.in-None.ensures.value)) c.next_run.ensures.next
+    none_left c.args.at.start c.args.symbols.now c.args.paths.now c.run-low.result.0 c.run-low.result.1 c.args.at.place c.max-from.result
+    c.run-low.ensures.bounds.0 c.run-low.ensures.bounds.1 c.run-low.ensures.run (λ h. omega (arith, h, c.max-from.ensures)) (λ h. omega (arith, h, c.max-from.ensures))
+    c.in-None.ensures
