@@ -1,34 +1,13 @@
--- Keys stand as the heads of their symbols do where these differ, and short texts with one head are the same.
-use Rattle.std.proofs.Common.{◌≡◌, refl, sym, ◌∙◌, ℕ, zero, suc, ◌+◌, ◌*◌, ◌%◌, ◌<◌, ◌≤◌, List, [], ◌∷◌, Option, Some, None, slice_get, arith}
-use Rattle.std.proofs.lemmas.Bool.Decides.{nat_tests}
+-- Short texts with one head are the same, and six heads are those of a key.
+use Rattle.std.proofs.Common.{◌≡◌, refl, ℕ, zero, suc, ◌%◌, ◌≤◌, List, [], ◌∷◌, Option, Some, None, slice_get, arith}
 use Rattle.std.specs.Ordering.{nat_cmp}
 use Rattle.std.specs.Option.{option_cmp}
-use Rattle.std.specs.declared.cmp.Ordering.{Ordering}
-use Rattle.std.specs.declared.cmp.Ordering.TheVariants.{Less, Equal, Greater}
+use Rattle.std.specs.declared.cmp.Ordering.TheVariants.{Equal}
 use Rattle.std.specs.Cmp.Lexicographic.{slice_cmp}
-use Rattle.stacks_vars.specs.Head.{IsHead, front, last_digit}
-use Rattle.stacks_vars.proofs.HeadLaws.{heads_told, whole_stands}
-use Rattle.root_index.specs.Heads.{IsHeadAt, AreHeads}
-
--- no head is 0
-some_head : (n : ℕ) (text : List ℕ) → IsHead n text → 0 < n
-some_head n text is = by (front 7 text) (last_digit text) (omega arith) is.value
-  where
-    by : (m k : ℕ) → 0 < k → n ≡ m * 256 + k → 0 < n
-    by m k some e = omega (arith, some, e)
-
--- the other way round
-nat_below : (a b : ℕ) (o : Ordering) → a < b → o ≡ nat_cmp a b → o ≡ Less
-nat_below a b o less is = is ∙ grind (arith, nat_tests)
-
-nat_above : (a b : ℕ) (o : Ordering) → b < a → o ≡ nat_cmp a b → o ≡ Greater
-nat_above a b o more is = is ∙ grind (arith, nat_tests)
-
-pub heads_differ : (a b : ℕ) (x y : Option (List ℕ)) (o : Ordering) → IsHeadAt a x → IsHeadAt b y → (a ≡ b → ⊥) → o ≡ nat_cmp a b → o ≡ option_cmp (slice_cmp nat_cmp) x y
-heads_differ a b None None o p q other is = absurd (other (p ∙ sym q))
-heads_differ a b None (Some y) o p q other is = nat_below a b o (let some = some_head b y q in omega (arith, p, some)) is
-heads_differ a b (Some x) None o p q other is = nat_above a b o (let some = some_head a x p in omega (arith, q, some)) is
-heads_differ a b (Some x) (Some y) o p q other is = heads_told a b x y o p q other is
+use Rattle.stacks_vars.proofs.HeadLaws.{whole_stands}
+use Rattle.partial_path.specs.Heads.{IsHeadAt}
+use Rattle.partial_path.proofs.HeadOrders.{some_head}
+use Rattle.root_index.specs.Heads.{AreHeads}
 
 pub heads_same : (a b : ℕ) (x y : Option (List ℕ)) → IsHeadAt a x → IsHeadAt b y → a ≡ b → a % 256 ≤ 8 → Equal ≡ option_cmp (slice_cmp nat_cmp) x y
 heads_same a b None None p q same whole = refl

@@ -1,11 +1,6 @@
 -- The heads of the symbols whose texts make the key of a path of an index; no public clause cites this.
-use Rattle.std.specs.Prelude.{◌≡◌, ℕ, ◌<◌, List, Option, Some, None, slice_get, slice_index}
-use Rattle.stacks_vars.specs.Head.{IsHead}
-
--- the head of the text, 0 where there is none
-abbrev pub IsHeadAt : ℕ → Option (List ℕ) → Type 0
-IsHeadAt n None = n ≡ 0
-IsHeadAt n (Some text) = IsHead n text
+use Rattle.std.specs.Prelude.{ℕ, ◌<◌, List, slice_get, slice_index}
+use Rattle.partial_path.specs.Heads.{IsHeadAt}
 
 -- the heads of the first six texts, 0 where there are fewer
 abbrev pub AreHeads : List ℕ → List (List ℕ) → Type 0

@@ -5,7 +5,8 @@ ghost use Rattle.std.specs.Ordering.{nat_cmp};
 ghost use Rattle.std.specs.Option.{option_cmp};
 ghost use Rattle.std.specs.Cmp.Lexicographic.{slice_cmp};
 ghost use Rattle.partial_path.specs.Keys.{key, key_cmp, key_size, texts};
-ghost use Rattle.root_index.specs.Heads.{AreHeads, IsHeadAt};
+ghost use Rattle.partial_path.specs.Heads.{IsHeadAt};
+ghost use Rattle.root_index.specs.Heads.{AreHeads};
 
 use partial_path::{KEY_SIZE, StoredPath};
 use stacks_vars::SymbolStack;

@@ -1,4 +1,5 @@
-use Rattle.root_index.proofs.HeadOrders.{heads_differ, heads_same}
+use Rattle.partial_path.proofs.HeadOrders.{heads_differ}
+use Rattle.root_index.proofs.HeadOrders.{heads_same}
 use Rattle.root_index.proofs.key_heads.heads_cmp.Goals as goal
 
 pub returns-then-a-b : goal.returns-then-a-b

@@ -1,6 +1,6 @@
 use Rattle.std.proofs.Common.{refl, sym, subst, inl, inr, arith}
 use Rattle.partial_path.proofs.KeyOrders.{front_text, no_text, turned_back, turned_length}
-use Rattle.root_index.specs.Heads.{IsHeadAt}
+use Rattle.partial_path.specs.Heads.{IsHeadAt}
 use Rattle.root_index.proofs.key_heads.wanted_head.Goals as goal
 
 pub returns-then-i-items : goal.returns-then-i-items
