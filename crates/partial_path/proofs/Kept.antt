@@ -1,5 +1,5 @@
 -- What a filter keeps of a list from a place on, and elements that stand side by side and are all that it keeps.
-use Rattle.std.proofs.Common.{◌≡◌, refl, sym, ◌∙◌, ap, ℕ, zero, suc, ◌+◌, ◌-◌, ◌<◌, ◌≤◌, inl, inr, List, [], ◌∷◌, length, take, drop, get_or, Bool, true, false, cond, arith, min}
+use Rattle.std.proofs.Common.{◌≡◌, refl, sym, ◌∙◌, ap, ℕ, zero, suc, ◌+◌, ◌-◌, ◌<◌, ◌≤◌, inl, inr, List, [], ◌∷◌, ◌++◌, append-nil, length, take, drop, get_or, Bool, true, false, cond, arith, min}
 use Rattle.std.specs.Prelude.{filter}
 use Rattle.std.specs.List.{AllWithin}
 use Rattle.std.proofs.lemmas.Bool.{cases_lt}
@@ -35,6 +35,21 @@ rest_none p xs a none = elim (cases_lt (length xs) a) [
 pub next_kept : {X : Type 0} (p : X → Bool) (xs : List X) (a b : ℕ) (d : X) → a ≤ b → b < length xs → AllWithin (λ x. p x ≡ false) xs a b → p (get_or xs b d) ≡ true
     → filter p (drop a xs) ≡ get_or xs b d ∷ filter p (drop (b + 1) xs)
 next_kept p xs a b d le within none is = skip_none p xs a b le (omega (arith, within)) none ∙ kept_here p xs b d within is
+
+-- elements of which those between two places pass, and no others
+pub kept_between : {X : Type 0} (q : X → Bool) (xs : List X) (low high : ℕ) → low ≤ high → high ≤ length xs → AllWithin (λ x. q x ≡ false) xs 0 low
+    → AllWithin (λ x. q x ≡ true) xs low high → AllWithin (λ x. q x ≡ false) xs high (length xs) → take (high - low) (drop low xs) ≡ filter q xs
+kept_between q xs low high le within before inside behind =
+    let there : low + (high - low) ≡ high = omega (arith, le) in
+    let size : length (take (high - low) (drop low xs)) ≤ high - low
+    = (let cut : length (take (high - low) (drop low xs)) ≡ min (high - low) (length (drop low xs)) = length-take (high - low) (drop low xs) in omega (arith, cut)) in
+    sym (skip_none q xs 0 low (omega arith) (omega (arith, le, within)) before
+    ∙ sym (ap (filter q) (take-append-drop (high - low) (drop low xs)))
+    ∙ filter-append q (take (high - low) (drop low xs)) (drop (high - low) (drop low xs))
+    ∙ (λ i. filter_each q (take (high - low) (drop low xs)) (λ k d h.
+    ap q (get_or-take (high - low) (drop low xs) k d (omega (arith, h, size)) ∙ get_or-drop low xs k d) ∙ inside (low + k) d (omega arith) (omega (arith, h, size, le))) i
+    ++ (ap (filter q) (drop-drop (high - low) low xs ∙ ap (λ n. drop n xs) there) ∙ rest_none q xs high behind) i)
+    ∙ append-nil (take (high - low) (drop low xs)))
 
 -- nothing is kept: all fail
 at_none : {X : Type 0} (q : X → Bool) (x : X) (xs : List X) (b : Bool) → q x ≡ b → length (filter q (x ∷ xs)) ≡ 0 → (k : ℕ) (d : X) → k < length (x ∷ xs)

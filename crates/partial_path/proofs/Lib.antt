@@ -1,7 +1,7 @@
 -- Which clause rests on which file. `PartialPath::check` on Firsts; `moved` on MovedRules and FileNumberLaws;
 -- `meets` on Lefts and Asked, `apply` and `apply_met` on Leaving and Put. `FilePaths::new`: order and keys on Pieces
--- and KeyOrders, its sets on Reordered; `paths_from` and `paths_asking` on Halved and StartRuns; `next_offer` on
--- Offered, which HeadOrders, Kept, KeyOrders and Standing serve. `FileList` on Asking and Listing; `is_cut_edge` on
+-- and KeyOrders, its sets on Reordered; `paths_from` on Tabled and Halved, `paths_asking` on Halved; `next_offer` on
+-- Offered, which Tabled, HeadOrders, Kept, KeyOrders and Standing serve. `FileList` on Asking and Listing; `is_cut_edge` on
 -- Edges. HeadOrders is also for `root_index`, Standing for `root_index` and `end_index`.
 -- The laws: of one file, Prefixes, Cycles, Edgeless; of moved paths, SwappedRuns, FileNumberLaws; of offers,
 -- Applied, OfferedStored, Listing; of cut runs, CutRuns, Joints, OnlyCuts, HighJoints, CutJoints, Returned. RunsOn,
@@ -25,8 +25,8 @@ pub mod KeyOrders
 pub mod Pieces
 pub mod Asking
 pub mod Standing
-pub mod StartRuns
 pub mod Kept
+pub mod Tabled
 pub mod HeadOrders
 pub mod Offered
 pub mod Listing

@@ -23,7 +23,7 @@ node_is a b t =
     let parts = and_parts (eqb a.file b.file) (eqb a.node b.node) t in
     λ i. record { file = eqb-true a.file b.file parts.0 i; node = eqb-true a.node b.node parts.1 i }
 
-start_is : (a b : Start) → start_eq a b ≡ true → a ≡ b
+pub start_is : (a b : Start) → start_eq a b ≡ true → a ≡ b
 start_is (Before a) (Before b) t = ap Before (node_is a b t)
 start_is (Before a) (After b) t = absurd (false≢true t)
 start_is (After a) (Before b) t = absurd (false≢true t)

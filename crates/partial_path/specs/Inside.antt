@@ -14,14 +14,16 @@ use Rattle.partial_path.specs.Rules.{Rule}
 use Rattle.partial_path.specs.PathSets.{FileRules, AreFileRules}
 use Rattle.partial_path.specs.Keys.{IsByKey, asked_texts, key_size, slot_of, slot_cmp}
 use Rattle.partial_path.specs.Heads.{AreFirstHeads}
+use Rattle.partial_path.specs.Tables.{IsTable}
 use Rattle.partial_path.specs.Sources.{IsSourceFile, is_offered}
 
--- the rules are the graph's path set, in the order of their starts and keys, the weight is its weight, and the
--- numbers, where there are as many, are the heads of the rules' first symbols
-pub record IsStored (file : FileRules) (numbers : List ℕ) : Type 0 where
+-- the rules are the graph's path set, in the order of their starts and keys, the weight is its weight, the first
+-- numbers, where there are as many, are the heads of the rules' first symbols, and the others a table of their starts
+pub record IsStored (file : FileRules) (numbers : List ℕ) (before : List ℕ) (nodes : ℕ) : Type 0 where
   pub sets : AreFileRules file
   pub order : IsByKey file.rules
   pub heads : AreFirstHeads numbers file.rules
+  pub table : IsTable before nodes file.rules
 
 -- path sets of files, few enough for their numbers
 pub record AreStored (files : List FileRules) : Type 0 where

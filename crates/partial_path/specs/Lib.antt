@@ -13,6 +13,7 @@ pub mod Walks
 pub mod PathSets
 pub mod Pooled
 pub mod Starts
+pub mod Tables
 pub mod Keys
 pub mod Heads
 pub mod Inside

@@ -32,7 +32,8 @@ impl Model for FilePaths {
 
     ghost view = { λ f. file_rules f.graph f.paths f.weight };
 
-    ghost invariant = { λ f. IsStored (file_rules f.graph f.paths f.weight) f.starts.heads.items };
+    ghost invariant = { λ f. IsStored (file_rules f.graph f.paths f.weight) f.starts.heads.items
+        f.starts.before.items f.starts.nodes };
 }
 
 impl FilePaths {

@@ -6,6 +6,7 @@ ghost use Rattle.partial_path.specs.Inside.{IsNextOffer};
 ghost use Rattle.partial_path.specs.Keys.{IsByKey, texts};
 ghost use Rattle.partial_path.specs.Offers.{offers_left};
 ghost use Rattle.partial_path.specs.Starts.{begins_at};
+ghost use Rattle.partial_path.specs.Tables.{IsTable};
 
 use crate::heads::{wanted_head, zone_from};
 use crate::rule::Start;
@@ -54,6 +55,7 @@ pub fn next_offer<'a>(
 ) -> Option<(StoredPath<'a>, FileOffers)>
     requires order { IsByKey paths.now }
     requires heads { AreFirstHeads starts.now.heads.items paths.now }
+    requires table { IsTable starts.now.before.items starts.now.nodes paths.now }
     ensures next { MatchOption result (offers_left at symbols.now paths.now ≡ [])
         (λ found. offers_left at symbols.now paths.now
         ≡ found.0 ∷ offers_left found.1 symbols.now paths.now) }

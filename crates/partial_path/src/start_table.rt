@@ -1,11 +1,9 @@
-//! Where a file's paths of one start stand. A table tells where they should be found, and what it tells is
-//! taken only where the paths there say the same, so that nothing rests on the table but time.
-ghost use Rattle.std.specs.Prelude.{◌≡◌, ◌≤◌, ◌<◌, ◌-◌, ◌*◌, ◌^◌, true, length, take, drop, slice_index_or, IsTrue};
-ghost use Rattle.std.specs.Ordering.{is_lt, is_eq, is_gt};
+//! Where a file's paths of one start stand, as a table tells it.
+ghost use Rattle.std.specs.Prelude.{◌≡◌, ◌≤◌, ◌<◌, ◌-◌, ◌*◌, ◌^◌, length, take, drop, IfOk, IfSome};
 ghost use Rattle.std.specs.List.{prefix_len};
 ghost use Rattle.std.specs.List.Sorted.{IsPartitionedBy};
-ghost use Rattle.partial_path.specs.Rules.{Rule};
-ghost use Rattle.partial_path.specs.Starts.{IsByStart, begins_at, is_before, rules_at, start_cmp};
+ghost use Rattle.partial_path.specs.Starts.{IsByStart, begins_at, is_before, rules_at};
+ghost use Rattle.partial_path.specs.Tables.{AreTold, IsTable, IsTold, has_node, has_place, place_in};
 
 use crate::config::Spot;
 use crate::halving::middle_of;
@@ -13,8 +11,8 @@ use crate::heads::heads_or_none;
 use crate::rule::Start;
 use crate::stored::StoredPath;
 use crate::stored_paths::StoredPaths;
+use stacks_vars::NodeAt;
 use std::alloc::{AllocError, Global};
-use std::cmp::Ordering;
 
 /// How many of a file's paths stand before those of each start, by the start's place: first the references,
 /// then the root and the nodes; and of each path the head of the first symbol that it asks for. It has nothing
@@ -30,16 +28,15 @@ impl StartTable {
     ghost use Rattle.std.specs.Prelude.{◌≡◌, ◌≤◌, ◌-◌, length, take, drop};
     ghost use Rattle.partial_path.specs.Heads.{AreFirstHeads};
     ghost use Rattle.partial_path.specs.Starts.{IsByStart, rules_at};
+    ghost use Rattle.partial_path.specs.Tables.{IsTable};
 
     /// The table of these paths, which are in the order of their starts, of a file with so many nodes. It
     /// takes memory for two numbers a node and one a path, and does without a table where that is refused.
     pub fn of(alloc: Global, paths: &StoredPaths<'_>, nodes: u32) -> StartTable
-        ensures { AreFirstHeads result.heads.items paths.now }
+        ensures heads { AreFirstHeads result.heads.items paths.now }
+        ensures table { IsTable result.before.items result.nodes paths.now }
     {
-        let before = match counts_of(alloc, paths, nodes) {
-            Ok(before) => before,
-            Err(_) => Vec::new(alloc),
-        };
+        let before = counts_or_none(alloc, paths, nodes);
         let heads = heads_or_none(alloc, paths);
         StartTable {
             before,
@@ -51,123 +48,141 @@ impl StartTable {
     /// Where the paths stand that begin there: from which place on, and before which. It takes constant time
     /// where the table tells it, and halves over all paths where it doesn't.
     pub fn run(&self, paths: &StoredPaths<'_>, start: Start) -> (usize, usize)
-        requires { IsByStart paths.now }
+        requires order { IsByStart paths.now }
+        requires table { IsTable self.now.before.items self.now.nodes paths.now }
         ensures run { take (result.1 - result.0) (drop result.0 paths.now)
             ≡ rules_at start paths.now }
         ensures bounds { (result.0 ≤ result.1) × (result.1 ≤ length paths.now) }
     {
-        match self.told(start) {
-            Some((low, high)) => checked_run(paths, start, low, high),
+        match told(self.before.as_slice(), self.nodes, start) {
+            Some(found) => found,
             None => halved_run(paths, start),
         }
     }
+}
 
-    /// Where the table tells that the paths of the start stand; None where it doesn't tell.
-    fn told(&self, start: Start) -> Option<(usize, usize)> {
-        let place = place_of(start, self.nodes);
-        match (self.before.get(place), self.before.get(place + 1)) {
-            (Some(low), Some(high)) => Some((*low as usize, *high as usize)),
-            _ => None,
-        }
+/// Where the table tells that the paths of the start stand; None where it doesn't tell.
+fn told(before: &[u32], nodes: u32, start: Start) -> Option<(usize, usize)>
+    ensures { IfSome result (λ run. IsTold before.now nodes start run.0 run.1) }
+{
+    if !has_place(start, nodes) {
+        return None;
+    }
+    let place = place_in(start, nodes);
+    let next = place + 1;
+    let count = before.len();
+    if next >= count {
+        return None;
+    }
+    Some((before[place] as usize, before[next] as usize))
+}
+
+/// How many of the paths stand before those of each start, by the start's place; nothing where memory is refused.
+fn counts_or_none(alloc: Global, paths: &StoredPaths<'_>, nodes: u32) -> Vec<u32>
+    ensures { IsTable result.items nodes paths.now }
+{
+    match counts_of(alloc, paths, nodes) {
+        Ok(before) => before,
+        Err(_) => Vec::new(alloc),
     }
 }
 
-/// How many of the paths stand before those of each start, by the start's place. The one error is want of
-/// memory.
-fn counts_of(alloc: Global, paths: &StoredPaths<'_>, nodes: u32) -> Result<Vec<u32>, AllocError> {
-    let places = place_of(Start::After(Spot::Root), nodes) + nodes as usize + 2;
-    let mut before = Vec::with_capacity(alloc, places)?;
+/// The same. It has nothing where the paths are too many for numbers of 32 bits, or aren't those of a file with so
+/// many nodes in their order. The one error is want of memory.
+fn counts_of(alloc: Global, paths: &StoredPaths<'_>, nodes: u32) -> Result<Vec<u32>, AllocError>
+    ensures { IfOk result (λ before. IsTable before.items nodes paths.now) }
+{
+    let size = paths.len();
+    let most = u32::MAX as usize;
+    if size > most {
+        return Ok(Vec::new(alloc));
+    }
+    match counts_begun(alloc, paths, nodes)? {
+        Some(before) => counts_filled(alloc, paths, nodes, before),
+        None => Ok(Vec::new(alloc)),
+    }
+}
+
+/// The same up to the place of the last path's start; None where the paths aren't those of a file with so many
+/// nodes in their order. The one error is want of memory.
+fn counts_begun(
+    alloc: Global,
+    paths: &StoredPaths<'_>,
+    nodes: u32,
+) -> Result<Option<Vec<u32>>, AllocError>
+    requires { length paths.now < 2 ^ 32 }
+    ensures { IfOk result (λ begun. IfSome begun (λ before.
+        AreTold before.items nodes (length paths.now) paths.now)) }
+{
+    let mut before = Vec::with_capacity(alloc, 2 * nodes as usize + 2)?;
     for i in 0..paths.len() {
-        let place = place_of(paths.at(i).start(), nodes);
-        if before.len() <= place {
-            before.resize(place + 1, count_of(i))?;
+        let start = paths.at(i).start();
+        if !has_place(start, nodes) {
+            return Ok(None);
         }
+        let place = place_in(start, nodes);
+        let next = place + 1;
+        let count = before.len();
+        if next < count {
+            return Ok(None);
+        }
+        before.resize(next, i as u32)?;
     }
-    if before.len() < places {
-        before.resize(places, count_of(paths.len()))?;
-    }
-    Ok(before)
+    Ok(Some(before))
 }
 
-/// The number as the table keeps it; its greatest number for one that is greater.
-fn count_of(paths: usize) -> u32 {
-    paths.min(u32::MAX as usize) as u32
+/// The same with all places, of which those behind the last path's start have all paths before them.
+fn counts_filled(
+    alloc: Global,
+    paths: &StoredPaths<'_>,
+    nodes: u32,
+    before: Vec<u32>,
+) -> Result<Vec<u32>, AllocError>
+    requires few { length paths.now < 2 ^ 32 }
+    requires told { AreTold before.items nodes (length paths.now) paths.now }
+    ensures { IfOk result (λ filled. IsTable filled.items nodes paths.now) }
+{
+    let places = 2 * nodes as usize + 2;
+    let count = before.len();
+    if places < count {
+        return Ok(Vec::new(alloc));
+    }
+    let size = paths.len();
+    let mut filled = before;
+    filled.resize(places, size as u32)?;
+    Ok(filled)
 }
 
-/// The place of a start among those of a file with so many nodes: references by their nodes, then the root,
+/// Whether the start has a place in the table of a file with so many nodes: whether it is one of file 0, at a node
+/// that is there.
+fn has_place(start: Start, nodes: u32) -> bool
+    ensures { result ≡ has_place nodes start }
+{
+    match start {
+        Start::Before(at) => has_node(at, nodes),
+        Start::After(Spot::Root) => true,
+        Start::After(Spot::At(at)) => has_node(at, nodes),
+    }
+}
+
+/// Whether it is a node of file 0 that is there.
+fn has_node(at: NodeAt, nodes: u32) -> bool
+    ensures { result ≡ has_node nodes at }
+{
+    at.file == 0 && at.node < nodes
+}
+
+/// The place of a start in the table of a file with so many nodes: references by their nodes, then the root,
 /// then the nodes that were entered.
-fn place_of(start: Start, nodes: u32) -> usize
-    ensures { result ≤ 2 * 2 ^ 32 }
+fn place_in(start: Start, nodes: u32) -> usize
+    ensures value { result ≡ place_in nodes start }
+    ensures bound { result ≤ 2 * 2 ^ 32 }
 {
     match start {
         Start::Before(at) => at.node as usize,
         Start::After(Spot::Root) => nodes as usize,
         Start::After(Spot::At(at)) => nodes as usize + 1 + at.node as usize,
     }
-}
-
-/// Where the paths of the start stand, by a look whether that is between those two places.
-fn checked_run(paths: &StoredPaths<'_>, start: Start, low: usize, high: usize) -> (usize, usize)
-    requires { IsByStart paths.now }
-    ensures run { take (result.1 - result.0) (drop result.0 paths.now) ≡ rules_at start paths.now }
-    ensures bounds { (result.0 ≤ result.1) × (result.1 ≤ length paths.now) }
-{
-    if low <= high && high <= paths.len() && is_run(paths, start, low, high) {
-        return (low, high);
-    }
-    halved_run(paths, start)
-}
-
-/// Whether the paths of the start stand between those two places.
-fn is_run(paths: &StoredPaths<'_>, start: Start, low: usize, high: usize) -> bool
-    requires order { IsByStart paths.now }
-    requires bounds { (low ≤ high) × (high ≤ length paths.now) }
-    ensures { IsTrue result → take (high - low) (drop low paths.now) ≡ rules_at start paths.now }
-{
-    if !follows_others(paths, start, low) {
-        return false;
-    }
-    if !others_follow(paths, start, high) {
-        return false;
-    }
-    are_there(paths, start, low, high)
-}
-
-/// Whether the path before that place begins before the start; true where there is none.
-fn follows_others(paths: &StoredPaths<'_>, start: Start, low: usize) -> bool
-    requires { low ≤ length paths.now }
-    ensures { IsTrue result → 0 < low → (d : Rule)
-        → is_lt (start_cmp (slice_index_or paths.now (low - 1) d).start start) ≡ true }
-{
-    low == 0 || side_of(&paths.at(low - 1), start).is_lt()
-}
-
-/// Whether the path at that place begins behind the start; true where there is none.
-fn others_follow(paths: &StoredPaths<'_>, start: Start, high: usize) -> bool
-    requires { high ≤ length paths.now }
-    ensures { IsTrue result → high < length paths.now → (d : Rule)
-        → is_gt (start_cmp (slice_index_or paths.now high d).start start) ≡ true }
-{
-    high == paths.len() || side_of(&paths.at(high), start).is_gt()
-}
-
-/// Whether the first and the last path between those places begin there; true where there is none.
-fn are_there(paths: &StoredPaths<'_>, start: Start, low: usize, high: usize) -> bool
-    requires { (low ≤ high) × (high ≤ length paths.now) }
-    ensures first { IsTrue result → low < high → (d : Rule)
-        → is_eq (start_cmp (slice_index_or paths.now low d).start start) ≡ true }
-    ensures last { IsTrue result → low < high → (d : Rule)
-        → is_eq (start_cmp (slice_index_or paths.now (high - 1) d).start start) ≡ true }
-{
-    low == high
-        || (side_of(&paths.at(low), start).is_eq() && side_of(&paths.at(high - 1), start).is_eq())
-}
-
-/// How the path's start stands to the start.
-fn side_of(path: &StoredPath<'_>, start: Start) -> Ordering
-    ensures { result ≡ start_cmp path.now.start start }
-{
-    path.start().cmp(&start)
 }
 
 /// Where the paths of the start stand, found by halving.

@@ -1,6 +1,6 @@
 use Rattle.std.proofs.Common.{sym, subst, ◌-◌, Some, None}
 use Rattle.partial_path.specs.Keys.{IsByKey}
-use Rattle.partial_path.proofs.StartRuns.{piece_sorted}
+use Rattle.partial_path.proofs.KeyOrders.{piece_sorted}
 use Rattle.partial_path.proofs.Offered.{next_in_piece}
 use Rattle.partial_path.proofs.offers.offered_between.Goals as goal
 

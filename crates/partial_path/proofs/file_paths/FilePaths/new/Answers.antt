@@ -2,6 +2,7 @@ use Rattle.std.proofs.Common.{sym, subst}
 use Rattle.std.specs.Prelude.{IsPermutation}
 use Rattle.partial_path.specs.Starts.{IsByStart}
 use Rattle.partial_path.specs.Heads.{AreFirstHeads}
+use Rattle.partial_path.specs.Tables.{IsTable}
 use Rattle.partial_path.specs.Keys.{IsByKey}
 use Rattle.partial_path.specs.PathSets.{IsPathSet}
 use Rattle.partial_path.proofs.KeyOrders.{by_start_from_key}
@@ -29,5 +30,6 @@ invariant_of-result c = record {
     weight = c.requires.weight;
   };
   order = subst IsByKey (sym c.in_ok-paths.ensures) c.sort_paths.ensures.keys;
-  heads = subst (AreFirstHeads c.of-starts.result.heads.items) c.lent.ensures c.of-starts.ensures;
+  heads = subst (AreFirstHeads c.of-starts.result.heads.items) c.lent.ensures c.of-starts.ensures.heads;
+  table = subst (IsTable c.of-starts.result.before.items c.of-starts.result.nodes) c.lent.ensures c.of-starts.ensures.table;
 }
