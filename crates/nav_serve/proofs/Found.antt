@@ -1,14 +1,19 @@
 -- The reply on a reference that is not crowded, from what the search found.
-use Rattle.std.proofs.Common.{◌≡◌, ◌↔◌, inr, [], ◌∷◌, ap, subst, Option, Some, None, IsTrue}
+use Rattle.std.proofs.Common.{◌≡◌, ◌↔◌, inl, inr, [], ◌∷◌, ap, subst, Option, Some, None, Result, Ok, Err, IfOk, OnOk, IsTrue}
 use Rattle.std.specs.Prelude.{IsSomeAnd}
 use Rattle.graph_nodes.specs.Graph.{Graph}
 use Rattle.partial_path.specs.declared.bounds.Bounds.{Bounds}
 use Rattle.partial_path.specs.declared.config.Config.{Config}
 use Rattle.partial_path.specs.Counted.{IsCrowded, HasLimit}
 use Rattle.whole_search.specs.declared.found.Found.{Found}
+use Rattle.whole_search.specs.declared.found.SearchFault.{SearchFault}
+use Rattle.whole_search.specs.declared.found.SearchFault.TheVariants as search
 use Rattle.whole_search.specs.Answers.{AreDefinitions}
 use Rattle.version_tree.specs.declared.row.Answer.{Answer}
-use Rattle.nav_proto.specs.declared.reply.Reply.TheVariants.{Rows}
+use Rattle.nav_proto.specs.declared.reply.Reply.{Reply}
+use Rattle.nav_proto.specs.declared.reply.Reply.TheVariants.{Rows, Plain}
+use Rattle.nav_proto.specs.declared.reply.PlainError.TheVariants.{Crowded}
+use Rattle.nav_session.specs.declared.halt.Halt.{Halt}
 use Rattle.nav_serve.specs.Once.{usual, answer_of, AnswersFrom}
 
 -- bounds of these numbers are the usual ones
@@ -31,3 +36,15 @@ answers_found g o bounds found answer at finds =
     by : (o : Option Config) → Finds g o usual found → answer ≡ answer_of g found.limit found.rows → AnswersFrom g o (Rows answer)
     by None f e = absurd f.rows
     by (Some c) f e = inr (f.not_crowded, (found.rows, found.limit, f.rows, f.limit, ap Rows e))
+
+-- where the search is refused and memory wasn't, the reply is that the reference is crowded
+pub answers_refused : (g : Graph) (o : Option Config) (bounds : Bounds) (fault : SearchFault) (r : Result Reply Halt)
+    → bounds ≡ usual → IfOk r (λ (reply : Reply). reply ≡ Plain Crowded) → OnOk r (fault ≡ search.Crowded)
+    → (fault ≡ search.Crowded → IsSomeAnd o (λ c. IsCrowded bounds (g ∷ []) c)) → IfOk r (AnswersFrom g o)
+answers_refused g o bounds fault (Err reason) at told was h = tt
+answers_refused g o bounds fault (Ok reply) at told was h =
+    by o (subst (λ (b : Bounds). IsSomeAnd o (λ c. IsCrowded b (g ∷ []) c)) at (h was))
+  where
+    by : (o : Option Config) → IsSomeAnd o (λ c. IsCrowded usual (g ∷ []) c) → AnswersFrom g o reply
+    by None f = absurd f
+    by (Some c) f = inl (f, told)

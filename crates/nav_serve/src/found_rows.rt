@@ -1,6 +1,8 @@
-ghost use Rattle.std.specs.Prelude.{◌≡◌, [], ◌∷◌, IfOk, IfErr};
+ghost use Rattle.std.specs.Prelude.{◌≡◌, [], ◌∷◌, IfOk, IfErr, OnOk, OnErr};
 ghost use Rattle.partial_path.specs.Spots.{node_at};
 ghost use Rattle.partial_path.specs.Step.{start};
+ghost use Rattle.nav_proto.specs.declared.reply.Reply.TheVariants.{Plain};
+ghost use Rattle.nav_proto.specs.declared.reply.PlainError.TheVariants.{Crowded};
 ghost use Rattle.nav_session.specs.declared.halt.Halt.TheVariants as halt;
 ghost use Rattle.nav_serve.specs.Once.{AnswersFrom, answer_of, span_at};
 
@@ -25,8 +27,20 @@ pub fn node_reply(alloc: Global, graph: FileGraph, n: u32) -> Result<Reply, Halt
     }
     match search(alloc, &files, 0, n, Bounds::usual()) {
         Ok(found) => Ok(Reply::Rows(answer_of(alloc, &files[0], found)?)),
-        Err(SearchFault::Crowded) => Ok(Reply::Plain(PlainError::Crowded)),
-        Err(SearchFault::NoMemory) => Err(Halt::NoMemory),
+        Err(fault) => refused_by(fault),
+    }
+}
+
+/// The reply where the search has this fault.
+fn refused_by(fault: SearchFault) -> Result<Reply, Halt>
+    ensures reply { IfOk result (λ reply. reply ≡ Plain Crowded) }
+    ensures crowded { OnOk result (fault ≡ SearchFault.Crowded) }
+    ensures err { IfErr result (λ reason. reason ≡ halt.NoMemory) }
+    ensures memory { OnErr result (fault ≡ SearchFault.NoMemory) }
+{
+    match fault {
+        SearchFault::Crowded => Ok(Reply::Plain(PlainError::Crowded)),
+        SearchFault::NoMemory => Err(Halt::NoMemory),
     }
 }
 

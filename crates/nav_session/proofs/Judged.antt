@@ -1,5 +1,5 @@
 -- How a board judges edits, as a transcript tells it.
-use Rattle.std.proofs.Common.{◌≡◌, ◌≢◌, ℕ, ◌+◌, ◌≤◌, Bool, true, false, not, nat_eq, List, [], ◌∷◌, ◌++◌, length, take, Option, Some, None, refl, sym, ap, subst, ◌∙◌, arith, length-append, append_assoc, inl, inr, if◌then◌else◌, slice_get}
+use Rattle.std.proofs.Common.{◌≡◌, ◌≢◌, ℕ, ◌+◌, ◌≤◌, Bool, true, false, not, nat_eq, List, [], ◌∷◌, ◌++◌, length, take, Option, Some, None, Result, Ok, Err, IfOk, OnErr, refl, sym, ap, subst, ◌∙◌, arith, length-append, append_assoc, inl, inr, if◌then◌else◌, slice_get}
 use Rattle.std.proofs.Math.Seq.{take-append_seam}
 use Rattle.std.proofs.lemmas.List.{take_all}
 use Rattle.std.proofs.lemmas.Option.{slice_get-get_or}
@@ -9,12 +9,14 @@ use Rattle.version_tree.specs.declared.edit.Edit.{Edit}
 use Rattle.version_tree.specs.declared.edit.EditFault.{EditFault}
 use Rattle.version_tree.specs.declared.edit.EditFault.TheVariants as edit
 use Rattle.version_tree.specs.declared.entry.Entry.{Entry}
+use Rattle.version_board.specs.declared.fault.CommitFault.{CommitFault}
+use Rattle.version_board.specs.declared.fault.CommitFault.TheVariants as why
 use Rattle.version_board.specs.Logs.{Begins, IsLater, IsExtended, IsStale, IsRefused, FitsHead, own, entry, refusal}
 use Rattle.nav_proto.specs.declared.reply.Reply.{Reply}
 use Rattle.nav_proto.specs.declared.reply.Reply.TheVariants.{Version, Stale}
-use Rattle.nav_session.specs.Refusals.{edit_reply, is_stale, verdict}
+use Rattle.nav_session.specs.Refusals.{commit_reply, edit_reply, is_stale, verdict}
 use Rattle.nav_session.specs.Sessions.{Sees, Session, IsJudged, asker_of, asked_by}
-use Rattle.nav_session.specs.Desks.{OnDesk, GoesOn, is_indexed, moment, session_at}
+use Rattle.nav_session.specs.Desks.{OnDesk, GoesOn, is_accepted, is_indexed, moment, session_at}
 use Rattle.nav_session.proofs.Seen.{taken_first, no_longer, begins_after, sees_later, told_all, newest}
 
 -- whether a base is stale
@@ -108,3 +110,38 @@ edits_indexed (edit.TooManyFiles n) = refl
 edits_indexed (edit.TooHeavy n) = refl
 edits_indexed edit.Spent = refl
 edits_indexed edit.NoMemory = refl
+
+-- what is told of a commit that the board refuses is the verdict
+refused_so : (seat : ℕ) (log log' : List Entry) (user : List ℕ) (pin pin' : ℕ) (base : Option ℕ) (edits : List Edit) (fault : CommitFault) (o : Option (List ℕ))
+    → fault ≢ why.NoMemory → IsLater seat log log' → ((n : ℕ) → fault ≡ why.Stale n → IsStale base (length log') n)
+    → ((e : EditFault) → fault ≡ why.Edit e → IsRefused base edits log' e) → pin' ≡ pin → o ≡ Some user
+    → IsJudged seat log' (length log) (asker_of pin user) base edits (commit_reply fault) (session_at (length log') pin' o)
+refused_so seat log log' user pin pin' base edits (why.Stale n) o d l s r p e = stale seat log log' user pin pin' n base edits o l (s n refl) p e
+refused_so seat log log' user pin pin' base edits (why.Edit fault) o d l s r p e = refused seat log log' user pin pin' base edits fault o l (r fault refl) p e
+refused_so seat log log' user pin pin' base edits why.NoMemory o d l s r p e = absurd (d refl)
+
+-- the same where the one other answer is want of memory
+pub judged : {E : Type 0} (seat : ℕ) (log log' : List Entry) (pin pin' : ℕ) (base : Option ℕ) (edits : List Edit) (fault : CommitFault) (o : Option (List ℕ)) (r : Result Reply E)
+    → IfOk r (λ reply. reply ≡ commit_reply fault) → IfOk r (λ _. fault ≢ why.NoMemory)
+    → IsLater seat log log' → ((n : ℕ) → fault ≡ why.Stale n → IsStale base (length log') n)
+    → ((e : EditFault) → fault ≡ why.Edit e → IsRefused base edits log' e) → pin' ≡ pin
+    → IfOk r (λ reply. (user : List ℕ) → o ≡ Some user → IsJudged seat log' (length log) (asker_of pin user) base edits reply (session_at (length log') pin' o))
+judged seat log log' pin pin' base edits fault o (Err e) told d l s f p = tt
+judged seat log log' pin pin' base edits fault o (Ok reply) told d l s f p = λ user n.
+    subst (λ (x : Reply). IsJudged seat log' (length log) (asker_of pin user) base edits x (session_at (length log') pin' o)) (sym told)
+    (refused_so seat log log' user pin pin' base edits fault o d l s f p n)
+
+commit_indexed : (fault : CommitFault) → is_indexed (commit_reply fault) ≡ true
+commit_indexed (why.Stale n) = refl
+commit_indexed (why.Edit fault) = edits_indexed fault
+commit_indexed why.NoMemory = refl
+
+pub commits_indexed : {E : Type 0} (fault : CommitFault) (r : Result Reply E) → IfOk r (λ reply. reply ≡ commit_reply fault) → IfOk r (λ reply. is_indexed reply ≡ true)
+commits_indexed fault (Err e) told = tt
+commits_indexed fault (Ok reply) told = ap is_indexed told ∙ commit_indexed fault
+
+-- whatever came of it, no entry of the seat was added
+pub own_stays : {E : Type 0} (seat : ℕ) (log log' : List Entry) (r : Result Reply E) → IsLater seat log log'
+    → IfOk r (λ reply. is_accepted reply ≡ false → own seat log' ≡ own seat log) × OnErr r (own seat log' ≡ own seat log)
+own_stays seat log log' (Ok reply) l = (λ no. l.own_stay, tt)
+own_stays seat log log' (Err e) l = (tt, l.own_stay)

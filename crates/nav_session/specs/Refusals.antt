@@ -7,6 +7,8 @@ use Rattle.version_tree.specs.declared.edit.EditFault.TheVariants as edit
 use Rattle.version_tree.specs.declared.entry.Entry.{Entry}
 use Rattle.version_tree.specs.declared.row.Answer.{Answer}
 use Rattle.version_tree.specs.declared.row.Row.{Row}
+use Rattle.version_board.specs.declared.fault.CommitFault.{CommitFault}
+use Rattle.version_board.specs.declared.fault.CommitFault.TheVariants as why
 use Rattle.version_board.specs.Logs.{refusal}
 use Rattle.nav_answers.specs.declared.found.AskFault.{AskFault}
 use Rattle.nav_answers.specs.declared.found.AskFault.TheVariants as ask
@@ -32,6 +34,12 @@ edit_reply (edit.TooManyFiles files) = TooManyFiles files
 edit_reply (edit.TooHeavy weight) = TooHeavy weight
 edit_reply edit.Spent = Plain Spent
 edit_reply edit.NoMemory = Plain Spent
+
+-- to edits that the board refuses
+abbrev pub commit_reply : CommitFault → Reply
+commit_reply (why.Stale head) = Stale head
+commit_reply (why.Edit fault) = edit_reply fault
+commit_reply why.NoMemory = Plain Spent
 
 -- to a query
 abbrev pub query_reply : Result Answer AskFault → Reply

@@ -4,10 +4,10 @@ ghost use Rattle.nav_session.specs.Sessions.{IsJudged, IsRuled, asker_of};
 ghost use Rattle.nav_session.specs.Desks.{Replies, GoesOn, IsLeftOff, HasItsView, is_accepted, is_indexed, moment, session_at};
 
 use crate::desk::Desk;
-use crate::refusals::edit_reply;
+use crate::refusals::commit_reply;
 use nav_proto::Reply;
 use std::alloc::{AllocError, Global};
-use version_board::{CommitFault, Commits};
+use version_board::Commits;
 use version_tree::Edit;
 
 /// The reply to a change of who may see what, where the user may change anything. The one error is want of memory.
@@ -40,7 +40,7 @@ pub fn rule<R, B: Commits<R>>(
 
 /// Brings the edits before the board: the reply tells the number of the version that they make, or why they are refused.
 /// The one error is want of memory.
-#[tactic(auto, using(crate::proofs::Judged::accepted, crate::proofs::Judged::stale, crate::proofs::Judged::refused, crate::proofs::Judged::edits_indexed, crate::proofs::Seen::later_goes_on, crate::proofs::Judged::extended_moment))]
+#[tactic(auto, using(crate::proofs::Judged::accepted, crate::proofs::Seen::later_goes_on, crate::proofs::Judged::extended_moment))]
 pub fn judge<R, B: Commits<R>>(
     rt: &R,
     alloc: Global,
@@ -67,8 +67,6 @@ pub fn judge<R, B: Commits<R>>(
     desk.forget_view();
     match board.commit(rt, alloc, base, edits) {
         Ok(()) => Ok(Reply::Version(board.pinned().version.number())),
-        Err(CommitFault::Stale(head)) => Ok(Reply::Stale(head)),
-        Err(CommitFault::Edit(fault)) => Ok(edit_reply(fault)),
-        Err(CommitFault::NoMemory) => Err(AllocError),
+        Err(fault) => commit_reply(fault),
     }
 }

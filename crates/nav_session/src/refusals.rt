@@ -1,10 +1,12 @@
 ghost use Rattle.std.specs.Prelude.{◌≡◌, ◌≢◌, Err, IfOk, OnErr};
 ghost use Rattle.nav_answers.specs.declared.found.AskFault.TheVariants as ask;
-ghost use Rattle.nav_session.specs.Refusals.{callers_reply, edit_reply, fault_reply, query_reply};
+ghost use Rattle.version_board.specs.declared.fault.CommitFault.TheVariants as why;
+ghost use Rattle.nav_session.specs.Refusals.{callers_reply, commit_reply, edit_reply, fault_reply, query_reply};
 
 use nav_answers::{Answer, AskFault};
 use nav_proto::{PlainError, ProtoFault, Reply};
 use std::alloc::AllocError;
+use version_board::CommitFault;
 use version_tree::{EditFault, Rows};
 
 /// The reply to a line that is no request. Want of memory is no fault of a line.
@@ -29,6 +31,19 @@ pub fn edit_reply(fault: EditFault) -> Reply
         EditFault::TooManyFiles(files) => Reply::TooManyFiles(files),
         EditFault::TooHeavy(weight) => Reply::TooHeavy(weight),
         EditFault::Spent | EditFault::NoMemory => Reply::Plain(PlainError::Spent),
+    }
+}
+
+/// The reply to edits that the board refuses for this reason; the one error is want of memory.
+pub fn commit_reply(fault: CommitFault) -> Result<Reply, AllocError>
+    ensures reply { IfOk result (λ reply. reply ≡ commit_reply fault) }
+    ensures definite { IfOk result (λ _. fault ≢ why.NoMemory) }
+    ensures memory { OnErr result (fault ≡ why.NoMemory) }
+{
+    match fault {
+        CommitFault::Stale(head) => Ok(Reply::Stale(head)),
+        CommitFault::Edit(fault) => Ok(edit_reply(fault)),
+        CommitFault::NoMemory => Err(AllocError),
     }
 }
 
