@@ -7,7 +7,7 @@ ghost use Rattle.nav_session.specs.Desks.{GoesOn};
 ghost use Rattle.nav_session.specs.Serving.{ends_session};
 ghost use Rattle.nav_poll.specs.Links.{NoneFell};
 ghost use Rattle.nav_poll.specs.Polling.{KeepsStarts, HaveCaughtUp, WaitsForLink, seen};
-ghost use Rattle.nav_poll.specs.Turns.{taken_up, ended_with, work_left};
+ghost use Rattle.nav_poll.specs.Turns.{DoesPart, OnlyPulls, taken_up, ended_with};
 
 use crate::link::Link;
 use crate::polled::Polled;
@@ -79,17 +79,10 @@ fn step<R: Threads + Sync, B: Commits<R>, K: Link, G: Gate + Sync, L: Ledger>(
     requires going { polled.old.ended ≡ None }
     ensures stands { KeepsStarts (seen B.seat B.log B.pin_at K.left K.held polled.old)
         (seen B.seat B.log B.pin_at K.left K.held polled.new) }
-    ensures goes_on { GoesOn (seen B.seat B.log B.pin_at K.left K.held polled.old).now.session
-        (seen B.seat B.log B.pin_at K.left K.held polled.new).now.session }
-    ensures counts { NoneFell (K.counts polled.old.link) (K.counts polled.new.link) }
-    ensures on { result ≡ Went.On → polled.new.ended ≡ None
-        → work_left polled.new < work_left polled.old }
+    ensures part { DoesPart B.seat B.log B.pin_at K.counts polled.old polled.new result }
     ensures waits { result ≡ Went.Waits → (polled.new.ended ≡ None)
         × WaitsForLink (K.counts polled.old.link) (K.counts polled.new.link)
         (seen B.seat B.log B.pin_at K.left K.held polled.new) }
-    ensures statuses { IfSome polled.new.ended (λ status. IsTrue (ends_session status)) }
-    ensures read_failed { polled.new.ended ≡ Some 3
-        → HasRisen (K.counts polled.old.link).read_faults (K.counts polled.new.link).read_faults }
     ensures write_failed { polled.new.ended ≡ Some 4
         → HasRisen (K.counts polled.old.link).write_faults (K.counts polled.new.link).write_faults }
 {
@@ -111,19 +104,10 @@ fn turn<R: Threads + Sync, B: Commits<R>, K: Link, G: Gate + Sync, L: Ledger>(
     requires pushed { polled.old.out ≡ [] }
     ensures stands { KeepsStarts (seen B.seat B.log B.pin_at K.left K.held polled.old)
         (seen B.seat B.log B.pin_at K.left K.held polled.new) }
-    ensures goes_on { GoesOn (seen B.seat B.log B.pin_at K.left K.held polled.old).now.session
-        (seen B.seat B.log B.pin_at K.left K.held polled.new).now.session }
-    ensures counts { NoneFell (K.counts polled.old.link) (K.counts polled.new.link) }
-    ensures on { result ≡ Went.On → polled.new.ended ≡ None
-        → work_left polled.new < work_left polled.old }
-    ensures waits { result ≡ Went.Waits → (polled.new.ended ≡ None)
-        × HasRisen (K.counts polled.old.link).read_waits (K.counts polled.new.link).read_waits }
+    ensures part { DoesPart B.seat B.log B.pin_at K.counts polled.old polled.new result }
+    ensures pulls { OnlyPulls K.counts polled.old polled.new result }
     ensures caught_up { result ≡ Went.Waits
         → HaveCaughtUp (seen B.seat B.log B.pin_at K.left K.held polled.new) }
-    ensures statuses { IfSome polled.new.ended (λ status. IsTrue (ends_session status)) }
-    ensures read_failed { polled.new.ended ≡ Some 3
-        → HasRisen (K.counts polled.old.link).read_faults (K.counts polled.new.link).read_faults }
-    ensures not_write_failed { polled.new.ended ≡ Some 4 → ⊥ }
 {
     let quit = polled.quit;
     if quit {
@@ -174,19 +158,10 @@ fn look_on<B: Pins, K: Link>(polled: &mut Polled<B, K>) -> Went
     requires full { 1000000 ≤ polled.old.lines }
     ensures stands { KeepsStarts (seen B.seat B.log B.pin_at K.left K.held polled.old)
         (seen B.seat B.log B.pin_at K.left K.held polled.new) }
-    ensures goes_on { GoesOn (seen B.seat B.log B.pin_at K.left K.held polled.old).now.session
-        (seen B.seat B.log B.pin_at K.left K.held polled.new).now.session }
-    ensures counts { NoneFell (K.counts polled.old.link) (K.counts polled.new.link) }
-    ensures on { result ≡ Went.On → polled.new.ended ≡ None
-        → work_left polled.new < work_left polled.old }
-    ensures waits { result ≡ Went.Waits → (polled.new.ended ≡ None)
-        × HasRisen (K.counts polled.old.link).read_waits (K.counts polled.new.link).read_waits }
+    ensures part { DoesPart B.seat B.log B.pin_at K.counts polled.old polled.new result }
+    ensures pulls { OnlyPulls K.counts polled.old polled.new result }
     ensures caught_up { result ≡ Went.Waits
         → HaveCaughtUp (seen B.seat B.log B.pin_at K.left K.held polled.new) }
-    ensures statuses { IfSome polled.new.ended (λ status. IsTrue (ends_session status)) }
-    ensures read_failed { polled.new.ended ≡ Some 3
-        → HasRisen (K.counts polled.old.link).read_faults (K.counts polled.new.link).read_faults }
-    ensures not_write_failed { polled.new.ended ≡ Some 4 → ⊥ }
 {
     let some = polled.in_front > 0;
     if some {
@@ -205,19 +180,10 @@ fn wait_for_line<B: Pins, K: Link>(polled: &mut Polled<B, K>) -> Went
     requires short { length polled.old.reader.front ≤ line_max }
     ensures stands { KeepsStarts (seen B.seat B.log B.pin_at K.left K.held polled.old)
         (seen B.seat B.log B.pin_at K.left K.held polled.new) }
-    ensures same_board { polled.new.board ≡ polled.old.board }
-    ensures same_desk { polled.new.desk ≡ polled.old.desk }
-    ensures counts { NoneFell (K.counts polled.old.link) (K.counts polled.new.link) }
-    ensures on { result ≡ Went.On → polled.new.ended ≡ None
-        → work_left polled.new < work_left polled.old }
-    ensures waits { result ≡ Went.Waits → (polled.new.ended ≡ None)
-        × HasRisen (K.counts polled.old.link).read_waits (K.counts polled.new.link).read_waits }
+    ensures part { DoesPart B.seat B.log B.pin_at K.counts polled.old polled.new result }
+    ensures pulls { OnlyPulls K.counts polled.old polled.new result }
     ensures caught_up { result ≡ Went.Waits
         → HaveCaughtUp (seen B.seat B.log B.pin_at K.left K.held polled.new) }
-    ensures statuses { IfSome polled.new.ended (λ status. IsTrue (ends_session status)) }
-    ensures read_failed { polled.new.ended ≡ Some 3
-        → HasRisen (K.counts polled.old.link).read_faults (K.counts polled.new.link).read_faults }
-    ensures not_write_failed { polled.new.ended ≡ Some 4 → ⊥ }
 {
     let at_end = polled.at_end;
     if at_end {
@@ -236,19 +202,10 @@ fn pull<B: Pins, K: Link>(polled: &mut Polled<B, K>) -> Went
     requires short { length polled.old.reader.front ≤ line_max }
     ensures stands { KeepsStarts (seen B.seat B.log B.pin_at K.left K.held polled.old)
         (seen B.seat B.log B.pin_at K.left K.held polled.new) }
-    ensures same_board { polled.new.board ≡ polled.old.board }
-    ensures same_desk { polled.new.desk ≡ polled.old.desk }
-    ensures counts { NoneFell (K.counts polled.old.link) (K.counts polled.new.link) }
-    ensures on { result ≡ Went.On → polled.new.ended ≡ None
-        → work_left polled.new < work_left polled.old }
-    ensures waits { result ≡ Went.Waits → (polled.new.ended ≡ None)
-        × HasRisen (K.counts polled.old.link).read_waits (K.counts polled.new.link).read_waits }
+    ensures part { DoesPart B.seat B.log B.pin_at K.counts polled.old polled.new result }
+    ensures pulls { OnlyPulls K.counts polled.old polled.new result }
     ensures caught_up { result ≡ Went.Waits
         → HaveCaughtUp (seen B.seat B.log B.pin_at K.left K.held polled.new) }
-    ensures statuses { IfSome polled.new.ended (λ status. IsTrue (ends_session status)) }
-    ensures read_failed { polled.new.ended ≡ Some 3
-        → HasRisen (K.counts polled.old.link).read_faults (K.counts polled.new.link).read_faults }
-    ensures not_write_failed { polled.new.ended ≡ Some 4 → ⊥ }
 {
     match pull_more(
         &mut polled.reader,

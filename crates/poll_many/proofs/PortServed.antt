@@ -4,6 +4,7 @@ use Rattle.std.specs.List.{AllByRecursion}
 use Rattle.std.specs.List.Sorted.{IsPermutation}
 use Rattle.std.proofs.lemmas.Bool.{eqb-true}
 use Rattle.std.proofs.lemmas.Option.{same_Some, slice_get_within}
+use Rattle.std.proofs.lemmas.List.{drop_all, take_all}
 use Rattle.std.proofs.lemmas.List.Sorted.{IsPermutation-refl}
 use Rattle.version_tree.specs.declared.entry.Entry.{Entry}
 use Rattle.nav_io.specs.Told.{append_told}
@@ -126,22 +127,12 @@ first_round {P} {B} {K} o call port seats places slice same all is seated free n
     subst (λ (ps : List (Place B K)). IsUnderWay o call 0 call.most port ps) (sym is)
     (at_first o call port places same (seated ∙ sym all) free (λ n seat e. names n seat (subst (λ (bs : List B). slice_get bs n ≡ Some seat) all e)))
 
-drop_none : {X : Type 0} (n : ℕ) (xs : List X) → length xs ≤ n → drop n xs ≡ []
-drop_none zero [] less = refl
-drop_none (suc n) [] less = refl
-drop_none zero (x ∷ xs) less = absurd (omega (arith, less))
-drop_none (suc n) (x ∷ xs) less = drop_none n xs (omega (arith, less))
-
-take_whole : {X : Type 0} (xs : List X) → take (length xs) xs ≡ xs
-take_whole [] = refl
-take_whole (x ∷ xs) = ap (λ ys. x ∷ ys) (take_whole xs)
-
 -- a list over all of which another one was written is that one
 pub over_all : {X : Type 0} (n : ℕ) (slice new old : List X) → length new ≡ length slice → slice ≡ old → length slice ≡ n
     → take n (new ++ drop (length new) old) ≡ new
 over_all {X} n slice new old long same count =
-    ap (λ (ys : List X). take n (new ++ ys)) (drop_none (length new) old (omega (arith, long, ap length same)))
-    ∙ (ap (λ (ys : List X). take n ys) (append-nil new) ∙ (ap (λ (k : ℕ). take k new) (sym (long ∙ count)) ∙ take_whole new))
+    ap (λ (ys : List X). take n (new ++ ys)) (drop_all (length new) old (omega (arith, long, ap length same)))
+    ∙ (ap (λ (ys : List X). take n ys) (append-nil new) ∙ take_all n new (omega (arith, long, count)))
 
 pub nothing_left : {X : Type 0} (rest : List X) (n : ℕ) → length rest ≡ n → (n == 0) ≡ true → rest ≡ []
 nothing_left [] n long e = refl

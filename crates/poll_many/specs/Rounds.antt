@@ -46,6 +46,14 @@ pub record IsUnderWay {P B K : Type 0} (o : Outside P B K) (call : Call P B) (cu
   pub memory : NoneLost places → HaveMemory over
   pub count : o.faults call.port.value ≤ o.faults port
 
+-- A part of a round was gone: the rounds are under way, with so many links wanted still, at as many places as before, and the
+-- port's count didn't fall.
+pub record GoesRound {P B K : Type 0} (o : Outside P B K) (call : Call P B) (wanted : ℕ) (port port' : P)
+    (places places' : List (Place B K)) : Type 0 where
+  pub under_way : IsUnderWay o call 0 wanted port' places'
+  pub len : length places' ≡ length places
+  pub count : o.faults port ≤ o.faults port'
+
 -- how many links are wanted still, after one was asked for
 abbrev pub still_wanted : Asked → ℕ → ℕ
 still_wanted Unasked wanted = wanted

@@ -5,7 +5,7 @@ ghost use Rattle.futures.specs.Task.{Keeps};
 ghost use Rattle.nav_io.specs.Faults.{HasRisen};
 ghost use Rattle.poll_many.specs.Connections.{outside};
 ghost use Rattle.poll_many.specs.Places.{is_busy, is_free};
-ghost use Rattle.poll_many.specs.Rounds.{IsUnderWay, AreOver, NoneBusy, RestBefore, still_wanted};
+ghost use Rattle.poll_many.specs.Rounds.{IsUnderWay, GoesRound, AreOver, NoneBusy, RestBefore, still_wanted};
 
 use crate::call::Call;
 use crate::place::{Asked, Place, Turn, close_place, take_link, take_turn};
@@ -34,11 +34,9 @@ where
     requires some { 0 < wanted.old }
     requires under_way { IsUnderWay (outside P.gave P.got_back P.faults P.K.left P.K.held P.K.counts
         B.seat B.log B.pin_at) call.now 0 wanted.old port.old places.old }
-    ensures under_way { IsUnderWay (outside P.gave P.got_back P.faults P.K.left P.K.held P.K.counts
-        B.seat B.log B.pin_at) call.now 0 wanted.new port.new places.new }
-    ensures len { length places.new ≡ length places.old }
+    ensures goes { GoesRound (outside P.gave P.got_back P.faults P.K.left P.K.held P.K.counts
+        B.seat B.log B.pin_at) call.now wanted.new port.old port.new places.old places.new }
     ensures failed { result ≡ Asked.Failed → HasRisen (P.faults port.old) (P.faults port.new) }
-    ensures count { P.faults port.old ≤ P.faults port.new }
 {
     let asked = take_link(alloc, &mut places[n], port);
     *wanted = still_wanted(*wanted, asked);
@@ -69,11 +67,9 @@ where
     P::K: Drop,
     requires under_way { IsUnderWay (outside P.gave P.got_back P.faults P.K.left P.K.held P.K.counts
         B.seat B.log B.pin_at) call.now 0 wanted.old port.old places.old }
-    ensures under_way { IsUnderWay (outside P.gave P.got_back P.faults P.K.left P.K.held P.K.counts
-        B.seat B.log B.pin_at) call.now 0 wanted.new port.new places.new }
-    ensures len { length places.new ≡ length places.old }
+    ensures goes { GoesRound (outside P.gave P.got_back P.faults P.K.left P.K.held P.K.counts
+        B.seat B.log B.pin_at) call.now wanted.new port.old port.new places.old places.new }
     ensures failed { OnErr result (HasRisen (P.faults port.old) (P.faults port.new)) }
-    ensures count { P.faults port.old ≤ P.faults port.new }
 {
     let mut any = false;
     for n in 0..places.len() {
@@ -106,10 +102,8 @@ where
     requires inside { n < length places.old }
     requires under_way { IsUnderWay (outside P.gave P.got_back P.faults P.K.left P.K.held P.K.counts
         B.seat B.log B.pin_at) call.now 0 wanted port.old places.old }
-    ensures under_way { IsUnderWay (outside P.gave P.got_back P.faults P.K.left P.K.held P.K.counts
-        B.seat B.log B.pin_at) call.now 0 wanted port.new places.new }
-    ensures len { length places.new ≡ length places.old }
-    ensures count { P.faults port.old ≤ P.faults port.new }
+    ensures goes { GoesRound (outside P.gave P.got_back P.faults P.K.left P.K.held P.K.counts
+        B.seat B.log B.pin_at) call.now wanted port.old port.new places.old places.new }
     ensures kept { Keeps cx.old cx.new }
 {
     let _ = wanted;
@@ -130,10 +124,8 @@ where
     P::K: Drop,
     requires under_way { IsUnderWay (outside P.gave P.got_back P.faults P.K.left P.K.held P.K.counts
         B.seat B.log B.pin_at) call.now 0 wanted port.old places.old }
-    ensures under_way { IsUnderWay (outside P.gave P.got_back P.faults P.K.left P.K.held P.K.counts
-        B.seat B.log B.pin_at) call.now 0 wanted port.new places.new }
-    ensures len { length places.new ≡ length places.old }
-    ensures count { P.faults port.old ≤ P.faults port.new }
+    ensures goes { GoesRound (outside P.gave P.got_back P.faults P.K.left P.K.held P.K.counts
+        B.seat B.log B.pin_at) call.now wanted port.old port.new places.old places.new }
     ensures kept { Keeps cx.old cx.new }
 {
     let mut any = false;
@@ -167,11 +159,9 @@ where
     P::K: Drop,
     requires under_way { IsUnderWay (outside P.gave P.got_back P.faults P.K.left P.K.held P.K.counts
         B.seat B.log B.pin_at) call.now 0 wanted.old port.old places.old }
-    ensures under_way { IsUnderWay (outside P.gave P.got_back P.faults P.K.left P.K.held P.K.counts
-        B.seat B.log B.pin_at) call.now 0 wanted.new port.new places.new }
-    ensures len { length places.new ≡ length places.old }
+    ensures goes { GoesRound (outside P.gave P.got_back P.faults P.K.left P.K.held P.K.counts
+        B.seat B.log B.pin_at) call.now wanted.new port.old port.new places.old places.new }
     ensures failed { OnErr result (HasRisen (P.faults port.old) (P.faults port.new)) }
-    ensures count { P.faults port.old ≤ P.faults port.new }
     ensures kept { Keeps cx.old cx.new }
 {
     let given = take_links(alloc, call, places, port, wanted)?;
@@ -243,12 +233,10 @@ where
     P::K: Drop,
     requires under_way { IsUnderWay (outside P.gave P.got_back P.faults P.K.left P.K.held P.K.counts
         B.seat B.log B.pin_at) call.now 0 wanted.old port.old places.old }
-    ensures under_way { IsUnderWay (outside P.gave P.got_back P.faults P.K.left P.K.held P.K.counts
-        B.seat B.log B.pin_at) call.now 0 wanted.new port.new places.new }
+    ensures goes { GoesRound (outside P.gave P.got_back P.faults P.K.left P.K.held P.K.counts
+        B.seat B.log B.pin_at) call.now wanted.new port.old port.new places.old places.new }
     ensures over { OnOk result (AreOver wanted.new places.new) }
-    ensures len { length places.new ≡ length places.old }
     ensures failed { OnErr result (HasRisen (P.faults port.old) (P.faults port.new)) }
-    ensures count { P.faults port.old ≤ P.faults port.new }
     ensures kept { Keeps cx.old cx.new }
 {
     for _ in rt.forever() {

@@ -9,4 +9,4 @@ pub loop-polled-smaller : goal.loop-polled-smaller
 loop-polled-smaller g c =
     let went : c.step.result ≡ On = search rules in
     let going : c.loop-polled.polled.ended ≡ None = search rules in
-    weight_falls c.loop-polled.polled.ended c.step.new.polled.ended (work_left c.loop-polled.polled) (work_left c.step.new.polled) going (c.step.ensures.on went)
+    weight_falls c.loop-polled.polled.ended c.step.new.polled.ended (work_left c.loop-polled.polled) (work_left c.step.new.polled) going (c.step.ensures.part.on went)

@@ -11,7 +11,7 @@ pub returns-in-Ok-clause-finished : goal.returns-in-Ok-clause-finished
 returns-in-Ok-clause-finished g c =
     finished_over (outside g.P.Port.gave g.P.Port.got_back g.P.Port.faults g.P.K.Link.left g.P.K.Link.held g.P.K.Link.counts g.B.Pins.seat g.B.Pins.log g.B.Pins.pin_at)
     c.args.call.now c.go_on.new.wanted c.go_on.new.port c.go_on.new.places (list_any is_lost c.go_on.new.places) c.status_of.result
-    (rw c.in-Ok.ensures.len c.requires.some) c.in-Ok.ensures.under_way (c.in-Ok.ensures.over) refl
+    (rw c.in-Ok.ensures.goes.len c.requires.some) c.in-Ok.ensures.goes.under_way (c.in-Ok.ensures.over) refl
     (c.status_of.ensures ∙ ap (λ lost. if lost then 5 else 0) c.any_lost.ensures)
 
 pub returns-in-Err-clause-finished : goal.returns-in-Err-clause-finished

@@ -13,18 +13,21 @@ returns-then-are_over-clause-kept g c fact h = c.go_round.ensures.kept fact (c.l
 pub returns-in_err-settle_if-clause-kept : goal.returns-in_err-settle_if-clause-kept
 returns-in_err-settle_if-clause-kept g c fact h = c.go_round.ensures.kept fact (c.loop.invariant.kept fact h)
 
-pub returns-in_err-settle_if-clause-under_way : goal.returns-in_err-settle_if-clause-under_way
-returns-in_err-settle_if-clause-under_way g c =
-    settled (outside g.P.Port.gave g.P.Port.got_back g.P.Port.faults g.P.K.Link.left g.P.K.Link.held g.P.K.Link.counts g.B.Pins.seat g.B.Pins.log g.B.Pins.pin_at)
-    c.args.call.now 0 c.go_round.new.wanted c.go_round.new.port c.settle_if.new.port c.go_round.new.places
-    c.settle_if.ensures.given c.settle_if.ensures.back c.settle_if.ensures.count c.go_round.ensures.under_way
+pub returns-in_err-settle_if-clause-goes : goal.returns-in_err-settle_if-clause-goes
+returns-in_err-settle_if-clause-goes g c = record {
+  under_way = settled (outside g.P.Port.gave g.P.Port.got_back g.P.Port.faults g.P.K.Link.left g.P.K.Link.held g.P.K.Link.counts g.B.Pins.seat g.B.Pins.log g.B.Pins.pin_at)
+      c.args.call.now 0 c.go_round.new.wanted c.go_round.new.port c.settle_if.new.port c.go_round.new.places
+      c.settle_if.ensures.given c.settle_if.ensures.back c.settle_if.ensures.count c.go_round.ensures.goes.under_way;
+  len = c.go_round.ensures.goes.len ∙ c.loop.invariant.len;
+  count = omega (arith, c.loop.invariant.count, c.go_round.ensures.goes.count, c.settle_if.ensures.count);
+}
 
 pub loop-preserved : goal.loop-preserved
 loop-preserved g c = record {
   under_way = settled (outside g.P.Port.gave g.P.Port.got_back g.P.Port.faults g.P.K.Link.left g.P.K.Link.held g.P.K.Link.counts g.B.Pins.seat g.B.Pins.log g.B.Pins.pin_at)
       c.args.call.now 0 c.go_round.new.wanted c.go_round.new.port c.settle_if.new.port c.go_round.new.places
-      c.settle_if.ensures.given c.settle_if.ensures.back c.settle_if.ensures.count c.go_round.ensures.under_way;
-  len = c.go_round.ensures.len ∙ c.loop.invariant.len;
-  count = omega (arith, c.loop.invariant.count, c.go_round.ensures.count, c.settle_if.ensures.count);
+      c.settle_if.ensures.given c.settle_if.ensures.back c.settle_if.ensures.count c.go_round.ensures.goes.under_way;
+  len = c.go_round.ensures.goes.len ∙ c.loop.invariant.len;
+  count = omega (arith, c.loop.invariant.count, c.go_round.ensures.goes.count, c.settle_if.ensures.count);
   kept = λ fact h. c.go_round.ensures.kept fact (c.loop.invariant.kept fact h);
 }

@@ -1,5 +1,5 @@
 -- The other places stay as they are.
-use Rattle.std.proofs.Common.{slice_index_or}
+use Rattle.std.proofs.Common.{rules, slice_index_or}
 use Rattle.std.proofs.lemmas.Option.{slice_get-get_or}
 use Rattle.poll_many.specs.Connections.{outside}
 use Rattle.poll_many.proofs.PlaceTurns.{took}
@@ -11,10 +11,13 @@ take_link-asked-requires g c = record {
       (slice_get-get_or c.args.places.now c.args.n c.index-places-n.result c.requires.inside)).0;
 }
 
-pub returns-clause-under_way : goal.returns-clause-under_way
-returns-clause-under_way g c =
-    rw c.still_wanted.ensures (took (outside g.P.Port.gave g.P.Port.got_back g.P.Port.faults g.P.K.Link.left g.P.K.Link.held g.P.K.Link.counts g.B.Pins.seat g.B.Pins.log g.B.Pins.pin_at)
-    c.args.call.now c.args.wanted.now c.args.port.now c.take_link-asked.new.port c.args.places.now c.args.n
-    (slice_index_or c.args.places.now c.args.n c.index-places-n.result) c.take_link-asked.new.place c.take_link-asked.result
-    (slice_get-get_or c.args.places.now c.args.n c.index-places-n.result c.requires.inside) c.take_link-asked.ensures.count c.requires.some
-    c.take_link-asked.ensures.takes c.requires.under_way)
+pub returns-clause-goes : goal.returns-clause-goes
+returns-clause-goes g c = record {
+  under_way = rw c.still_wanted.ensures (took (outside g.P.Port.gave g.P.Port.got_back g.P.Port.faults g.P.K.Link.left g.P.K.Link.held g.P.K.Link.counts g.B.Pins.seat g.B.Pins.log g.B.Pins.pin_at)
+      c.args.call.now c.args.wanted.now c.args.port.now c.take_link-asked.new.port c.args.places.now c.args.n
+      (slice_index_or c.args.places.now c.args.n c.index-places-n.result) c.take_link-asked.new.place c.take_link-asked.result
+      (slice_get-get_or c.args.places.now c.args.n c.index-places-n.result c.requires.inside) c.take_link-asked.ensures.count c.requires.some
+      c.take_link-asked.ensures.takes c.requires.under_way);
+  len = search rules;
+  count = c.take_link-asked.ensures.count;
+}

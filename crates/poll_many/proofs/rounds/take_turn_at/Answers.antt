@@ -1,5 +1,5 @@
 -- The other places stay as they are.
-use Rattle.std.proofs.Common.{slice_index_or}
+use Rattle.std.proofs.Common.{rules, slice_index_or}
 use Rattle.std.proofs.lemmas.Option.{slice_get-get_or}
 use Rattle.poll_many.specs.Connections.{outside}
 use Rattle.poll_many.proofs.PlaceTurns.{busy_out, turned}
@@ -16,9 +16,12 @@ take_turn-requires-clause-out g c _ _ =
     c.args.call.now 0 c.args.wanted c.args.port.now c.args.places.now c.args.n (slice_index_or c.args.places.now c.args.n c.index-places-n.result)
     (slice_get-get_or c.args.places.now c.args.n c.index-places-n.result c.requires.inside) c.requires.under_way
 
-pub returns-clause-under_way : goal.returns-clause-under_way
-returns-clause-under_way g c =
-    turned (outside g.P.Port.gave g.P.Port.got_back g.P.Port.faults g.P.K.Link.left g.P.K.Link.held g.P.K.Link.counts g.B.Pins.seat g.B.Pins.log g.B.Pins.pin_at)
-    c.args.call.now c.args.wanted c.args.port.now c.take_turn.new.port c.args.places.now c.args.n
-    (slice_index_or c.args.places.now c.args.n c.index-places-n.result) c.take_turn.new.place c.take_turn.result
-    (slice_get-get_or c.args.places.now c.args.n c.index-places-n.result c.requires.inside) c.take_turn.ensures.count c.take_turn.ensures.takes c.requires.under_way
+pub returns-clause-goes : goal.returns-clause-goes
+returns-clause-goes g c = record {
+  under_way = turned (outside g.P.Port.gave g.P.Port.got_back g.P.Port.faults g.P.K.Link.left g.P.K.Link.held g.P.K.Link.counts g.B.Pins.seat g.B.Pins.log g.B.Pins.pin_at)
+      c.args.call.now c.args.wanted c.args.port.now c.take_turn.new.port c.args.places.now c.args.n
+      (slice_index_or c.args.places.now c.args.n c.index-places-n.result) c.take_turn.new.place c.take_turn.result
+      (slice_get-get_or c.args.places.now c.args.n c.index-places-n.result c.requires.inside) c.take_turn.ensures.count c.take_turn.ensures.takes c.requires.under_way;
+  len = search rules;
+  count = c.take_turn.ensures.count;
+}
