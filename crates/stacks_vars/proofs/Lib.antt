@@ -3,3 +3,4 @@
 -- HeadLaws.
 pub mod SameLaws
 pub mod HeadLaws
+mod BytesLaws

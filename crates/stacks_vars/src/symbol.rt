@@ -97,7 +97,7 @@ impl Symbol {
         if is_whole(self.head) {
             return Ordering::Equal;
         }
-        self.as_bytes().cmp(other.as_bytes())
+        bytes_cmp(self.as_bytes(), other.as_bytes())
     }
 
     /// Whether both are the same symbol. Bytes are looked at only where both heads are equal and the
@@ -109,12 +109,29 @@ impl Symbol {
         if self.head != other.head {
             return false;
         }
-        is_whole(self.head) || self.is(other.as_bytes())
+        is_whole(self.head) || bytes_cmp(self.as_bytes(), other.as_bytes()).is_eq()
     }
+}
+
+/// How bytes stand to others: as the first ones that differ do, and a shorter text before those that begin with it. They
+/// are compared one by one: most symbols have so few bytes that comparing words of them takes longer.
+fn bytes_cmp(a: &[u8], b: &[u8]) -> Ordering
+    ensures { result ≡ slice_cmp nat_cmp a.now b.now }
+{
+    let count = a.len().min(b.len());
+    for i in 0..count {
+        let order = a[i].cmp(&b[i]);
+        if order.is_ne() {
+            return order;
+        }
+    }
+    a.len().cmp(&b.len())
 }
 
 ghost use Rattle.std.specs.Prelude.{◌≡◌, ◌↔◌, ◌+◌, ◌%◌, ◌≤◌, IsTrue, length, min, slice_index};
 ghost use Rattle.stacks_vars.specs.Head.{IsHead, last_digit};
+ghost use Rattle.std.specs.Ordering.{nat_cmp};
+ghost use Rattle.std.specs.Cmp.Lexicographic.{slice_cmp};
 
 /// The head of a symbol of these bytes. Its digits to the base 256 go from the greatest down, so that heads
 /// compare as the texts do.
