@@ -1,6 +1,6 @@
 -- What a look-up in an index offers to a user is what the files that the user sees offer, in another order.
 use Rattle.std.proofs.Common.{◌≡◌, refl, sym, ◌∙◌, ap, subst, ℕ, zero, suc, ◌+◌, ◌<◌, List, [], ◌∷◌, ◌++◌, length, map, get_or, Bool, true, false, cond, Option, Some, None, arith}
-use Rattle.std.specs.Prelude.{filter, ◌&&◌, ◌||◌, nat_le, MatchOption}
+use Rattle.std.specs.Prelude.{filter, ◌&&◌, ◌||◌, MatchOption}
 use Rattle.std.specs.List.{AllByRecursion, flat_map, swap}
 use Rattle.std.specs.List.Sorted.{IsPermutation}
 use Rattle.std.specs.Option.{option_map_or, unwrap_or}
@@ -9,7 +9,6 @@ use Rattle.std.specs.declared.cmp.Ordering.{Ordering}
 use Rattle.std.specs.declared.cmp.Ordering.TheVariants.{Less, Equal, Greater}
 use Rattle.std.proofs.Math.ListN.{set}
 use Rattle.std.proofs.lemmas.Bool.{false≢true}
-use Rattle.std.proofs.lemmas.Bool.Decides.{nat_tests}
 use Rattle.std.proofs.lemmas.Cmp.{nat_list_cmp_total, tied_itself}
 use Rattle.std.proofs.lemmas.Map.Text.{is_eq-slice_cmp}
 use Rattle.std.proofs.lemmas.Slice.Eq.{bytes_eq-Decides}
@@ -129,7 +128,7 @@ number_is view path (Some n) order e =
 
 -- what a path gives to a look-up
 abbrev given : List FileRow → List SymbolItem → RootPath → List (ℕ × Rule)
-given view symbols p = cond (asks symbols 0 p) (seen view p) []
+given view symbols p = cond (asks symbols p) (seen view p) []
 
 -- the rules of a file with that number that are offered, none of a file that has none
 abbrev in_row : Option ℕ → List SymbolItem → List Rule → List (ℕ × Rule)
@@ -142,12 +141,11 @@ root_moved n (Before node) = refl
 root_moved n (After spot.Root) = refl
 root_moved n (After (spot.At node)) = refl
 
-one_given : (b s t : Bool) (n : ℕ) (rule : Rule) (rest : List Rule) → t ≡ true
-    → cond b (cond (s && t) (numbered n rule ∷ []) []) [] ++ map (numbered n) rest ≡ map (numbered n) (cond (b && s) (rule ∷ rest) rest)
-one_given true true true n rule rest e = refl
-one_given true false true n rule rest e = refl
-one_given false s true n rule rest e = refl
-one_given b s false n rule rest e = absurd (false≢true e)
+one_given : (b s : Bool) (n : ℕ) (rule : Rule) (rest : List Rule)
+    → cond b (cond s (numbered n rule ∷ []) []) [] ++ map (numbered n) rest ≡ map (numbered n) (cond (b && s) (rule ∷ rest) rest)
+one_given true true n rule rest = refl
+one_given true false n rule rest = refl
+one_given false s n rule rest = refl
 
 abbrev nothing : List (ℕ × Rule)
 nothing = []
@@ -161,9 +159,6 @@ first_given : {X Y : Type 0} (f : X → List Y) (b : Bool) (x : X) (xs : List X)
 first_given f true x xs = refl
 first_given f false x xs = refl
 
-any_length : (m : ℕ) → nat_le 0 m ≡ true
-any_length m = grind (arith, nat_tests)
-
 -- the paths of one row give what its file offers
 row_gives : (view : List FileRow) (symbols : List SymbolItem) (path : List ℕ) (m : Option ℕ) → number_in view path ≡ m → (place : ℕ) (rules : List Rule)
     → flat_map (given view symbols) (roots_from path place rules) ≡ in_row m symbols rules
@@ -171,14 +166,14 @@ row_gives view symbols path None e place [] = refl
 row_gives view symbols path (Some n) e place [] = refl
 row_gives view symbols path None e place (rule ∷ rules) =
     first_given (given view symbols) (begins_at root rule) (root_path path place (Some rule)) (roots_from path (place + 1) rules)
-    ∙ (λ i. cond (begins_at root rule) (cond (stand_first (key rule) symbols && nat_le 0 (length (key rule))) (option_map_or (λ (n : ℕ). numbered n rule ∷ []) (e i) []) []) []
+    ∙ (λ i. cond (begins_at root rule) (cond (stand_first (key rule) symbols) (option_map_or (λ (n : ℕ). numbered n rule ∷ []) (e i) []) []) []
     ++ row_gives view symbols path None e (place + 1) rules i)
-    ∙ none_given (begins_at root rule) (stand_first (key rule) symbols && nat_le 0 (length (key rule)))
+    ∙ none_given (begins_at root rule) (stand_first (key rule) symbols)
 row_gives view symbols path (Some n) e place (rule ∷ rules) =
     first_given (given view symbols) (begins_at root rule) (root_path path place (Some rule)) (roots_from path (place + 1) rules)
-    ∙ (λ i. cond (begins_at root rule) (cond (stand_first (key rule) symbols && nat_le 0 (length (key rule))) (option_map_or (λ (n : ℕ). numbered n rule ∷ []) (e i) []) []) []
+    ∙ (λ i. cond (begins_at root rule) (cond (stand_first (key rule) symbols) (option_map_or (λ (n : ℕ). numbered n rule ∷ []) (e i) []) []) []
     ++ row_gives view symbols path (Some n) e (place + 1) rules i)
-    ∙ one_given (begins_at root rule) (stand_first (key rule) symbols) (nat_le 0 (length (key rule))) n rule (filter (is_offered_in n root symbols) rules) (any_length (length (key rule)))
+    ∙ one_given (begins_at root rule) (stand_first (key rule) symbols) n rule (filter (is_offered_in n root symbols) rules)
     ∙ ap (λ b. map (numbered n) (cond (b && stand_first (key rule) symbols) (rule ∷ filter (is_offered_in n root symbols) rules) (filter (is_offered_in n root symbols) rules))) (root_moved n rule.start)
 
 pub same_path : (p q : List ℕ) → path_cmp p q ≡ Equal → p ≡ q
@@ -237,13 +232,13 @@ module _ (view : List FileRow) (symbols : List SymbolItem) (t : List ℕ → Boo
 
 -- a look-up at its beginning offers what the files that are seen offer
 pub all_offered : (paths : List RootPath) (view : List FileRow) (symbols : List SymbolItem) → IsInOrder view → IsIndexOfView paths view
-    → IsPermutation (roots_offered view symbols) (flat_map (seen view) (filter (asks symbols 0) paths))
+    → IsPermutation (roots_offered view symbols) (flat_map (seen view) (filter (asks symbols) paths))
 all_offered paths view symbols order of =
     let t = covers of.version.rules of.shown.0 in
     let hidden : (path : List ℕ) → t path ≡ false → has_path path view ≡ false
     = λ path out. ap (has_path path) of.shown.1 ∙ not_seen t path out of.version.rows in
     let whole : flat_map (given view symbols) (all_roots of.version.rows) ≡ roots_offered view symbols
     = rows_give view symbols t order hidden [] of.version.rows of.shown.1 ∙ ap (λ rows. roots_offered rows symbols) (sym of.shown.1) in
-    subst (λ ys. IsPermutation (roots_offered view symbols) ys) (sym (given_where (asks symbols 0) (seen view) paths))
+    subst (λ ys. IsPermutation (roots_offered view symbols) ys) (sym (given_where (asks symbols) (seen view) paths))
     (subst (λ xs. IsPermutation xs (flat_map (given view symbols) paths)) whole
     (given_in_any_order (given view symbols) (all_roots of.version.rows) paths of.index.all))

@@ -1,10 +1,9 @@
 -- How the paths of an index stand in blocks; no public clause cites this.
-use Rattle.std.specs.Prelude.{◌≡◌, ℕ, ◌+◌, ◌<◌, ◌≤◌, List, [], ◌∷◌, length, take, Bool, false, ◌||◌, ◌&&◌, slice_index_or, nat_le}
+use Rattle.std.specs.Prelude.{◌≡◌, ℕ, ◌+◌, ◌<◌, ◌≤◌, List, [], ◌∷◌, length, take, Bool, false, slice_index_or, nat_le}
 use Rattle.std.specs.List.{flat_map, prefix_len, AllByRecursion}
-use Rattle.std.specs.Ordering.{is_lt, is_le, is_eq}
+use Rattle.std.specs.Ordering.{is_le, is_eq}
 use Rattle.std.specs.declared.cmp.Ordering.TheVariants.{Less}
 use Rattle.root_index.specs.Roots.{RootPath, rank, rank_cmp}
-use Rattle.root_index.specs.Inside.{key_order}
 
 -- a block has 1 to 64 paths
 pub record IsBlock (block : List RootPath) : Type 0 where
@@ -46,7 +45,3 @@ pub record AreStarts (starts : List ℕ) (blocks : List (List RootPath)) : Type 
 -- whether a block begins no later than at the place
 abbrev pub begins_by : ℕ → ℕ → Bool
 begins_by place start = nat_le start place
-
--- whether a path's key stands before a key, or also at it
-abbrev pub is_within_key : Bool → List (List ℕ) → RootPath → Bool
-is_within_key closed asked p = is_lt (key_order asked p) || (closed && is_eq (key_order asked p))

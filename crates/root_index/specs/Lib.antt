@@ -4,5 +4,6 @@ pub mod Groups
 pub mod Heads
 pub mod Inside
 pub mod Looks
+pub mod Met
 pub mod Offers
 pub mod Roots

@@ -1,5 +1,5 @@
 -- What a look-up in an index still has to offer to a user and a stack of symbols.
-use Rattle.std.specs.Prelude.{ℕ, ◌+◌, ◌-◌, List, [], ◌∷◌, ◌++◌, length, map, take, drop, filter, Bool, ◌&&◌, nat_le, Option, Some, None, if◌then◌else◌}
+use Rattle.std.specs.Prelude.{ℕ, ◌+◌, List, [], ◌∷◌, map, drop, filter, Bool, Option, Some, None, if◌then◌else◌}
 use Rattle.std.specs.List.{flat_map}
 use Rattle.std.specs.Option.{option_map_or}
 use Rattle.std.specs.Ordering.{is_eq}
@@ -25,18 +25,13 @@ abbrev pub seen : List FileRow → RootPath → List (ℕ × Rule)
 seen view p =
     option_map_or (λ (n : ℕ). option_map_or (λ (rule : Rule). numbered n rule ∷ []) p.rule []) (number_in view p.path) []
 
--- whether the texts of the first symbols that the path asks for are those of the stack's first symbols, and it
--- asks for at least so many
-abbrev pub asks : List SymbolItem → ℕ → RootPath → Bool
-asks symbols count p = stand_first (root_key p) symbols && nat_le count (length (root_key p))
-
--- the paths at the places that come next
-abbrev pub next_paths : RootOffers → List RootPath → List RootPath
-next_paths at paths = take (at.end - at.place) (drop at.place paths)
+-- whether the texts of the first symbols that the path asks for are those of the stack's first symbols
+abbrev pub asks : List SymbolItem → RootPath → Bool
+asks symbols p = stand_first (root_key p) symbols
 
 -- the paths that a look-up which stands there still meets, whoever may see them
 abbrev pub paths_left : RootOffers → List SymbolItem → List RootPath → List RootPath
-paths_left at symbols paths = next_paths at paths ++ filter (asks symbols at.asked) paths
+paths_left at symbols paths = filter (asks symbols) (drop at.place paths)
 
 -- what it still has to offer to a user who sees these rows
 abbrev pub offers_left : RootOffers → List SymbolItem → List FileRow → List RootPath → List (ℕ × Rule)
@@ -49,7 +44,3 @@ files_of rows = map (λ (row : FileRow). row.file) rows
 -- the paths from the root of these rows that are offered to the symbols, by file and then by place
 abbrev pub roots_offered : List FileRow → List SymbolItem → List (ℕ × Rule)
 roots_offered view symbols = rules_offered (files_of view) root symbols
-
--- a look-up that stands at that place
-abbrev pub offers_at : ℕ → ℕ → ℕ → ℕ → RootOffers
-offers_at place end asked near = record { place = place; end = end; asked = asked; near = near }

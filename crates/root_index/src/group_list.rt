@@ -2,12 +2,13 @@ ghost use Rattle.std.specs.Prelude.{◌≡◌, ◌≤◌, length, take};
 ghost use Rattle.std.specs.List.{prefix_len};
 ghost use Rattle.std.specs.List.Sorted.{IsPartitionedBy};
 ghost use Rattle.partial_path.specs.Keys.{key_size, texts};
-ghost use Rattle.root_index.specs.Blocks.{first_passes, is_within_key};
+ghost use Rattle.root_index.specs.Blocks.{first_passes};
+ghost use Rattle.root_index.specs.Inside.{is_before_key};
 
 use crate::group::Group;
 use crate::groups::Groups;
 use crate::slot::Slot;
-use crate::slot_list::{blocks_near, is_within_key};
+use crate::slot_list::{blocks_near, is_before_key};
 use stacks_vars::SymbolStack;
 use std::alloc::{AllocError, Global};
 use std::marker::Model;
@@ -39,7 +40,8 @@ impl GroupList {
     ghost use Rattle.std.specs.List.{prefix_len};
     ghost use Rattle.std.specs.List.Sorted.{IsPartitionedBy};
     ghost use Rattle.partial_path.specs.Keys.{key_size, texts};
-    ghost use Rattle.root_index.specs.Blocks.{all_paths, is_within_key};
+    ghost use Rattle.root_index.specs.Blocks.{all_paths};
+    ghost use Rattle.root_index.specs.Inside.{is_before_key};
 
     /// No paths. It takes no memory.
     pub(crate) fn new(alloc: Global) -> GroupList
@@ -103,65 +105,62 @@ impl GroupList {
         (slot, group)
     }
 
-    /// How many paths seem to stand before the key with these heads, where it is closed with those that have it,
-    /// and the group of the last of them. It is found by halving over heads alone, and may be wrong where long
+    /// How many paths seem to stand before the key with these heads, and the group of the last of them. It is found by halving over heads alone, and may be wrong where long
     /// texts have one head.
-    pub(crate) fn told(&self, wanted: &[u64; 6], closed: bool) -> (usize, usize) {
+    pub(crate) fn told(&self, wanted: &[u64; 6]) -> (usize, usize) {
         let groups = self.groups.groups();
-        let found = groups_told(groups, wanted, closed);
+        let found = groups_told(groups, wanted);
         if found == 0 {
             return (0, 0);
         }
         let group = found - 1;
-        let place = groups[group].slots().told(wanted, closed);
+        let place = groups[group].slots().told(wanted);
         (self.starts[group].saturating_add(place), group)
     }
 
     /// How many paths stand before the key that the texts of the stack's first symbols make, so many of
-    /// them; where it is closed, with those that have this key. They are found by halving.
-    pub(crate) fn end_of(&self, symbols: &SymbolStack, count: usize, closed: bool) -> usize
-        requires parted { IsPartitionedBy (is_within_key closed
-            (take count (texts symbols.now))) self.now }
+    /// them. They are found by halving.
+    pub(crate) fn end_of(&self, symbols: &SymbolStack, count: usize) -> usize
+        requires parted { IsPartitionedBy (is_before_key (take count (texts symbols.now))) self.now }
         requires count { count ≤ key_size }
         ensures value { result
-            ≡ prefix_len (is_within_key closed (take count (texts symbols.now))) self.now }
+            ≡ prefix_len (is_before_key (take count (texts symbols.now))) self.now }
         ensures bound { result ≤ length self.now }
     {
         let groups = self.groups.groups();
-        let found = groups_within(groups, symbols, count, closed);
+        let found = groups_within(groups, symbols, count);
         if found == 0 {
             return 0;
         }
         let group = found - 1;
-        self.starts[group] + groups[group].slots().end_of(symbols, count, closed)
+        self.starts[group] + groups[group].slots().end_of(symbols, count)
     }
 }
 
 /// How many groups begin within the key, by halving.
-fn groups_within(groups: &[Group], symbols: &SymbolStack, count: usize, closed: bool) -> usize
+fn groups_within(groups: &[Group], symbols: &SymbolStack, count: usize) -> usize
     requires parted { IsPartitionedBy (first_passes
-        (is_within_key closed (take count (texts symbols.now)))) groups.now }
+        (is_before_key (take count (texts symbols.now)))) groups.now }
     requires count { count ≤ key_size }
     ensures value { result
-        ≡ prefix_len (first_passes (is_within_key closed
-        (take count (texts symbols.now)))) groups.now }
+        ≡ prefix_len (first_passes (is_before_key (take count (texts symbols.now)))) groups.now }
     ensures bound { result ≤ length groups.now }
 {
-    groups.partition_point(|group| begins_within(group, symbols, count, closed))
+    groups.partition_point(|group| begins_within(group, symbols, count))
 }
 
 /// How many groups seem to begin within the key with these heads, by halving.
-fn groups_told(groups: &[Group], wanted: &[u64; 6], closed: bool) -> usize
+fn groups_told(groups: &[Group], wanted: &[u64; 6]) -> usize
     ensures { result ≤ length groups.now }
 {
-    groups.partition_point(|group| group.first().seems_within(wanted, closed))
+    groups.partition_point(|group| group.first().seems_before(wanted))
 }
 
 /// Whether the group's first path stands within the key.
-fn begins_within(group: &Group, symbols: &SymbolStack, count: usize, closed: bool) -> bool
+fn begins_within(group: &Group, symbols: &SymbolStack, count: usize) -> bool
     requires { count ≤ key_size }
     ensures { result
-        ≡ first_passes (is_within_key closed (take count (texts symbols.now))) group.now }
+        ≡ first_passes (is_before_key (take count (texts symbols.now))) group.now }
 {
-    is_within_key(group.first(), symbols, count, closed)
+    is_before_key(group.first(), symbols, count)
 }

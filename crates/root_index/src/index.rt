@@ -152,12 +152,7 @@ impl RootIndex {
             (offers_left result _symbols.now view.now self.now) }
     {
         let _count = view.row_count();
-        RootOffers {
-            place: 0,
-            end: 0,
-            asked: 0,
-            near: 0,
-        }
+        RootOffers { place: 0, near: 0 }
     }
 
     /// The path that comes next in the look-up, with its file's number in the view, and where the look-up
@@ -210,7 +205,24 @@ fn number_in(view: &View, path: &str, near: u32) -> Option<u32>
 fn is_row(view: &View, path: &str, number: u32) -> bool
     ensures { IsTrue result → path_at view.now number ≡ Some path.now }
 {
-    number < view.row_count() && view.path(number) == path
+    number < view.row_count() && are_same(view.path(number).as_bytes(), path.as_bytes())
+}
+
+/// Whether both are the same bytes. They are compared one by one: paths of files are so short that comparing words of them
+/// takes longer.
+fn are_same(one: &[u8], other: &[u8]) -> bool
+    ensures { IsTrue result → one.now ≡ other.now }
+{
+    let count = one.len();
+    if other.len() != count {
+        return false;
+    }
+    for i in 0..count {
+        if one[i] != other[i] {
+            return false;
+        }
+    }
+    true
 }
 
 /// The number of the version's row with the path, by halving; that of a row beside its place where there is none.

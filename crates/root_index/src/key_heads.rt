@@ -49,15 +49,14 @@ pub(crate) fn heads_wanted(symbols: &SymbolStack, count: usize) -> [u64; 6] {
     ]
 }
 
-/// Whether heads stand before others, or are the same where that is closed: an order of numbers alone, in which
-/// long texts of one head are the same.
-pub(crate) fn stand_within(heads: &[u64; 6], wanted: &[u64; 6], closed: bool) -> bool {
+/// Whether heads stand before others: an order of numbers alone, in which long texts of one head are the same.
+pub(crate) fn stand_before(heads: &[u64; 6], wanted: &[u64; 6]) -> bool {
     for i in 0..KEY_SIZE {
         if heads[i] != wanted[i] {
             return heads[i] < wanted[i];
         }
     }
-    closed
+    false
 }
 
 /// How a key with these heads stands to the texts of the stack's first symbols, so many of them; None where the

@@ -11,6 +11,7 @@ mod index;
 mod key_heads;
 mod laws;
 mod looks;
+mod met;
 mod offers;
 mod slot;
 mod slot_list;

@@ -1,5 +1,5 @@
 use crate::file_handle::FileHandle;
-use crate::key_heads::{heads_of, heads_order, heads_side, stand_within};
+use crate::key_heads::{heads_of, heads_order, heads_side, stand_before};
 use partial_path::{StoredPath, key_side, keys_cmp};
 use stacks_vars::SymbolStack;
 use std::alloc::AllocError;
@@ -76,9 +76,9 @@ impl Slot {
         self.file.row()
     }
 
-    /// Whether the heads of its symbols stand before these, or are the same where that is closed.
-    pub(crate) fn seems_within(&self, wanted: &[u64; 6], closed: bool) -> bool {
-        stand_within(&self.heads, wanted, closed)
+    /// Whether the heads of its symbols stand before these.
+    pub(crate) fn seems_before(&self, wanted: &[u64; 6]) -> bool {
+        stand_before(&self.heads, wanted)
     }
 
     /// How its key stands to the texts of the stack's first symbols, so many of them: as the heads of its symbols

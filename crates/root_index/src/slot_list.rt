@@ -2,7 +2,8 @@ ghost use Rattle.std.specs.Prelude.{◌≡◌, ◌<◌, ◌≤◌, nat_lt, true,
 ghost use Rattle.std.specs.List.{prefix_len};
 ghost use Rattle.std.specs.List.Sorted.{IsPartitionedBy};
 ghost use Rattle.partial_path.specs.Keys.{key_size, texts};
-ghost use Rattle.root_index.specs.Blocks.{begins_by, first_passes, is_within_key};
+ghost use Rattle.root_index.specs.Blocks.{begins_by, first_passes};
+ghost use Rattle.root_index.specs.Inside.{is_before_key};
 
 use crate::block::Block;
 use crate::blocks::Blocks;
@@ -38,7 +39,8 @@ impl SlotList {
     ghost use Rattle.std.specs.List.{prefix_len};
     ghost use Rattle.std.specs.List.Sorted.{IsPartitionedBy};
     ghost use Rattle.partial_path.specs.Keys.{key_size, texts};
-    ghost use Rattle.root_index.specs.Blocks.{all_paths, is_within_key};
+    ghost use Rattle.root_index.specs.Blocks.{all_paths};
+    ghost use Rattle.root_index.specs.Inside.{is_before_key};
 
     /// The paths of these blocks. The one error is want of memory.
     pub(crate) fn of(alloc: Global, blocks: Blocks) -> Result<SlotList, AllocError>
@@ -91,35 +93,34 @@ impl SlotList {
         &self.blocks.blocks()[block].slots()[place - self.starts[block]]
     }
 
-    /// How many paths seem to stand before the key with these heads; where it is closed, with those that have it.
+    /// How many paths seem to stand before the key with these heads.
     /// It is found by halving over heads alone, and may be wrong where long texts have one head.
-    pub(crate) fn told(&self, wanted: &[u64; 6], closed: bool) -> usize {
+    pub(crate) fn told(&self, wanted: &[u64; 6]) -> usize {
         let blocks = self.blocks.blocks();
-        let found = blocks_told(blocks, wanted, closed);
+        let found = blocks_told(blocks, wanted);
         if found == 0 {
             return 0;
         }
         let block = found - 1;
-        self.starts[block].saturating_add(paths_told(blocks[block].slots(), wanted, closed))
+        self.starts[block].saturating_add(paths_told(blocks[block].slots(), wanted))
     }
 
     /// How many paths stand before the key that the texts of the stack's first symbols make, so many of
-    /// them; where it is closed, with those that have this key. They are found by halving.
-    pub(crate) fn end_of(&self, symbols: &SymbolStack, count: usize, closed: bool) -> usize
-        requires parted { IsPartitionedBy (is_within_key closed
-            (take count (texts symbols.now))) self.now }
+    /// them. They are found by halving.
+    pub(crate) fn end_of(&self, symbols: &SymbolStack, count: usize) -> usize
+        requires parted { IsPartitionedBy (is_before_key (take count (texts symbols.now))) self.now }
         requires count { count ≤ key_size }
         ensures value { result
-            ≡ prefix_len (is_within_key closed (take count (texts symbols.now))) self.now }
+            ≡ prefix_len (is_before_key (take count (texts symbols.now))) self.now }
         ensures bound { result ≤ length self.now }
     {
         let blocks = self.blocks.blocks();
-        let found = blocks_within(blocks, symbols, count, closed);
+        let found = blocks_within(blocks, symbols, count);
         if found == 0 {
             return 0;
         }
         let block = found - 1;
-        self.starts[block] + paths_within(blocks[block].slots(), symbols, count, closed)
+        self.starts[block] + paths_within(blocks[block].slots(), symbols, count)
     }
 }
 
@@ -161,56 +162,53 @@ fn blocks_begun(starts: &[usize], place: usize) -> usize
 }
 
 /// How many blocks begin within the key, by halving.
-fn blocks_within(blocks: &[Block], symbols: &SymbolStack, count: usize, closed: bool) -> usize
+fn blocks_within(blocks: &[Block], symbols: &SymbolStack, count: usize) -> usize
     requires parted { IsPartitionedBy (first_passes
-        (is_within_key closed (take count (texts symbols.now)))) blocks.now }
+        (is_before_key (take count (texts symbols.now)))) blocks.now }
     requires count { count ≤ key_size }
     ensures value { result
-        ≡ prefix_len (first_passes (is_within_key closed
-        (take count (texts symbols.now)))) blocks.now }
+        ≡ prefix_len (first_passes (is_before_key (take count (texts symbols.now)))) blocks.now }
     ensures bound { result ≤ length blocks.now }
 {
-    blocks.partition_point(|block| begins_within(block, symbols, count, closed))
+    blocks.partition_point(|block| begins_within(block, symbols, count))
 }
 
 /// How many of the paths stand within the key, by halving.
-fn paths_within(slots: &[Slot], symbols: &SymbolStack, count: usize, closed: bool) -> usize
-    requires parted { IsPartitionedBy (is_within_key closed
-        (take count (texts symbols.now))) slots.now }
+fn paths_within(slots: &[Slot], symbols: &SymbolStack, count: usize) -> usize
+    requires parted { IsPartitionedBy (is_before_key (take count (texts symbols.now))) slots.now }
     requires count { count ≤ key_size }
     ensures value { result
-        ≡ prefix_len (is_within_key closed (take count (texts symbols.now))) slots.now }
+        ≡ prefix_len (is_before_key (take count (texts symbols.now))) slots.now }
     ensures bound { result ≤ length slots.now }
 {
-    slots.partition_point(|slot| is_within_key(slot, symbols, count, closed))
+    slots.partition_point(|slot| is_before_key(slot, symbols, count))
 }
 
 /// How many blocks seem to begin within the key with these heads, by halving.
-fn blocks_told(blocks: &[Block], wanted: &[u64; 6], closed: bool) -> usize
+fn blocks_told(blocks: &[Block], wanted: &[u64; 6]) -> usize
     ensures { result ≤ length blocks.now }
 {
-    blocks.partition_point(|block| block.first().seems_within(wanted, closed))
+    blocks.partition_point(|block| block.first().seems_before(wanted))
 }
 
 /// How many of the paths seem to stand within the key with these heads, by halving.
-fn paths_told(slots: &[Slot], wanted: &[u64; 6], closed: bool) -> usize {
-    slots.partition_point(|slot| slot.seems_within(wanted, closed))
+fn paths_told(slots: &[Slot], wanted: &[u64; 6]) -> usize {
+    slots.partition_point(|slot| slot.seems_before(wanted))
 }
 
 /// Whether the block's first path stands within the key.
-fn begins_within(block: &Block, symbols: &SymbolStack, count: usize, closed: bool) -> bool
+fn begins_within(block: &Block, symbols: &SymbolStack, count: usize) -> bool
     requires { count ≤ key_size }
     ensures { result
-        ≡ first_passes (is_within_key closed (take count (texts symbols.now))) block.now }
+        ≡ first_passes (is_before_key (take count (texts symbols.now))) block.now }
 {
-    is_within_key(block.first(), symbols, count, closed)
+    is_before_key(block.first(), symbols, count)
 }
 
-/// Whether the path stands before the key, or at it where that is closed.
-pub(crate) fn is_within_key(slot: &Slot, symbols: &SymbolStack, count: usize, closed: bool) -> bool
+/// Whether the path stands before the key that the texts of the stack's first symbols make, so many of them.
+pub(crate) fn is_before_key(slot: &Slot, symbols: &SymbolStack, count: usize) -> bool
     requires { count ≤ key_size }
-    ensures { result ≡ is_within_key closed (take count (texts symbols.now)) slot.now }
+    ensures { result ≡ is_before_key (take count (texts symbols.now)) slot.now }
 {
-    let order = slot.key_side(symbols, count);
-    order.is_lt() || (closed && order.is_eq())
+    slot.key_side(symbols, count).is_lt()
 }

@@ -1,5 +1,29 @@
-use Rattle.root_index.proofs.Runs.{next_is_here}
+use Rattle.std.proofs.Common.{◌∙◌, ap, [], take, arith}
+use Rattle.std.specs.Option.{option_map_or}
+use Rattle.partial_path.specs.Keys.{key, key_cmp, texts}
+use Rattle.partial_path.specs.Sources.{stand_first}
+use Rattle.root_index.proofs.PassedOver.{passed_over, none_behind, comes_next, none_left}
 use Rattle.root_index.proofs.offers.next_slot.Goals as goal
 
-pub returns-in-Some : goal.returns-in-Some
-returns-in-Some c = next_is_here c.args.slots.now c.args.at c.args.symbols.now c.in-Some.near c.in-Some.slot.now c.in-Some.ensures.value c.in-Some.ensures.inside
+pub returns-in-Asks : goal.returns-in-Asks
+returns-in-Asks c =
+    c.loop-here.invariant
+    ∙ comes_next c.args.slots.now c.args.symbols.now c.loop-here.here.place c.at-near.result.0.now c.at-near.ensures
+    (ap (λ o. stand_first (option_map_or key o []) c.args.symbols.now) c.rule.ensures ∙ c.in-Asks.ensures)
+
+pub returns-in-Behind : goal.returns-in-Behind
+returns-in-Behind c =
+    c.loop-here.invariant
+    ∙ none_behind c.args.slots.now c.args.symbols.now c.loop-here.here.place c.min-most.result c.at-near.result.0.now c.requires c.at-near.ensures
+    (ap (λ o. key_cmp (option_map_or key o []) (take c.min-most.result (texts c.args.symbols.now))) c.rule.ensures ∙ c.in-Behind.ensures)
+    (omega (arith, c.min-most.ensures, c.len.ensures))
+
+pub loop-here-preserved : goal.loop-here-preserved
+loop-here-preserved c =
+    c.loop-here.invariant
+    ∙ passed_over c.args.slots.now c.args.symbols.now c.in-Before.count c.loop-here.here.place c.passed-here.result.place c.at-near.result.0.now c.requires c.at-near.ensures
+    (ap (λ o. key_cmp (option_map_or key o []) (take c.in-Before.count (texts c.args.symbols.now))) c.rule.ensures ∙ c.in-Before.ensures.1)
+    c.passed-here.ensures.later c.passed-here.ensures.passed
+
+pub returns : goal.returns
+returns c = c.loop-here.invariant ∙ none_left c.args.slots.now c.args.symbols.now c.loop-here.here.place (omega (arith, c.loop-here-test.false, c.len-all.ensures))
