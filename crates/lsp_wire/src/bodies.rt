@@ -1,5 +1,5 @@
 //! What the bytes of a body are.
-ghost use Rattle.std.specs.Prelude.{◌≡◌, IfOk, option_map, codes};
+ghost use Rattle.std.specs.Prelude.{◌≡◌, IfOk, OnOk, OnErr, option_map, codes};
 ghost use Rattle.serde_json.specs.Find.{get, as_str};
 ghost use Rattle.serde_json.specs.View.{view};
 ghost use Rattle.lsp_wire.specs.Messages.{method_of, params_of, id_from, message_with, body_with, body_of, body_from};
@@ -20,8 +20,19 @@ pub fn read_body(alloc: Global, bytes: &[u8]) -> Result<Body, AllocError>
 {
     match parse(alloc, bytes) {
         Ok(value) => body_of(alloc, value),
-        Err(JsonFault::BadJson) => Ok(Body::NotJson),
-        Err(JsonFault::NoMemory) => Err(AllocError),
+        Err(fault) => without_value(fault),
+    }
+}
+
+/// What a body is that has no value for this reason; the one error is want of memory.
+fn without_value(fault: JsonFault) -> Result<Body, AllocError>
+    ensures body { IfOk result (λ body. body ≡ Body.NotJson) }
+    ensures bad { OnOk result (fault ≡ JsonFault.BadJson) }
+    ensures memory { OnErr result (fault ≡ JsonFault.NoMemory) }
+{
+    match fault {
+        JsonFault::BadJson => Ok(Body::NotJson),
+        JsonFault::NoMemory => Err(AllocError),
     }
 }
 
