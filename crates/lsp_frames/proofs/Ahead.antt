@@ -106,10 +106,10 @@ pub after_error : (old mid : Reading) (left left' : Option (List ℕ)) (error : 
 after_error old mid left left' error found why = by error why
   where
     by : (e : FrameError) → IsWhy e mid → AfterFrameError old mid left left' e
-    by ReadFault why = record { kept = found.kept; at_end = at_end_of old mid left left' (as_lines old mid left left' found); fault = λ _. why; broken = λ e. cc; too_long = λ e. cc }
-    by Broken why = record { kept = found.kept; at_end = at_end_of old mid left left' (as_lines old mid left left' found); fault = λ e. cc; broken = λ _. (why.0, λ un. why.1 (ap is_short un)); too_long = λ e. cc }
-    by TooLong why = record { kept = found.kept; at_end = at_end_of old mid left left' (as_lines old mid left left' found); fault = λ e. cc; broken = λ e. cc; too_long = λ _. why }
-    by NoMemory why = record { kept = found.kept; at_end = at_end_of old mid left left' (as_lines old mid left left' found); fault = λ e. cc; broken = λ e. cc; too_long = λ e. cc }
+    by ReadFault why = record { kept = found.kept; at_end = at_end_of old mid left left' (as_lines old mid left left' found); fault = λ _. why; memory = λ e. cc; broken = λ e. cc; too_long = λ e. cc }
+    by Broken why = record { kept = found.kept; at_end = at_end_of old mid left left' (as_lines old mid left left' found); fault = λ e. cc; memory = λ e. cc; broken = λ _. (why.0, λ un. why.1 (ap is_short un)); too_long = λ e. cc }
+    by TooLong why = record { kept = found.kept; at_end = at_end_of old mid left left' (as_lines old mid left left' found); fault = λ e. cc; memory = λ e. cc; broken = λ e. cc; too_long = λ _. why }
+    by NoMemory why = record { kept = found.kept; at_end = at_end_of old mid left left' (as_lines old mid left left' found); fault = λ e. cc; memory = λ _. why; broken = λ e. cc; too_long = λ e. cc }
 
 -- what an error that was answered says of the text ahead
 pub broken_ahead : (old mid : Reading) (left left' : Option (List ℕ)) (error : FrameError) → Finds old mid left left' → IsWhy error mid → error ≡ Broken

@@ -93,7 +93,7 @@ pub record Finds (old mid : Reading) (left left' : Option (List ℕ)) : Type 0 w
 -- a fault of the source or want of memory came where no whole frame was taken and the end wasn't met
 abbrev pub IsCutOff : FrameError → Reading → Type 0
 IsCutOff ReadFault mid = (is_short (cut mid.front) ≡ true) × (mid.ended ≡ false)
-IsCutOff NoMemory mid = Unit {0}
+IsCutOff NoMemory mid = (is_short (cut mid.front) ≡ true) × (mid.ended ≡ false)
 IsCutOff Broken mid = ⊥
 IsCutOff TooLong mid = ⊥
 
@@ -116,7 +116,7 @@ IsPlaceOf front.Large is_empty result = result ≡ Err TooLong
 -- why no body was found
 abbrev pub IsWhy : FrameError → Reading → Type 0
 IsWhy ReadFault mid = (is_short (cut mid.front) ≡ true) × (mid.ended ≡ false)
-IsWhy NoMemory mid = Unit {0}
+IsWhy NoMemory mid = (is_short (cut mid.front) ≡ true) × (mid.ended ≡ false)
 IsWhy Broken mid =
     (body_of (cut mid.front) ≡ Err Broken) × (is_short (cut mid.front) ≡ true → mid.ended ≡ true)
 IsWhy TooLong mid = cut mid.front ≡ Large

@@ -5,7 +5,7 @@ use Rattle.std.specs.Io.KnownBytes.{prepend_known, IsAtEnd}
 use Rattle.nav_io.specs.Reading.{Reading, ahead}
 use Rattle.lsp_frames.specs.Frames.{Unfinished, Large, Frame, cut, is_short, body_of, rest_of}
 use Rattle.lsp_frames.specs.declared.reader.FrameError.{FrameError}
-use Rattle.lsp_frames.specs.declared.reader.FrameError.TheVariants.{ReadFault, Broken, TooLong}
+use Rattle.lsp_frames.specs.declared.reader.FrameError.TheVariants.{ReadFault, Broken, TooLong, NoMemory}
 
 -- what is in front tells what stands there: a whole frame or none, whatever follows, or the end was met
 abbrev pub is_settled : Reading → Bool
@@ -37,6 +37,8 @@ pub record AfterFrameError (old new : Reading) (left left' : Option (List ℕ))
   pub at_end : (IsTrue old.ended → IsAtEnd left) → IsTrue new.ended → IsAtEnd left'
   -- a fault comes only where what was taken is nothing or a beginning of a frame, and the end wasn't met
   pub fault : error ≡ ReadFault → (is_short (cut new.front) ≡ true) × (new.ended ≡ false)
+  -- and so does want of memory
+  pub memory : error ≡ NoMemory → (is_short (cut new.front) ≡ true) × (new.ended ≡ false)
   -- what is in front tells the other errors, a frame that isn't whole only at the end
   pub broken : error ≡ Broken
       → (body_of (cut new.front) ≡ Err Broken) × (cut new.front ≡ Unfinished → IsTrue new.ended)

@@ -101,7 +101,8 @@ impl FrameReader {
     /// - `Broken`: no frame is ahead, whatever follows, as soon as the bytes taken show it; or the input ends within a
     ///   frame.
     /// - `TooLong`: the block states more than `BODY_MAX` bytes. The body isn't waited for.
-    /// - `NoMemory`: memory was wanting.
+    /// - `NoMemory`: memory was wanting, and what was taken and not yet answered is nothing or a beginning of a frame,
+    ///   and the end of input wasn't met.
     ///
     /// After an error no byte is lost, but the reader isn't meant to be used again.
     pub fn next_frame<S: Source>(&mut self, source: &mut S) -> Result<Option<&[u8]>, FrameError>
