@@ -1,5 +1,5 @@
 -- What the reading of the next message does, and the looking for more behind the last one.
-use Rattle.std.specs.Prelude.{◌≡◌, ◌⊎◌, ℕ, List, Option, Some, None, IfSome, Result, Ok, Err}
+use Rattle.std.specs.Prelude.{◌≡◌, ◌<◌, ◌⊎◌, ℕ, List, length, Option, Some, None, IfSome, Result, Ok, Err}
 use Rattle.nav_io.specs.Reading.{Reading, ahead}
 use Rattle.lsp_frames.specs.Frames.{cut, body_of}
 use Rattle.lsp_frames.specs.Reading.{AfterFrame, AfterFrameError}
@@ -43,6 +43,12 @@ ReadsNext old new left left' (Err NoMemory) =
     FailsToRead old new left left' frame.NoMemory
     ⊎ ((bytes : List ℕ) × ReadsFrame old new left left' (Some bytes))
 ReadsNext old new left left' (Err SinkFailed) = ⊥
+
+-- memory was wanting for the next message: no body was read, or the body that was isn't empty
+abbrev pub WantsMemory : Reading → Reading → Option (List ℕ) → Option (List ℕ) → Type 0
+WantsMemory old new left left' =
+    FailsToRead old new left left' frame.NoMemory
+    ⊎ ((bytes : List ℕ) × ReadsFrame old new left left' (Some bytes) × (0 < length bytes))
 
 -- what comes of looking whether more stands behind the last message that may be answered
 abbrev pub LooksOn : Reading → Reading → Option (List ℕ) → Option (List ℕ) → Result More Halt

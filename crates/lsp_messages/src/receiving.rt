@@ -4,7 +4,7 @@ ghost use Rattle.nav_io.specs.Faults.{HasRisen};
 ghost use Rattle.lsp_messages.specs.declared.halt.Halt.TheVariants as halt;
 ghost use Rattle.lsp_messages.specs.declared.receiving.TheConstants as constant;
 ghost use Rattle.lsp_messages.specs.Inputs.{is_exit_body};
-ghost use Rattle.lsp_messages.specs.Turns.{ReadsNext, LooksOn};
+ghost use Rattle.lsp_messages.specs.Turns.{ReadsNext, WantsMemory, LooksOn};
 
 use crate::halt::Halt;
 use lsp_frames::{FrameError, FrameReader};
@@ -47,13 +47,15 @@ fn is_exit(message: &Message) -> bool
 /// - `SourceFailed`: the source's count of faults rose, and no whole message was taken.
 /// - `Broken`: no frame is there, or none that is whole.
 /// - `Large`: the block states more than 8,388,608 bytes. The body isn't waited for.
-/// - `NoMemory`: memory was wanting.
+/// - `NoMemory`: memory was wanting for a frame of which nothing or a beginning was taken, or for a body with bytes.
 pub fn next_message<S: Source>(
     alloc: Global,
     reader: &mut FrameReader,
     source: &mut S,
 ) -> Result<Option<Body>, Halt>
     ensures reads { ReadsNext reader.old reader.new (S.left source.old) (S.left source.new) result }
+    ensures memory { result ≡ Err halt.NoMemory
+        → WantsMemory reader.old reader.new (S.left source.old) (S.left source.new) }
     ensures count { S.faults source.old ≤ S.faults source.new }
     ensures cause { result ≡ Err halt.SourceFailed
         → HasRisen (S.faults source.old) (S.faults source.new) }
@@ -69,7 +71,7 @@ pub fn next_message<S: Source>(
 /// frame that it begins.
 ///
 /// - `SourceFailed`: the source's count of faults rose, and no whole message was taken.
-/// - `NoMemory`: memory was wanting.
+/// - `NoMemory`: memory was wanting, and nothing or a beginning of a frame was taken.
 pub fn look_on<S: Source>(reader: &mut FrameReader, source: &mut S) -> Result<More, Halt>
     ensures looks { LooksOn reader.old reader.new (S.left source.old) (S.left source.new) result }
     ensures count { S.faults source.old ≤ S.faults source.new }

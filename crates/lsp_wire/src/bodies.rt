@@ -1,5 +1,5 @@
 //! What the bytes of a body are.
-ghost use Rattle.std.specs.Prelude.{◌≡◌, IfOk, OnOk, OnErr, option_map, codes};
+ghost use Rattle.std.specs.Prelude.{◌≡◌, ◌<◌, length, IfOk, OnOk, OnErr, option_map, codes};
 ghost use Rattle.serde_json.specs.Find.{get, as_str};
 ghost use Rattle.serde_json.specs.View.{view};
 ghost use Rattle.lsp_wire.specs.Messages.{method_of, params_of, id_from, message_with, body_with, body_of, body_from};
@@ -13,10 +13,12 @@ use std::alloc::{AllocError, Global};
 
 /// What the bytes of a frame's body are: the message that they are, or why they are none.
 ///
-/// The one error is want of memory. The bytes are gone over once to make a value of them, which copies each text once;
-/// the text of a document is taken out of that value and not copied again.
+/// The one error is want of memory, of which there is none where there are no bytes. The bytes are gone over once to make
+/// a value of them, which copies each text once; the text of a document is taken out of that value and not copied again.
+#[tactic(auto, using(crate::proofs::Valued::some_bytes))]
 pub fn read_body(alloc: Global, bytes: &[u8]) -> Result<Body, AllocError>
-    ensures { IfOk result (λ body. body ≡ body_from bytes.now) }
+    ensures body { IfOk result (λ body. body ≡ body_from bytes.now) }
+    ensures memory { OnErr result (0 < length bytes.now) }
 {
     match parse(alloc, bytes) {
         Ok(value) => body_of(alloc, value),
