@@ -1,4 +1,4 @@
-ghost use Rattle.std.specs.Prelude.{◌≡◌, ◌≢◌, ◌^◌, ◌<◌, length, vec_len, IfOk, IfErr, Ok, Err, ok_or};
+ghost use Rattle.std.specs.Prelude.{◌≡◌, ◌≢◌, ◌↔◌, ◌^◌, ◌<◌, length, vec_len, IfOk, IfErr, Ok, Err, ok_or};
 ghost use Rattle.serde_json.specs.View.{view};
 ghost use Rattle.json_values.specs.Text.{json_of};
 ghost use Rattle.graph_json.specs.Pieces.{HasShortLists};
@@ -65,16 +65,28 @@ fn parts(alloc: Global, v: &Value) -> Result<(Vec<Node>, Vec<Edge>), GraphTextFa
     }
 }
 
-/// The value of the bytes. Each of its arrays has fewer than 2^32 items, since it has no more than its text has bytes.
+/// The value of the bytes. Each of its arrays has fewer than 2^32 items, since it has no more than its text has bytes. No
+/// memory is wanting where there are no bytes.
 #[tactic(auto, using(crate::proofs::Parsing::texts))]
 fn value_of(alloc: Global, bytes: &[u8]) -> Result<Value, GraphTextFault>
     requires { length bytes.now < 2 ^ 32 }
     ensures value { TextGives view result (ok_or (json_of bytes.now) GraphTextFault.BadJson) }
     ensures short { IfOk result (λ v. HasShortLists (view v)) }
+    ensures memory { result ≡ Err GraphTextFault.NoMemory → 0 < length bytes.now }
 {
     match parse(alloc, bytes) {
         Ok(value) => Ok(value),
-        Err(JsonFault::BadJson) => Err(GraphTextFault::BadJson),
-        Err(JsonFault::NoMemory) => Err(GraphTextFault::NoMemory),
+        Err(fault) => Err(fault_of(fault)),
+    }
+}
+
+/// The fault of bytes that have no value for this reason.
+fn fault_of(fault: JsonFault) -> GraphTextFault
+    ensures json { (result ≡ GraphTextFault.BadJson) ↔ (fault ≡ JsonFault.BadJson) }
+    ensures memory { (result ≡ GraphTextFault.NoMemory) ↔ (fault ≡ JsonFault.NoMemory) }
+{
+    match fault {
+        JsonFault::BadJson => GraphTextFault::BadJson,
+        JsonFault::NoMemory => GraphTextFault::NoMemory,
     }
 }
