@@ -1,4 +1,4 @@
-ghost use Rattle.std.specs.Prelude.{◌≡◌, ◌≢◌, IfOk, IfErr, Ok, Err, ok_or};
+ghost use Rattle.std.specs.Prelude.{◌≡◌, ◌≢◌, ◌↔◌, ◌<◌, length, IfOk, IfErr, Ok, Err, ok_or};
 ghost use Rattle.serde_json.specs.View.{view};
 ghost use Rattle.json_values.specs.Text.{json_of};
 ghost use Rattle.nav_proto.specs.Bounded.{IsBounded};
@@ -74,13 +74,24 @@ fn node_of(v: &Value) -> Option<u32>
     }
 }
 
-/// The value of the bytes.
+/// The value of the bytes. No memory is wanting where there are no bytes.
 fn value_of(alloc: Global, bytes: &[u8]) -> Result<Value, ProtoFault>
-    ensures { Shows view result (ok_or (json_of bytes.now) ProtoFault.BadJson) }
+    ensures value { Shows view result (ok_or (json_of bytes.now) ProtoFault.BadJson) }
+    ensures memory { result ≡ Err ProtoFault.NoMemory → 0 < length bytes.now }
 {
     match parse(alloc, bytes) {
         Ok(value) => Ok(value),
-        Err(JsonFault::BadJson) => Err(ProtoFault::BadJson),
-        Err(JsonFault::NoMemory) => Err(ProtoFault::NoMemory),
+        Err(fault) => Err(fault_of(fault)),
+    }
+}
+
+/// The fault of bytes that have no value for this reason.
+fn fault_of(fault: JsonFault) -> ProtoFault
+    ensures json { (result ≡ ProtoFault.BadJson) ↔ (fault ≡ JsonFault.BadJson) }
+    ensures memory { (result ≡ ProtoFault.NoMemory) ↔ (fault ≡ JsonFault.NoMemory) }
+{
+    match fault {
+        JsonFault::BadJson => ProtoFault::BadJson,
+        JsonFault::NoMemory => ProtoFault::NoMemory,
     }
 }
