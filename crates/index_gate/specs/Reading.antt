@@ -2,16 +2,18 @@
 use Rattle.std.specs.Prelude.{if◌then◌else◌, ◌≡◌, ◌⊎◌, ⊤, ℕ, true, false, List, [], ◌∷◌, ◌++◌, Option, None, Some, Result, Ok, Err}
 use Rattle.graph_nodes.specs.Graph.{Graph}
 use Rattle.graph_json.specs.declared.fault.GraphTextFault.{GraphTextFault}
+use Rattle.py_subset.specs.declared.token.PyFault.{PyFault}
+use Rattle.py_graph.specs.declared.fault.TransFault.{TransFault}
 use Rattle.partial_path.specs.PathSets.{FileRules}
 use Rattle.path_store.specs.Documents.{Doc}
 use Rattle.path_store.specs.Store.{Kept, kept_of}
 use Rattle.index_gate.specs.declared.fault.FileFault.{FileFault}
-use Rattle.index_gate.specs.declared.fault.FileFault.TheVariants.{Text}
+use Rattle.index_gate.specs.declared.fault.FileFault.TheVariants.{Text, Python, Named}
 use Rattle.index_gate.specs.declared.fault.IndexFault.{IndexFault}
 use Rattle.index_gate.specs.declared.fault.IndexFault.TheVariants as fault
 use Rattle.index_gate.specs.declared.fault.ReadFault.{ReadFault}
 use Rattle.index_gate.specs.declared.fault.ReadFault.TheVariants.{File, NoMemory}
-use Rattle.index_gate.specs.Indexed.{HasFault, is_memory, is_text_memory, IsIndexed, docs_of, has_doc, CountsWalks}
+use Rattle.index_gate.specs.Indexed.{HasFault, is_memory, is_text_memory, is_python_memory, is_table_memory, IsIndexed, docs_of, has_doc, CountsWalks}
 
 -- an answer is the one that is defined, unless memory ran out
 abbrev pub IsReading : Result Graph ReadFault → Result Graph FileFault → Type 0
@@ -22,6 +24,14 @@ IsReading (Err NoMemory) there = ⊤
 -- where reading a graph file ends with this fault
 abbrev pub text_fault : GraphTextFault → ReadFault
 text_fault why = if is_text_memory why then NoMemory else File (Text why)
+
+-- where reading a module ends with this fault
+abbrev pub module_fault : PyFault → ReadFault
+module_fault why = if is_python_memory why then NoMemory else File (Python why)
+
+-- where making a module's graph ends with this fault
+abbrev pub table_fault : TransFault → ReadFault
+table_fault why = if is_table_memory why then NoMemory else File (Named why)
 
 -- the work ends because of this fault of the document, unless memory ran out
 abbrev pub HasNone : Doc → ReadFault → Type 0

@@ -5,8 +5,8 @@ ghost use Rattle.py_graph.specs.Modules.{graph_of};
 ghost use Rattle.path_store.specs.Documents.{doc_of};
 ghost use Rattle.index_gate.specs.Limits.{max_bytes};
 ghost use Rattle.index_gate.specs.Graphs.{from_text, from_table, from_module, graph_of_kind, graph_of_doc};
-ghost use Rattle.index_gate.specs.Indexed.{is_text_memory};
-ghost use Rattle.index_gate.specs.Reading.{IsReading, text_fault};
+ghost use Rattle.index_gate.specs.Indexed.{is_text_memory, is_python_memory, is_table_memory};
+ghost use Rattle.index_gate.specs.Reading.{IsReading, text_fault, module_fault, table_fault};
 
 use crate::fault::{FileFault, MAX_BYTES, ReadFault};
 use crate::kind::{DocumentKind, kind_of};
@@ -83,24 +83,60 @@ fn is_text_memory(fault: GraphTextFault) -> bool
 }
 
 // The graph of a module at this path.
+#[tactic(auto, using(crate::proofs::Faults::module_gives))]
 fn read_module(alloc: Global, path: &str, text: &[u8]) -> Result<FileGraph, ReadFault>
     requires few { length text.now < 2 ^ 32 }
     ensures { IsReading result (from_module path.now (parse_of text.now)) }
 {
     match parse(alloc, text) {
         Ok(tree) => read_table(alloc, path, &tree),
-        Err(PyFault::NoMemory) => Err(ReadFault::NoMemory),
-        Err(fault) => Err(ReadFault::File(FileFault::Python(fault))),
+        Err(fault) => Err(module_fault(fault)),
     }
 }
 
+// Where reading a module ends with this fault.
+fn module_fault(fault: PyFault) -> ReadFault
+    ensures { result ≡ module_fault fault }
+{
+    if is_python_memory(fault) {
+        ReadFault::NoMemory
+    } else {
+        ReadFault::File(FileFault::Python(fault))
+    }
+}
+
+// Whether the fault tells of want of memory.
+fn is_python_memory(fault: PyFault) -> bool
+    ensures { result ≡ is_python_memory fault }
+{
+    matches!(fault, PyFault::NoMemory)
+}
+
 // The graph that the table makes of a module at this path.
+#[tactic(auto, using(crate::proofs::Faults::table_gives))]
 fn read_table(alloc: Global, path: &str, tree: &Module) -> Result<FileGraph, ReadFault>
     ensures { IsReading result (from_table (graph_of path.now tree.now)) }
 {
     match translate(alloc, path, tree) {
         Ok(graph) => Ok(graph),
-        Err(TransFault::NoMemory) => Err(ReadFault::NoMemory),
-        Err(fault) => Err(ReadFault::File(FileFault::Named(fault))),
+        Err(fault) => Err(table_fault(fault)),
     }
+}
+
+// Where making a module's graph ends with this fault.
+fn table_fault(fault: TransFault) -> ReadFault
+    ensures { result ≡ table_fault fault }
+{
+    if is_table_memory(fault) {
+        ReadFault::NoMemory
+    } else {
+        ReadFault::File(FileFault::Named(fault))
+    }
+}
+
+// Whether the fault tells of want of memory.
+fn is_table_memory(fault: TransFault) -> bool
+    ensures { result ≡ is_table_memory fault }
+{
+    matches!(fault, TransFault::NoMemory)
 }
