@@ -6,7 +6,7 @@ use Rattle.std.proofs.lemmas.Option.{none-some}
 use Rattle.std.specs.Option.{IfSome, option_map, option_to_list}
 use Rattle.std.specs.Io.KnownBytes.{prepend_known, IsAtEnd}
 use Rattle.nav_io.specs.declared.lines.LineError.{LineError}
-use Rattle.nav_io.specs.declared.lines.LineError.TheVariants.{ReadFault, TooLong}
+use Rattle.nav_io.specs.declared.lines.LineError.TheVariants.{ReadFault, NoMemory, TooLong}
 use Rattle.nav_io.specs.Lines.{line_max, line_len, after_line, line_at_front, lines}
 use Rattle.nav_io.specs.Reading.{Reading, ahead, AfterLine, AfterError}
 use Rattle.nav_io.proofs.Cuts.{line_len-le, line_len-append-le}
@@ -109,11 +109,13 @@ after_line_of old mid rest left left' line found end is after = record {
 
 pub after_error_of : (old mid : Reading) (left left' : Option (List ℕ)) (error : LineError) → Finds old mid left left' → mid.ended ≡ old.ended →
     (error ≡ ReadFault → (old.ended ≡ false) × (line_len mid.front ≡ length mid.front)) → (error ≡ TooLong → line_max < line_len mid.front) →
+    (error ≡ NoMemory → (old.ended ≡ false) × (line_len mid.front ≡ length mid.front) × (length mid.front ≤ line_max)) →
     AfterError old mid left left' error
-after_error_of old mid left left' error found same fault long = record {
+after_error_of old mid left left' error found same fault long memory = record {
   kept = found.kept;
   same_end = same;
   at_end = at_end_of old mid left left' found;
   fault = λ e. ((fault e).1, same ∙ (fault e).0);
+  memory = λ e. ((memory e).1, same ∙ (memory e).0, (memory e).2);
   too_long = long;
 }

@@ -1,9 +1,9 @@
 -- What is seen of a line reader, and what a call of it says of the text ahead.
-use Rattle.std.specs.Prelude.{◌≡◌, ℕ, ◌<◌, ◌⊎◌, Bool, ◌||◌, false, IsTrue, if◌then◌else◌, nat_lt, nat_le, List, [], ◌∷◌, ◌++◌, length, take, drop, Option, None, Some, IfSome, MatchOption}
+use Rattle.std.specs.Prelude.{◌≡◌, ℕ, ◌<◌, ◌≤◌, ◌⊎◌, Bool, ◌||◌, false, IsTrue, if◌then◌else◌, nat_lt, nat_le, List, [], ◌∷◌, ◌++◌, length, take, drop, Option, None, Some, IfSome, MatchOption}
 use Rattle.std.specs.Option.{option_map}
 use Rattle.std.specs.Io.KnownBytes.{prepend_known, IsAtEnd}
 use Rattle.nav_io.specs.declared.lines.LineError.{LineError}
-use Rattle.nav_io.specs.declared.lines.LineError.TheVariants.{ReadFault, TooLong}
+use Rattle.nav_io.specs.declared.lines.LineError.TheVariants.{ReadFault, NoMemory, TooLong}
 use Rattle.nav_io.specs.Lines.{line_max, line_len, line_at_front, after_line}
 
 -- A line reader: the bytes that it took and hasn't answered yet, and whether it met the end of input.
@@ -39,6 +39,9 @@ pub record AfterError (old new : Reading) (left left' : Option (List ℕ))
   pub at_end : (IsTrue old.ended → IsAtEnd left) → IsTrue new.ended → IsAtEnd left'
   -- a fault comes only where no line is in front and the end wasn't met
   pub fault : error ≡ ReadFault → (line_len new.front ≡ length new.front) × (new.ended ≡ false)
+  -- and so does want of memory, while no more bytes are in front than a line may have
+  pub memory : error ≡ NoMemory
+      → (line_len new.front ≡ length new.front) × (new.ended ≡ false) × (length new.front ≤ line_max)
   -- a line that is too long is in front
   pub too_long : error ≡ TooLong → line_max < line_len new.front
 
@@ -90,3 +93,5 @@ pub record AfterBytesError (n : ℕ) (old new : Reading) (left left' : Option (L
   pub at_end : (IsTrue old.ended → IsAtEnd left) → IsTrue new.ended → IsAtEnd left'
   -- a fault comes only where fewer are in front and the end wasn't met
   pub fault : error ≡ ReadFault → (length new.front < n) × (new.ended ≡ false)
+  -- and so does want of memory
+  pub memory : error ≡ NoMemory → (length new.front < n) × (new.ended ≡ false)

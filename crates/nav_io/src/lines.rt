@@ -123,7 +123,8 @@ impl LineReader {
     /// - `ReadFault`: the source's count of faults rose, no newline is among the bytes taken and not yet
     ///   answered, and the end of input wasn't met.
     /// - `TooLong`: exactly where the line has more than `LINE_MAX` bytes.
-    /// - `NoMemory`: memory was wanting.
+    /// - `NoMemory`: memory was wanting for the next read: no newline is among the bytes taken and not yet
+    ///   answered, they are no more than a line may have, and the end of input wasn't met.
     ///
     /// After an error no byte is lost, but the reader isn't meant to be used again.
     pub fn next_line<S: Source>(&mut self, source: &mut S) -> Result<Option<&[u8]>, LineError>
@@ -167,7 +168,8 @@ impl LineReader {
     ///
     /// - `ReadFault`: the source's count of faults rose, fewer bytes were taken and not yet answered, and
     ///   the end of input wasn't met.
-    /// - `NoMemory`: memory was wanting.
+    /// - `NoMemory`: memory was wanting for the next read, with fewer bytes taken and the end of input not
+    ///   met.
     ///
     /// It never answers `TooLong`. After an error no byte is lost.
     pub fn next_bytes<S: Source>(

@@ -62,14 +62,14 @@ reads_end r left ended empty =
 pub long_ahead : (r : Reading) (left : Option (List ℕ)) → line_max < line_len r.front
     → AfterError r r left left line_error.TooLong × IfSome (ahead r left) (λ text. line_max < line_len text)
 long_ahead r left long = (
-  after_error_of r r left left line_error.TooLong (stays_found r left) refl (λ e. cc) (λ e. long),
+  after_error_of r r left left line_error.TooLong (stays_found r left) refl (λ e. cc) (λ e. long) (λ e. cc),
   line_len-ahead r r left left line_max (stays_found r left) long,
 )
 
 -- A source fails where no line is in front and the end isn't met.
 pub fails_here : (r : Reading) (left : Option (List ℕ)) → r.ended ≡ false → HasNoNewline r.front
     → AfterError r r left left line_error.ReadFault
-fails_here r left going none = after_error_of r r left left line_error.ReadFault (stays_found r left) refl (λ e. (going, none)) (λ e. cc)
+fails_here r left going none = after_error_of r r left left line_error.ReadFault (stays_found r left) refl (λ e. (going, none)) (λ e. cc) (λ e. cc)
 
 -- Where no line is answered none is whole.
 no_line_front : (front : List ℕ) → None ≡ line_at_front front → front ≡ []

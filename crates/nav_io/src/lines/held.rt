@@ -54,6 +54,8 @@ fn fill<S: Source>(held: &mut Vec<u8>, chunk: &mut [u8], source: &mut S) -> Resu
     ensures too_long { result ≡ Err LineError.TooLong → line_max < line_len held.new.items }
     ensures fault { result ≡ Err LineError.ReadFault
         → line_len held.new.items ≡ length held.new.items }
+    ensures memory { result ≡ Err LineError.NoMemory
+        → (line_len held.new.items ≡ length held.new.items) × (length held.new.items ≤ line_max) }
 
     ensures count { S.faults source.old ≤ S.faults source.new }
     ensures cause { result ≡ Err LineError.ReadFault
@@ -105,6 +107,9 @@ pub(super) fn find_line<S: Source>(
         → line_max < line_len (drop start.new held.new.items)) }
     ensures fault { IfErr result (λ e. e ≡ LineError.ReadFault → (ended.old ≡ false)
         × (line_len (drop start.new held.new.items) ≡ length (drop start.new held.new.items))) }
+    ensures memory { IfErr result (λ e. e ≡ LineError.NoMemory → (ended.old ≡ false)
+        × (line_len (drop start.new held.new.items) ≡ length (drop start.new held.new.items))
+        × (length (drop start.new held.new.items) ≤ line_max)) }
 
     ensures count { S.faults source.old ≤ S.faults source.new }
     ensures cause { result ≡ Err LineError.ReadFault

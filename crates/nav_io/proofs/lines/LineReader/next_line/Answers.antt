@@ -20,7 +20,7 @@ returns-in_err-len g c =
     let left' = g.S.Source.left c.find_line.new.source in
     let found : Finds old mid left left' = record { kept = search.kept; past_end = search.past_end; at_end = search.at_end } in
     rw (p.1, p.2, ← c.self.view_is) (
-      (refl, λ _. tt, after_error_of old mid left left' _ found search.err search.fault search.too_long),
+      (refl, λ _. tt, after_error_of old mid left left' _ found search.err search.fault search.too_long search.memory),
       record {
         line = tt;
         cut = tt;
