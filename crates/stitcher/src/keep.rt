@@ -10,26 +10,33 @@ use crate::trail::{Level, edges_of, push_edges};
 use partial_path::{EdgeAt, Spot};
 use std::alloc::{AllocError, Global};
 
-/// The edges of the trail and of one path more.
-fn edges_with(alloc: Global, trail: &[Level], level: &Level) -> Result<Vec<EdgeAt>, AllocError>
+/// The edges of the trail and of one path more, which are so many together.
+fn edges_with(
+    alloc: Global,
+    trail: &[Level],
+    level: &Level,
+    count: usize,
+) -> Result<Vec<EdgeAt>, AllocError>
     requires trail { All (λ l. Moves l.file l.path) trail.now }
     requires level { Moves level.now.file level.now.path }
     ensures { IfOk result
         (λ edges. edges.items ≡ path_edges (with_path (paths_of trail.now) (path_of level.now))) }
 {
-    let mut edges = edges_of(alloc, trail)?;
+    // Room for all of them at once, so that the vector never grows.
+    let mut edges = edges_of(alloc, count, trail)?;
     push_edges(&mut edges, level.file, &level.path)?;
     Ok(edges)
 }
 
-/// Keeps the run of the trail and the level, where it is complete: its edges, and the node where it ends. It takes
-/// memory for a complete one alone.
+/// Keeps the run of the trail and the level, which has so many edges, where it is complete: its edges, and the node where
+/// it ends. It takes memory for a complete one alone.
 pub fn keep_if(
     alloc: Global,
     complete: &mut Vec<EdgePath>,
     is_complete: bool,
     trail: &[Level],
     level: &Level,
+    count: usize,
 ) -> Result<(), AllocError>
     requires trail { All (λ l. Moves l.file l.path) trail.now }
     requires level { Moves level.now.file level.now.path }
@@ -49,7 +56,7 @@ pub fn keep_if(
     let Spot::At(end) = level.at.spot else {
         return Ok(());
     };
-    let edges = edges_with(alloc, trail, level)?;
+    let edges = edges_with(alloc, trail, level, count)?;
     complete.push(EdgePath { edges, end })?;
     Ok(())
 }

@@ -67,6 +67,7 @@ pub fn note<'a, P: PathSource>(
         complete & bounded,
         trail,
         &level,
+        edges,
     )?;
     push_if(work, cut & bounded, trail, edges, level)?;
     Ok(())

@@ -53,12 +53,12 @@ pub fn push_edges(
     Ok(())
 }
 
-/// The edges of the paths, in their order.
-pub fn edges_of(alloc: Global, levels: &[Level]) -> Result<Vec<EdgeAt>, AllocError>
+/// The edges of the paths, in their order, in a vector with room for so many.
+pub fn edges_of(alloc: Global, room: usize, levels: &[Level]) -> Result<Vec<EdgeAt>, AllocError>
     requires { All (λ l. Moves l.file l.path) levels.now }
     ensures { IfOk result (λ edges. edges.items ≡ path_edges (paths_of levels.now)) }
 {
-    let mut edges = Vec::new(alloc);
+    let mut edges = Vec::with_capacity(alloc, room)?;
     for level in levels {
         push_edges(&mut edges, level.file, &level.path)?;
     }
