@@ -1,5 +1,5 @@
 -- References that are dealt out to threads, and what is found of them, put together again.
-use Rattle.std.proofs.Common.{◌≡◌, refl, sym, ◌∙◌, ap, subst, ℕ, zero, suc, ◌+◌, ◌%◌, ◌≤◌, ◌<◌, List, [], ◌∷◌, ◌++◌, length, Bool, true, false, ◌||◌, ◌&&◌, Some, slice_get, get_or, eqb, eqb-true, eq-eqb, inl, inr, ◌⊎◌, ◌↔◌, arith}
+use Rattle.std.proofs.Common.{◌≡◌, refl, sym, ◌∙◌, ap, subst, ℕ, zero, suc, ◌+◌, ◌/◌, ◌%◌, ◌≤◌, ◌<◌, List, [], ◌∷◌, ◌++◌, length, Bool, true, false, Contains, ◌||◌, ◌&&◌, Some, slice_get, get_or, eqb, eqb-true, eq-eqb, inl, inr, ◌⊎◌, ◌↔◌, arith}
 use Rattle.std.proofs.Math.Nat.{mod-lt}
 use Rattle.std.proofs.lemmas.Bool.{and_parts, cases_lt, false≢true}
 use Rattle.std.proofs.lemmas.Option.{none-some, same_Some, slice_get-get_or}
@@ -12,7 +12,7 @@ use Rattle.nav_answers.specs.declared.links.Link.{Link}
 use Rattle.nav_answers.specs.Replies.{hit_of}
 use Rattle.nav_answers.specs.Links.{links_of}
 use Rattle.nav_answers.specs.declared.links.Links.{Links}
-use Rattle.nav_answers.specs.Asking.{AddsLinks, AreFound, AreLinks, AreLinksOf, Holds, IsHeld, IsShareOf, IsInShares}
+use Rattle.nav_answers.specs.Asking.{AddsLinks, AreFound, AreLinks, AreLinksOf, Holds, IsHeld, IsShareOf, IsInShares, run_of, share_of}
 use Rattle.nav_answers.proofs.Referred.{none_linked, same_asked, one_linked, both_linked, less_held, kept_held}
 
 -- what stands in a list
@@ -30,23 +30,27 @@ in_there [] at m = absurd m
 in_there (a ∷ all) at (inl same) = (0, omega arith, ap Some (sym same))
 in_there (a ∷ all) at (inr m) = let r = in_there all at m in let inside = r.1 in (suc r.0, omega arith, r.2)
 
+-- whether a place is in the share, by another name of the run's length
+pub share_is : (place step first run named : ℕ) {b : Bool} → run ≡ named → eqb (place / run % step) first ≡ b → eqb (place / named % step) first ≡ b
+share_is place step first run named {b} same is = subst (λ r. eqb (place / r % step) first ≡ b) same is
+
 module _ (all : List NodeAt) (step first : ℕ) where
   no_place : (at : NodeAt) → IsShareOf all step first 0 at → ⊥
   no_place at h = let low = h.1 in absurd (omega arith)
 
   -- one place more, which is another share's
-  place_passed : (job : ℕ) → (job % step ≡ first → ⊥) → (at : NodeAt) → IsShareOf all step first job at ↔ IsShareOf all step first (job + 1) at
+  place_passed : (job : ℕ) → (share_of all step job ≡ first → ⊥) → (at : NodeAt) → IsShareOf all step first job at ↔ IsShareOf all step first (job + 1) at
   place_passed job other at = (
     λ h. let low = h.1 in (h.0, omega arith, h.2, h.3),
     λ h. back h.0 h.1 h.2 h.3 (cases_lt h.0 job),
   )
     where
-      back : (k : ℕ) → k < job + 1 → k % step ≡ first → slice_get all k ≡ Some at → (k < job) ⊎ (job ≤ k) → IsShareOf all step first job at
+      back : (k : ℕ) → k < job + 1 → share_of all step k ≡ first → slice_get all k ≡ Some at → (k < job) ⊎ (job ≤ k) → IsShareOf all step first job at
       back k low mine e (inl h) = (k, h, mine, e)
-      back k low mine e (inr h) = let same : k ≡ job = omega arith in absurd (other (ap (λ j. j % step) (sym same) ∙ mine))
+      back k low mine e (inr h) = let same : k ≡ job = omega arith in absurd (other (ap (λ j. share_of all step j) (sym same) ∙ mine))
 
   -- one that is this share's
-  place_added : (job : ℕ) (reference : NodeAt) → job % step ≡ first → slice_get all job ≡ Some reference
+  place_added : (job : ℕ) (reference : NodeAt) → share_of all step job ≡ first → slice_get all job ≡ Some reference
       → (at : NodeAt) → (IsShareOf all step first job at ⊎ (at ≡ reference)) ↔ IsShareOf all step first (job + 1) at
   place_added job reference mine there at = (λ h. on h, λ h. back h.0 h.1 h.2 h.3 (cases_lt h.0 job))
     where
@@ -54,7 +58,7 @@ module _ (all : List NodeAt) (step first : ℕ) where
       on (inl h) = let low = h.1 in (h.0, omega arith, h.2, h.3)
       on (inr same) = (job, omega arith, mine, there ∙ ap Some (sym same))
 
-      back : (k : ℕ) → k < job + 1 → k % step ≡ first → slice_get all k ≡ Some at → (k < job) ⊎ (job ≤ k) → IsShareOf all step first job at ⊎ (at ≡ reference)
+      back : (k : ℕ) → k < job + 1 → share_of all step k ≡ first → slice_get all k ≡ Some at → (k < job) ⊎ (job ≤ k) → IsShareOf all step first job at ⊎ (at ≡ reference)
       back k low his e (inl h) = inl (k, h, his, e)
       back k low his e (inr h) =
           let same : k ≡ job = omega arith in
@@ -83,20 +87,20 @@ module _ (bounds : Bounds) (files : List Graph) (definitions : List Hit) (all : 
   share_begun first next e f w =
       so_linked (IsShareOf all step first 0) true [] false next e f w (none_linked bounds files (IsHeld true definitions) (IsShareOf all step first 0) (no_place all step first))
 
-  pub share_left : (first job : ℕ) (links : Links) → eqb (job % step) first ≡ false → AreFound bounds files definitions (IsShareOf all step first job) links
+  pub share_left : (first job : ℕ) (links : Links) → eqb (share_of all step job) first ≡ false → AreFound bounds files definitions (IsShareOf all step first job) links
       → AreFound bounds files definitions (IsShareOf all step first (job + 1)) links
   share_left first job links other are =
       same_asked bounds files (IsHeld links.whole definitions) (IsShareOf all step first job) (IsShareOf all step first (job + 1)) links.list.items links.limit
-      (place_passed all step first job (λ e. false≢true (sym other ∙ eq-eqb (job % step) first e))) are
+      (place_passed all step first job (λ e. false≢true (sym other ∙ eq-eqb (share_of all step job) first e))) are
 
-  pub share_grown : (first job : ℕ) (d : NodeAt) (old new : Links) → eqb (job % step) first ≡ true → job < length all
+  pub share_grown : (first job : ℕ) (d : NodeAt) (old new : Links) → eqb (share_of all step job) first ≡ true → job < length all
       → AreFound bounds files definitions (IsShareOf all step first job) old → AddsLinks bounds files (get_or all job d) old new
       → AreFound bounds files definitions (IsShareOf all step first (job + 1)) new
   share_grown first job d old new mine inside are adds =
       so_linked (IsShareOf all step first (job + 1)) old.whole (old.list.items ++ links_of (hit_of (get_or all job d)) adds.rows) (old.limit || adds.flag) new adds.list_is adds.limit_is adds.whole_is
       (same_asked bounds files (IsHeld old.whole definitions) (λ (at : NodeAt). IsShareOf all step first job at ⊎ (at ≡ get_or all job d)) (IsShareOf all step first (job + 1))
       (old.list.items ++ links_of (hit_of (get_or all job d)) adds.rows) (old.limit || adds.flag)
-      (place_added all step first job (get_or all job d) (eqb-true (job % step) first mine) (slice_get-get_or all job d inside))
+      (place_added all step first job (get_or all job d) (eqb-true (share_of all step job) first mine) (slice_get-get_or all job d inside))
       (both_linked bounds files (IsHeld old.whole definitions) (IsShareOf all step first job) (λ (at : NodeAt). at ≡ get_or all job d) old.list.items (links_of (hit_of (get_or all job d)) adds.rows) old.limit adds.flag are
       (one_linked bounds files (IsHeld old.whole definitions) (get_or all job d) adds.rows adds.flag adds.found)))
 
@@ -111,6 +115,17 @@ module _ (bounds : Bounds) (files : List Graph) (definitions : List Hit) (all : 
       → AreFound bounds files definitions (IsShareOf all step first (length all)) links
   share_ended first job links over are = subst (λ n. AreFound bounds files definitions (IsShareOf all step first n) links) over are
 
+  -- the same links in another order
+  pub share_sorted : (first : ℕ) (links sorted : Links) → ((link : Link) → Contains sorted.list.items link ↔ Contains links.list.items link) → sorted.limit ≡ links.limit
+      → sorted.whole ≡ links.whole → AreFound bounds files definitions (IsShareOf all step first (length all)) links → AreFound bounds files definitions (IsShareOf all step first (length all)) sorted
+  share_sorted first links sorted exact f w are =
+      so_linked (IsShareOf all step first (length all)) links.whole sorted.list.items links.limit sorted refl f w (record {
+        sound = λ link m. are.sound link ((exact link).0 m);
+        all = λ link held asked is. (exact link).1 (are.all link held asked is);
+        limit_is = are.limit_is;
+        few = are.few;
+      })
+
   -- what is found in so many shares
   pub shares_begun : (next : Links) → next.list.items ≡ [] → next.limit ≡ false → next.whole ≡ true → AreFound bounds files definitions (IsInShares all step 0) next
   shares_begun next e f w =
@@ -123,7 +138,7 @@ module _ (bounds : Bounds) (files : List Graph) (definitions : List Hit) (all : 
       so_linked (IsInShares all step (count + 1)) (old.whole && more.whole) (old.list.items ++ more.list.items) (old.limit || more.limit) new e f w
       (same_asked bounds files (IsHeld (old.whole && more.whole) definitions) (λ (at : NodeAt). IsInShares all step count at ⊎ IsShareOf all step count (length all) at) (IsInShares all step (count + 1))
       (old.list.items ++ more.list.items) (old.limit || more.limit)
-      (λ at. (λ h. on at h, λ h. back at h.0 h.1 h.2 h.3 (cases_lt (h.0 % step) count)))
+      (λ at. (λ h. on at h, λ h. back at h.0 h.1 h.2 h.3 (cases_lt (share_of all step h.0) count)))
       (both_linked bounds files (IsHeld (old.whole && more.whole) definitions) (IsInShares all step count) (IsShareOf all step count (length all)) old.list.items more.list.items old.limit more.limit
       (less_held bounds files (IsHeld old.whole definitions) (IsHeld (old.whole && more.whole) definitions) (IsInShares all step count) old.list.items old.limit
       (λ d t. held_first old.whole more.whole (IsIn d definitions) t) are)
@@ -134,10 +149,10 @@ module _ (bounds : Bounds) (files : List Graph) (definitions : List Hit) (all : 
       on at (inl h) = let low = h.2 in (h.0, h.1, omega arith, h.3)
       on at (inr h) = let same = h.2 in (h.0, h.1, omega arith, h.3)
 
-      back : (at : NodeAt) (k : ℕ) → k < length all → k % step < count + 1 → slice_get all k ≡ Some at → (k % step < count) ⊎ (count ≤ k % step)
+      back : (at : NodeAt) (k : ℕ) → k < length all → share_of all step k < count + 1 → slice_get all k ≡ Some at → (share_of all step k < count) ⊎ (count ≤ share_of all step k)
           → IsInShares all step count at ⊎ IsShareOf all step count (length all) at
       back at k inside low e (inl h) = inl (k, inside, h, e)
-      back at k inside low e (inr h) = let same : k % step ≡ count = omega arith in inr (k, inside, same, e)
+      back at k inside low e (inr h) = let same : share_of all step k ≡ count = omega arith in inr (k, inside, same, e)
 
   pub shares_ended : (count : ℕ) (links : Links) → 0 < step → step ≤ count → AreFound bounds files definitions (IsInShares all step count) links
       → AreLinksOf bounds files definitions all links
@@ -145,6 +160,6 @@ module _ (bounds : Bounds) (files : List Graph) (definitions : List Hit) (all : 
       same_asked bounds files (IsHeld links.whole definitions) (IsInShares all step count) (λ (at : NodeAt). IsIn at all) links.list.items links.limit
       (λ at. (
         λ h. there_in all h.0 at h.3,
-        λ m. let r = in_there all at m in let low : r.0 % step < step = mod-lt r.0 some in (r.0, r.1, omega arith, r.2),
+        λ m. let r = in_there all at m in let low : share_of all step r.0 < step = mod-lt (r.0 / run_of (length all) step) some in (r.0, r.1, omega arith, r.2),
       ))
       are

@@ -1,5 +1,5 @@
 -- Asking all references of files for their definitions, and what is kept of them. No public clause cites this.
-use Rattle.std.specs.Prelude.{◌≡◌, ℕ, ◌+◌, ◌%◌, ◌<◌, List, [], ◌∷◌, ◌++◌, ◌||◌, length, Contains, slice_get, Option, Some, None, Bool, IsTrue, IsSomeAnd, true, false, ◌⊎◌, ◌↔◌, if◌then◌else◌, Result, Ok, Err, MatchResult}
+use Rattle.std.specs.Prelude.{◌≡◌, ℕ, ◌+◌, ◌/◌, ◌%◌, ◌<◌, max, min, List, [], ◌∷◌, ◌++◌, ◌||◌, length, Contains, slice_get, Option, Some, None, Bool, IsTrue, IsSomeAnd, true, false, ◌⊎◌, ◌↔◌, if◌then◌else◌, Result, Ok, Err, MatchResult}
 use Rattle.std.specs.List.{filter_map}
 use Rattle.std.specs.List.Sorted.{IsStrictlySortedBy}
 use Rattle.graph_nodes.specs.declared.node.Node.{Node}
@@ -164,13 +164,21 @@ definition_named files row = hit_at (meant is_definition_kind NoDefinition files
 abbrev pub definitions_named : List GraphRow → List Row → List Hit
 definitions_named files rows = filter_map (definition_named files) rows
 
--- the node stands in the list at a place below `end` that leaves `first` when it is divided by `step`
+-- how many references that follow one another are one share's, of so many in so many shares
+abbrev pub run_of : ℕ → ℕ → ℕ
+run_of references shares = max (min (references / shares / 4) 128) 1
+
+-- which of so many shares has what stands at the place: runs are dealt out in turn
+abbrev pub share_of : List NodeAt → ℕ → ℕ → ℕ
+share_of all step place = place / run_of (length all) step % step
+
+-- the node stands in the list at a place below `end` that is in the share `first` of so many
 abbrev pub IsShareOf : List NodeAt → ℕ → ℕ → ℕ → NodeAt → Type 0
-IsShareOf all step first end at = (k : ℕ) × (k < end) × (k % step ≡ first) × (slice_get all k ≡ Some at)
+IsShareOf all step first end at = (k : ℕ) × (k < end) × (share_of all step k ≡ first) × (slice_get all k ≡ Some at)
 
 -- it stands in one of the first so many shares
 abbrev pub IsInShares : List NodeAt → ℕ → ℕ → NodeAt → Type 0
-IsInShares all step count at = (k : ℕ) × (k < length all) × (k % step < count) × (slice_get all k ≡ Some at)
+IsInShares all step count at = (k : ℕ) × (k < length all) × (share_of all step k < count) × (slice_get all k ≡ Some at)
 
 -- what one thread tells in the end: what was found of its references, or its fault
 abbrev pub IsDone : Bounds → List Graph → List Hit → List NodeAt → ℕ → ℕ → Result Links StitchFault → Type 0

@@ -1,6 +1,6 @@
 ghost use Rattle.std.specs.Prelude.{◌≡◌, ◌≤◌, ◌++◌, ◌||◌, ◌&&◌, ◌↔◌, [], false, true, filter, length, Contains, IfOk, OnOk};
 ghost use Rattle.std.specs.List.{prefix_len};
-ghost use Rattle.std.specs.List.Sorted.{IsPartitionedBy, IsStrictlySortedBy};
+ghost use Rattle.std.specs.List.Sorted.{IsPartitionedBy, IsPermutation, IsSorted, IsStrictlySortedBy};
 ghost use Rattle.nav_answers.specs.declared.links.Link.{Link};
 ghost use Rattle.nav_answers.specs.Asking.{Holds};
 ghost use Rattle.nav_answers.specs.Links.{by_link, is_before, is_link_to, link_side, links_of, links_to_any, references_among, rows_of_any};
@@ -85,7 +85,7 @@ impl Links {
         Ok(())
     }
 
-    /// The same by the definitions and then by the references, each pair once. It takes no memory.
+    /// The same by the definitions and then by the references, each pair once.
     pub fn in_order(self) -> Links
         ensures order { IsStrictlySortedBy by_link result.list.items }
         ensures exact { (link : Link) → Contains result.list.items link
@@ -125,13 +125,24 @@ fn add_links(list: &mut Vec<Link>, reference: Hit, definitions: &[Hit]) -> Resul
     Ok(())
 }
 
-/// Puts the links by the definitions and then by the references, each pair once. It takes no memory.
+/// Puts the links by the definitions and then by the references, each pair once.
 fn sort(list: &mut Vec<Link>)
     ensures order { IsStrictlySortedBy by_link list.new.items }
     ensures exact { (link : Link) → Contains list.new.items link ↔ Contains list.old.items link }
 {
-    list.sort_unstable();
+    put_in_order(list);
     list.dedup();
+}
+
+/// Puts the links by the definitions and then by the references. Lists that are in order and stand one behind the other
+/// are merged, with memory for one of them; where that is refused, all are sorted in place.
+fn put_in_order(list: &mut Vec<Link>)
+    ensures sorted { IsSorted by_link list.new.items }
+    ensures permutation { IsPermutation list.old.items list.new.items }
+{
+    if list.sort().is_err() {
+        list.sort_unstable();
+    }
 }
 
 /// The references of the definitions, in no order, of links that stand by their definitions. Those of each definition

@@ -1,8 +1,8 @@
-ghost use Rattle.std.specs.Prelude.{◌≡◌, ℕ, ◌+◌, ◌%◌, ◌<◌, ◌≤◌, length, nat_eq, All, Err, IfOk, OnOk, slice_index_or, vec_len, IsTrue};
+ghost use Rattle.std.specs.Prelude.{◌≡◌, ℕ, ◌+◌, ◌/◌, ◌%◌, ◌<◌, ◌≤◌, length, nat_eq, All, Err, IfOk, OnOk, slice_index_or, vec_len, IsTrue};
 ghost use Rattle.graph_nodes.specs.Whole.{is_reference_of};
 ghost use Rattle.list_facts.specs.Members.{IsIn};
 ghost use Rattle.root_index.specs.Roots.{IsIndexOfView};
-ghost use Rattle.nav_answers.specs.Asking.{AddsLinks, AreFound, AreLinksOf, IsCrowdedAmong, IsDone, IsInShares, IsReferenceIn};
+ghost use Rattle.nav_answers.specs.Asking.{AddsLinks, AreFound, AreLinksOf, IsCrowdedAmong, IsDone, IsInShares, IsReferenceIn, run_of};
 ghost use Rattle.nav_answers.specs.Sources.{graphs_seen};
 
 use crate::asking::{Query, ask};
@@ -18,13 +18,17 @@ use stitcher::StitchFault;
 /// The most threads that ask.
 const MOST_THREADS: usize = 8;
 
+/// The most references that follow one another and are one thread's: about those of a module. Threads that asked
+/// references of one file at once would count the holders of the same symbols, and wait for each other's counts.
+const MOST_IN_RUN: usize = 128;
+
 /// What one thread finds of its references, or why it stopped.
 type Share = Result<Links, StitchFault>;
 
 /// What is found of these references. Each is a job between `enter` and `leave` of the gate, with its place among them
-/// as its number. With n threads the first one asks the references at the places 0, n, 2n and so on, the next one those
-/// at 1, n + 1 and so on. Where one of them has a fault, the fault is told once all threads have ended, of those of
-/// several the first by the threads' order.
+/// as its number. They are dealt out in runs: with n threads the first one asks the runs 0, n, 2n and so on, the next one
+/// the runs 1, n + 1 and so on. Where one of them has a fault, the fault is told once all threads have ended, of
+/// those of several the first by the threads' order.
 pub fn ask_all<R: Threads + Sync, G: Gate + Sync>(
     rt: &R,
     alloc: Global,
@@ -94,7 +98,7 @@ fn ask_shares<R: Threads + Sync, G: Gate + Sync>(
     );
 }
 
-/// Asks the references at the places `first`, `first + step` and so on, where `first` is less than `step`.
+/// Asks the references of the runs `first`, `first + step` and so on, where `first` is less than `step`.
 fn ask_share<G: Gate>(
     alloc: Global,
     query: &Query,
@@ -110,22 +114,35 @@ fn ask_share<G: Gate>(
         (graphs_seen query.now.view.now) query.now.definitions.now all.now step first result }
 {
     let mut links = Links::new(alloc, query.room / step);
+    let run = run_of(all.len(), step);
     for job in 0..all.len() {
-        if !is_in_share(job, first, step) {
+        if !is_in_share(job, run, first, step) {
             continue;
         }
         ask_into(alloc, query, gate, all, job, all[job], &mut links)?;
         links.hold(alloc, query.definitions)?;
     }
-    Ok(links)
+    // Each thread puts its own in order, so that what is left to do for all of them is to merge.
+    Ok(links.in_order())
 }
 
-/// Whether the place is one of `first`, `first + step` and so on, where `first` is less than `step`.
-fn is_in_share(place: usize, first: usize, step: usize) -> bool
-    requires { 0 < step }
-    ensures { result ≡ nat_eq (place % step) first }
+/// How many references that follow one another are one share's, of so many in so many shares: so few that a share has some
+/// four runs, since those of one file often cost alike.
+fn run_of(references: usize, shares: usize) -> usize
+    requires { 0 < shares }
+    ensures value { result ≡ run_of references shares }
+    ensures some { 0 < result }
 {
-    place % step == first
+    (references / shares / 4).min(MOST_IN_RUN).max(1)
+}
+
+/// Whether the place is in one of the runs `first`, `first + step` and so on, where `first` is less than `step`.
+fn is_in_share(place: usize, run: usize, first: usize, step: usize) -> bool
+    requires run { 0 < run }
+    requires step { 0 < step }
+    ensures { result ≡ nat_eq (place / run % step) first }
+{
+    place / run % step == first
 }
 
 /// Asks the reference, one of all these, as the job of that number, and adds what is found of it.

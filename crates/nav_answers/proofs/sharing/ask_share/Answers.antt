@@ -1,6 +1,6 @@
 use Rattle.std.proofs.Common.{◌∙◌, ◌+◌, sym, arith}
 use Rattle.nav_answers.specs.Sources.{graphs_seen}
-use Rattle.nav_answers.proofs.Shared.{job_among, share_begun, share_left, share_grown, share_held, share_ended}
+use Rattle.nav_answers.proofs.Shared.{job_among, share_is, share_begun, share_left, share_grown, share_held, share_ended, share_sorted}
 use Rattle.nav_answers.proofs.sharing.ask_share.Goals as goal
 
 pub loop-job-init : goal.loop-job-init
@@ -11,18 +11,20 @@ loop-job-init g c =
 pub loop-job-preserved-then-not-is_in_share : goal.loop-job-preserved-then-not-is_in_share
 loop-job-preserved-then-not-is_in_share g c =
     share_left c.args.query.now.bounds (graphs_seen c.args.query.now.view.now) c.args.query.now.definitions.now c.args.all.now c.args.step c.args.first c.loop-job.job c.loop-job.links
-    (sym c.is_in_share.ensures ∙ c.if-not-is_in_share.true) c.loop-job.invariant
+    (share_is c.loop-job.job c.args.step c.args.first _ _ c.run_of-run.ensures.value (sym c.is_in_share.ensures ∙ c.if-not-is_in_share.true)) c.loop-job.invariant
 
 pub loop-job-preserved : goal.loop-job-preserved
 loop-job-preserved g c =
     share_held c.args.query.now.bounds (graphs_seen c.args.query.now.view.now) c.args.query.now.definitions.now c.args.all.now c.args.step c.args.first (c.loop-job.job + 1) c.ask_into.new.links c.hold.new.self c.in_ok-hold.ensures
     (share_grown c.args.query.now.bounds (graphs_seen c.args.query.now.view.now) c.args.query.now.definitions.now c.args.all.now c.args.step c.args.first c.loop-job.job _ c.loop-job.links c.ask_into.new.links
-    (sym c.is_in_share.ensures ∙ c.if-not-is_in_share.false) c.loop-job-test.true c.loop-job.invariant c.in_ok-ask_into.ensures.found)
+    (share_is c.loop-job.job c.args.step c.args.first _ _ c.run_of-run.ensures.value (sym c.is_in_share.ensures ∙ c.if-not-is_in_share.false)) c.loop-job-test.true c.loop-job.invariant c.in_ok-ask_into.ensures.found)
 
 pub returns : goal.returns
 returns g c =
-    share_ended c.args.query.now.bounds (graphs_seen c.args.query.now.view.now) c.args.query.now.definitions.now c.args.all.now c.args.step c.args.first c.loop-job.job c.loop-job.links
-    (omega (arith, c.loop-job-test.false, c.loop-job.auto.job-end)) c.loop-job.invariant
+    share_sorted c.args.query.now.bounds (graphs_seen c.args.query.now.view.now) c.args.query.now.definitions.now c.args.all.now c.args.step c.args.first c.loop-job.links c.in_order.result
+    c.in_order.ensures.exact c.in_order.ensures.limit c.in_order.ensures.whole
+    (share_ended c.args.query.now.bounds (graphs_seen c.args.query.now.view.now) c.args.query.now.definitions.now c.args.all.now c.args.step c.args.first c.loop-job.job c.loop-job.links
+    (omega (arith, c.loop-job-test.false, c.loop-job.auto.job-end)) c.loop-job.invariant)
 
 pub ask_into-requires-clause-among : goal.ask_into-requires-clause-among
 ask_into-requires-clause-among g c = job_among c.args.all.now c.loop-job.job _ c.loop-job-test.true
