@@ -23,38 +23,49 @@ pub struct Given {
     pub pending: u32,
 }
 
-/// Polls the session until it has ended, and at most so often, and tells what its link took. The status is 255 where it has
-/// not ended.
-fn polled_on<R: Threads + Sync + RandomSource + AllocGlobal, L: Ledger>(
+/// A session over the link, which has answered nothing yet.
+fn started(alloc: Global, link: MemLink) -> Result<Polled<PlainBoard, MemLink>, Fail> {
+    let board = PlainBoard::new(alloc)?;
+    match Polled::start(alloc, Desk::new(alloc), board, link) {
+        Ok(polled) => Ok(polled),
+        Err(_) => Err(Fail::new("memory was refused")),
+    }
+}
+
+/// Polls the session until it has ended, and at most so often: its status, or 255 where it has not ended, and how many
+/// polls were pending.
+fn polls_on<R: Threads + Sync + RandomSource + AllocGlobal, L: Ledger>(
     rt: &R,
-    alloc: Global,
-    link: MemLink,
+    polled: &mut Polled<PlainBoard, MemLink>,
     most: u32,
     blank: Blank,
-) -> Result<Given, Fail>
+) -> Result<(u8, u32), Fail>
     requires name { blank.name ≡ L.name }
     requires parts { blank.parts ≡ L.parts }
     requires some { 0 < blank.parts }
 {
-    let mut steps = Steps::<L>::new(blank);
-    let board = PlainBoard::new(alloc)?;
-    let Ok(mut polled) = Polled::start(alloc, Desk::new(alloc), board, link) else {
-        return Err(Fail::new("memory was refused"));
-    };
     let task = MockTask::new(rt)?;
+    let mut steps = Steps::<L>::new(blank);
     let mut pending = 0u32;
-    let mut ended = None;
     for _ in 0..most {
         match task.poll(&mut polled.with(rt, &Unguarded, &mut steps)) {
             Poll::Pending => pending = pending.saturating_add(1),
-            Poll::Ready(status) => {
-                ended = Some(status);
-                break;
-            }
+            Poll::Ready(status) => return Ok((status, pending)),
         }
     }
-    let status = ended.unwrap_or(255);
-    let (_desk, _board, link) = polled.close();
+    Ok((255, pending))
+}
+
+/// Polls a session over the link so on a ledger that nobody reads, and tells what the link took.
+pub fn polled<R: Threads + Sync + RandomSource + AllocGlobal>(
+    rt: &R,
+    alloc: Global,
+    link: MemLink,
+    most: u32,
+) -> Result<Given, Fail> {
+    let mut session = started(alloc, link)?;
+    let (status, pending) = polls_on::<R, Brand>(rt, &mut session, most, Blank::new(1))?;
+    let (_desk, _board, link) = session.close();
     Ok(Given {
         status,
         written: link.held().to_vec(alloc)?,
@@ -62,55 +73,38 @@ fn polled_on<R: Threads + Sync + RandomSource + AllocGlobal, L: Ledger>(
     })
 }
 
-/// The same on a ledger that nobody reads.
-pub fn polled<R: Threads + Sync + RandomSource + AllocGlobal>(
+/// Serves the session at once, and tells its status.
+fn serves_on<R: Threads + Sync, L: Ledger>(
     rt: &R,
     alloc: Global,
-    link: MemLink,
-    most: u32,
-) -> Result<Given, Fail> {
-    polled_on::<R, Brand>(rt, alloc, link, most, Blank::new(1))
-}
-
-/// Serves the session at once, and tells what its sink took.
-fn served_on<R: Threads + Sync, L: Ledger>(
-    rt: &R,
-    alloc: Global,
-    source: MemSource,
-    sink: MemSink,
+    source: &mut MemSource,
+    sink: &mut MemSink,
     blank: Blank,
-) -> Result<Given, Fail>
+) -> Result<u8, Fail>
     requires name { blank.name ≡ L.name }
     requires parts { blank.parts ≡ L.parts }
     requires some { 0 < blank.parts }
 {
-    let (mut source, mut sink) = (source, sink);
-    let mut steps = Steps::<L>::new(blank);
     let mut board = PlainBoard::new(alloc)?;
     let mut desk = Desk::new(alloc);
-    let status = serve_session(
-        rt,
-        alloc,
-        &mut desk,
-        &mut board,
-        &Unguarded,
-        &mut source,
-        &mut sink,
-        &mut steps,
-    );
-    Ok(Given {
-        status,
-        written: sink.held().to_vec(alloc)?,
-        pending: 0,
-    })
+    let mut steps = Steps::<L>::new(blank);
+    Ok(serve_session(
+        rt, alloc, &mut desk, &mut board, &Unguarded, source, sink, &mut steps,
+    ))
 }
 
-/// The same on a ledger that nobody reads.
+/// Serves the session at once on a ledger that nobody reads, and tells what its sink took.
 pub fn served<R: Threads + Sync>(
     rt: &R,
     alloc: Global,
     source: MemSource,
     sink: MemSink,
 ) -> Result<Given, Fail> {
-    served_on::<R, Brand>(rt, alloc, source, sink, Blank::new(1))
+    let (mut source, mut sink) = (source, sink);
+    let status = serves_on::<R, Brand>(rt, alloc, &mut source, &mut sink, Blank::new(1))?;
+    Ok(Given {
+        status,
+        written: sink.held().to_vec(alloc)?,
+        pending: 0,
+    })
 }

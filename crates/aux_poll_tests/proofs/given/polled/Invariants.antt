@@ -1,5 +1,5 @@
 use Rattle.aux_poll_tests.proofs.given.polled.Given as goal
 
 -- the ledger of the blank
-abbrev pub ghosts-polled_on : goal.ghosts-polled_on
-ghosts-polled_on g a = record { name = a.blank.name; parts = a.blank.parts }
+abbrev pub ghosts-polls_on : goal.ghosts-polls_on
+ghosts-polls_on g a = record { name = a.blank.name; parts = a.blank.parts }

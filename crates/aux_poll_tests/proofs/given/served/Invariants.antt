@@ -1,5 +1,5 @@
 use Rattle.aux_poll_tests.proofs.given.served.Given as goal
 
 -- the ledger of the blank
-abbrev pub ghosts-served_on : goal.ghosts-served_on
-ghosts-served_on g a = record { name = a.blank.name; parts = a.blank.parts }
+abbrev pub ghosts-serves_on : goal.ghosts-serves_on
+ghosts-serves_on g a = record { name = a.blank.name; parts = a.blank.parts }

@@ -1,6 +1,7 @@
-//! Rows: what the words, the calls of the port and the links are, and what comes of them.
+//! Rows of many sessions: what the words, the calls of the port and the links are, and what comes of them.
 ghost use Rattle.std.specs.Prelude.{◌≡◌, ◌<◌};
 
+use crate::calls::every_second;
 use futures::task::{Doorbell, Solo};
 use graph_nodes::Steps;
 use nav_poll::MemLink;
@@ -65,12 +66,7 @@ fn lines_of(alloc: Global, text: &str) -> Result<Vec<u8>, AllocError> {
 
 /// A link of that text, whose every second pull waits.
 fn link_of(alloc: Global, text: &str) -> Result<MemLink, AllocError> {
-    let mut waits = Vec::new(alloc);
-    for n in 0..20u32 {
-        if n % 2 == 1 {
-            waits.push(n)?;
-        }
-    }
+    let mut waits = every_second(alloc, 1, 20)?;
     if text.ends_with('s') {
         waits.push(2)?;
     }

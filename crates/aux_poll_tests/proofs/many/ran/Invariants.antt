@@ -1,4 +1,4 @@
-use Rattle.aux_many_tests.proofs.served.ran.Given as goal
+use Rattle.aux_poll_tests.proofs.many.ran.Given as goal
 
 -- the ledger of the blank
 abbrev pub ghosts-status_on : goal.ghosts-status_on
