@@ -27,15 +27,17 @@ start_same (After a) (Before b) t = cc
 start_same (After a) (After b) t = ap After ((spot_eq-Decides a b).0 t)
 
 -- the file with that number among files of which the first has the other number
-record IsOfThese (files : List FileRules) (first : ℕ) (start : Start) (p : ℕ × Rule) : Type 0 where
+record IsOfThese (files : List FileRules) (first : ℕ) (start : Start) (symbols : List SymbolItem) (p : ℕ × Rule) : Type 0 where
   place : ℕ
   file : FileRules
   number : p.0 ≡ first + place
   there : slice_get files place ≡ Some file
   stored : IsIn p.1 file.rules
   begins : moved_start p.0 p.1.start ≡ start
+  texts : stand_first (key p.1) symbols ≡ true
 
-of_one : (first : ℕ) (f : FileRules) (start : Start) (symbols : List SymbolItem) (p : ℕ × Rule) → IsIn p (rules_offered_in first f start symbols) → (p.0 ≡ first) × IsIn p.1 f.rules × (moved_start p.0 p.1.start ≡ start)
+of_one : (first : ℕ) (f : FileRules) (start : Start) (symbols : List SymbolItem) (p : ℕ × Rule) → IsIn p (rules_offered_in first f start symbols)
+    → (p.0 ≡ first) × IsIn p.1 f.rules × (moved_start p.0 p.1.start ≡ start) × (stand_first (key p.1) symbols ≡ true)
 of_one first f start symbols p h =
     let m = IsIn-map_from (numbered first) p (filter (is_offered_in first start symbols) f.rules) h in
     let k = IsIn-filter_from (is_offered_in first start symbols) m.0 f.rules m.1 in
@@ -44,30 +46,33 @@ of_one first f start symbols p h =
       ap (λ (q : ℕ × Rule). q.0) (sym m.2),
       subst (λ (q : ℕ × Rule). IsIn q.1 f.rules) m.2 k.0,
       subst (λ (q : ℕ × Rule). moved_start q.0 q.1.start ≡ start) m.2 e,
+      subst (λ (q : ℕ × Rule). stand_first (key q.1) symbols ≡ true) m.2 t.1,
     )
 
-of_these : (files : List FileRules) (first : ℕ) (start : Start) (symbols : List SymbolItem) (p : ℕ × Rule) → IsIn p (rules_offered_after first files start symbols) → IsOfThese files first start p
+of_these : (files : List FileRules) (first : ℕ) (start : Start) (symbols : List SymbolItem) (p : ℕ × Rule) → IsIn p (rules_offered_after first files start symbols) → IsOfThese files first start symbols p
 of_these [] first start symbols p h = absurd h
 of_these (f ∷ files) first start symbols p h =
     by (λ g. of_these files (first + 1) start symbols p g)
     (IsIn-append_cases p (rules_offered_in first f start symbols) (rules_offered_after (first + 1) files start symbols) h)
   where
-    by : (IsIn p (rules_offered_after (first + 1) files start symbols) → IsOfThese files (first + 1) start p) → IsIn p (rules_offered_in first f start symbols) ⊎ IsIn p (rules_offered_after (first + 1) files start symbols) → IsOfThese (f ∷ files) first start p
+    by : (IsIn p (rules_offered_after (first + 1) files start symbols) → IsOfThese files (first + 1) start symbols p) → IsIn p (rules_offered_in first f start symbols) ⊎ IsIn p (rules_offered_after (first + 1) files start symbols) → IsOfThese (f ∷ files) first start symbols p
     by rest (inl g) =
         let o = of_one first f start symbols p g in
-        record { place = 0; file = f; number = (let e : p.0 ≡ first = o.0 in omega arith); there = refl; stored = o.1; begins = o.2 }
+        record { place = 0; file = f; number = (let e : p.0 ≡ first = o.0 in omega arith); there = refl; stored = o.1; begins = o.2; texts = o.3 }
     by rest (inr g) =
         let o = rest g in
-        record { place = suc o.place; file = o.file; number = (let e : p.0 ≡ (first + 1) + o.place = o.number in omega arith); there = o.there; stored = o.stored; begins = o.begins }
+        record { place = suc o.place; file = o.file; number = (let e : p.0 ≡ (first + 1) + o.place = o.number in omega arith); there = o.there; stored = o.stored; begins = o.begins; texts = o.texts }
 
--- what is offered is stored, and begins there
-pub offered_stored : (files : List FileRules) (start : Start) (symbols : List SymbolItem) (p : ℕ × Rule) → IsIn p (rules_offered files start symbols) → IsStoredIn files p × (moved_start p.0 p.1.start ≡ start)
+-- what is offered is stored, begins there, and asks first for the texts of the symbols
+pub offered_stored : (files : List FileRules) (start : Start) (symbols : List SymbolItem) (p : ℕ × Rule) → IsIn p (rules_offered files start symbols)
+    → IsStoredIn files p × (moved_start p.0 p.1.start ≡ start) × (stand_first (key p.1) symbols ≡ true)
 offered_stored files start symbols p h =
     let o = of_these files 0 start symbols p h in
     let from_zero : p.0 ≡ 0 + o.place = o.number in
     let number : p.0 ≡ o.place = omega arith in (
       (o.file, ap (slice_get files) number ∙ o.there, Contains-from_IsIn o.file.rules p.1 o.stored),
       o.begins,
+      o.texts,
     )
 
 apart_from_map : {X Y : Type 0} (f : X → Y) (xs : List X) → IsApart (map f xs) → IsApart xs

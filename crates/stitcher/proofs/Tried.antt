@@ -59,4 +59,4 @@ one_offered q trail at gone left all p is perm =
     let there = Contains-permutation all (offered_to q j) p (IsPermutation-sym (offered_to q j) all perm)
     (Contains-from_IsIn all p (subst (IsIn p) is (IsIn-append_right p gone (p ∷ left) (inl refl)))) in
     let o = offered_stored q.files (next_start q j) j.at.stacks.symbols p (IsIn-from_Contains (offered_to q j) p there) in
-    record { stored = o.0; begins = o.1 }
+    record { stored = o.0; begins = o.1; texts = o.2 }

@@ -1,6 +1,7 @@
+pub mod Answers
+pub mod Ends
 pub mod Joins
 pub mod Laws
-pub mod Answers
-pub mod Trail
 pub mod Opens
-pub mod Ends
+pub mod Plain
+pub mod Trail

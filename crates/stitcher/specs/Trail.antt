@@ -1,5 +1,5 @@
 -- The paths that are joined at the moment, as the program keeps them. No public clause cites this.
-use Rattle.std.specs.Prelude.{◌≡◌, ℕ, List, map, All, IsTrue}
+use Rattle.std.specs.Prelude.{◌≡◌, ℕ, List, map, All, IsTrue, true}
 use Rattle.std.specs.Option.{option_map_or}
 use Rattle.partial_path.specs.declared.config.Config.{Config}
 use Rattle.partial_path.specs.FileNumbers.{FitsFile, EdgeIn}
@@ -9,7 +9,8 @@ use Rattle.partial_path.specs.Spots.{at_node}
 use Rattle.partial_path.specs.Step.{start}
 use Rattle.partial_path.specs.Moved.{moved_start}
 use Rattle.partial_path.specs.PathSets.{FileRules}
-use Rattle.partial_path.specs.Sources.{graphs_of}
+use Rattle.partial_path.specs.Keys.{key}
+use Rattle.partial_path.specs.Sources.{graphs_of, stand_first}
 use Rattle.partial_path.specs.Cutting.{IsStoredIn, LeadFrom, landings}
 use Rattle.partial_path.specs.Laws.{AreStraightPaths}
 use Rattle.stitcher.specs.declared.query.Query.{Query}
@@ -43,7 +44,8 @@ pub record IsHere (q : Asked) (trail : List Level) (at : Config) : Type 0 where
   pub landed : landings (origin q) (paths_of trail) ≡ map landed_at trail
   pub cuts : All (λ (c : Config). IsTrue (is_at_cut q c)) (map landed_at trail)
 
--- the path is stored, and begins where the trail landed
+-- the path is stored, begins where the trail landed, and asks first for the texts of the symbols there
 pub record IsOffered (q : Asked) (trail : List Level) (at : Config) (p : ℕ × Rule) : Type 0 where
   pub stored : IsStoredIn q.files p
   pub begins : moved_start p.0 p.1.start ≡ next_start q (joined (paths_of trail) at)
+  pub texts : stand_first (key p.1) at.stacks.symbols ≡ true

@@ -19,6 +19,7 @@ ghost use Rattle.stitcher.specs.Trail.{Moves, paths_of, landed_at, asked, IsHere
 
 use crate::found::StitchFault;
 use crate::landing::{is_at_cut, is_cut_end, is_within, may_land};
+use crate::matching::is_met;
 use crate::note::note;
 use crate::open::Open;
 use crate::query::Query;
@@ -147,7 +148,7 @@ pub fn join<'a, P: PathSource>(
     joined_paths_are_runs();
     runs_end_in_files();
     let more = path.edge_numbers().len();
-    if !path.meets(file, at) {
+    if !is_met(file, path, at) {
         return Ok(());
     }
     let bounded = is_within(query.bounds, edges, path, at);

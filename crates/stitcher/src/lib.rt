@@ -9,6 +9,7 @@ mod join;
 mod keep;
 mod landing;
 mod laws;
+mod matching;
 mod note;
 mod open;
 mod query;

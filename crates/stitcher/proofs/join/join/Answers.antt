@@ -1,5 +1,5 @@
 -- What the tests before the path is applied tell.
-use Rattle.std.proofs.Common.{◌≡◌, ◌∙◌, ◌+◌, length, [], ◌∷◌, sym, ap, subst, Some, Option, IfSome}
+use Rattle.std.proofs.Common.{◌≡◌, ◌∙◌, ◌+◌, [], ◌∷◌, sym, ap, subst, Some, Option, IfSome}
 use Rattle.std.specs.Option.{option_map_or}
 use Rattle.partial_path.specs.Apply.{apply}
 use Rattle.partial_path.specs.Moved.{moved, moved_start}
@@ -13,12 +13,17 @@ use Rattle.stitcher.proofs.Joining.{stored_fits}
 use Rattle.stitcher.proofs.Heights.{edge_count-with}
 use Rattle.stitcher.proofs.Opening.{here_next}
 use Rattle.stitcher.proofs.Within.{met_asks, stored_moves, within_is, past_noted, past_opens}
+use Rattle.stitcher.proofs.Plain.{begins_here}
 use Rattle.stitcher.proofs.Pruned.{end_there, pruned_noted, pruned_opens}
 use Rattle.stitcher.proofs.join.join.Goals as goal
 
+pub is_met-requires-clause-begins : goal.is_met-requires-clause-begins
+is_met-requires-clause-begins g c =
+    begins_here (asked (g.P.PathSource.files c.args.source.now) c.args.query) c.args.trail.now c.args.at.now (c.args.file, c.args.path.now) c.requires.here c.requires.offered
+
 pub is_within-bounded-requires-clause-met : goal.is_within-bounded-requires-clause-met
 is_within-bounded-requires-clause-met g c =
-    met_asks c.args.file c.args.path.now.pre c.args.at.now.stacks (spot_eq (start_spot (moved_start c.args.file c.args.path.now.start)) c.args.at.now.spot) (sym c.meets.ensures ∙ c.if-not-meets.false)
+    met_asks c.args.file c.args.path.now.pre c.args.at.now.stacks (spot_eq (start_spot (moved_start c.args.file c.args.path.now.start)) c.args.at.now.spot) (sym c.is_met.ensures ∙ c.if-not-is_met.false)
 
 pub returns-then-not-bounded-clause-noted : goal.returns-then-not-bounded-clause-noted
 returns-then-not-bounded-clause-noted g c =
@@ -41,24 +46,24 @@ is_cut_end-cut-requires-clause-fits g c =
 pub is_cut_end-cut-requires-clause-spot : goal.is_cut_end-cut-requires-clause-spot
 is_cut_end-cut-requires-clause-spot g c =
     end_there (asked (g.P.PathSource.files c.args.source.now) c.args.query) c.args.trail.now c.args.at.now (c.args.file, c.args.path.now) c.requires.sources c.requires.begins c.requires.here c.requires.offered
-    c.joined_paths_are_runs.ensures c.runs_end_in_files.ensures (sym c.meets.ensures ∙ c.if-not-meets.false)
+    c.joined_paths_are_runs.ensures c.runs_end_in_files.ensures (sym c.is_met.ensures ∙ c.if-not-is_met.false)
 
 pub returns-then-not-may_land-clause-noted : goal.returns-then-not-may_land-clause-noted
 returns-then-not-may_land-clause-noted g c =
     pruned_noted (asked (g.P.PathSource.files c.args.source.now) c.args.query) c.args.trail.now c.args.at.now (c.args.file, c.args.path.now) c.is_cut_end-cut.result c.is_cut_end-cut.ensures
     (sym c.may_land.ensures ∙ c.if-not-may_land.true)
-    (met_asks c.args.file c.args.path.now.pre c.args.at.now.stacks (spot_eq (start_spot (moved_start c.args.file c.args.path.now.start)) c.args.at.now.spot) (sym c.meets.ensures ∙ c.if-not-meets.false))
+    (met_asks c.args.file c.args.path.now.pre c.args.at.now.stacks (spot_eq (start_spot (moved_start c.args.file c.args.path.now.start)) c.args.at.now.spot) (sym c.is_met.ensures ∙ c.if-not-is_met.false))
     c.args.tally.now
 
 pub returns-then-not-may_land-clause-opens : goal.returns-then-not-may_land-clause-opens
 returns-then-not-may_land-clause-opens g c =
     pruned_opens (asked (g.P.PathSource.files c.args.source.now) c.args.query) c.args.trail.now c.args.at.now (c.args.file, c.args.path.now) c.is_cut_end-cut.result c.is_cut_end-cut.ensures
     (sym c.may_land.ensures ∙ c.if-not-may_land.true)
-    (met_asks c.args.file c.args.path.now.pre c.args.at.now.stacks (spot_eq (start_spot (moved_start c.args.file c.args.path.now.start)) c.args.at.now.spot) (sym c.meets.ensures ∙ c.if-not-meets.false))
+    (met_asks c.args.file c.args.path.now.pre c.args.at.now.stacks (spot_eq (start_spot (moved_start c.args.file c.args.path.now.start)) c.args.at.now.spot) (sym c.is_met.ensures ∙ c.if-not-is_met.false))
     (opens_of c.args.trail.now c.args.work.now.items)
 
 pub landing_of-requires-clause-met : goal.landing_of-requires-clause-met
-landing_of-requires-clause-met g c = sym c.meets.ensures ∙ c.if-not-meets.false
+landing_of-requires-clause-met g c = sym c.is_met.ensures ∙ c.if-not-is_met.false
 
 pub note-requires-clause-bounded : goal.note-requires-clause-bounded
 note-requires-clause-bounded g c = rw c.again.ensures (

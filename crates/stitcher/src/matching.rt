@@ -1,0 +1,57 @@
+//! Whether a path that is offered is met: its texts were compared when it was found.
+ghost use Rattle.std.specs.Prelude.{◌≡◌, ◌≤◌, ◌&&◌, [], length, reverse, true, false, IsTrue};
+ghost use Rattle.std.specs.List.{list_any};
+ghost use Rattle.std.specs.Option.{is_some};
+ghost use Rattle.partial_path.specs.Apply.{match_stacks};
+ghost use Rattle.partial_path.specs.Keys.{key, key_size};
+ghost use Rattle.partial_path.specs.Moved.{moved_pre, moved_start};
+ghost use Rattle.partial_path.specs.Rules.{start_spot};
+ghost use Rattle.partial_path.specs.Same.{spot_eq};
+ghost use Rattle.partial_path.specs.Sources.{stand_first};
+ghost use Rattle.stitcher.specs.Plain.{asks_scopes, has_scopes};
+
+use partial_path::{Config, KEY_SIZE, StoredPath};
+use stacks_vars::{SymPat, SymbolStack};
+
+/// Whether the configuration meets a path that begins there and asks first for the texts of the symbols there. Only where
+/// scopes are asked for or attached, or more texts are asked for than were compared, is it looked at again.
+pub fn is_met(file: u32, path: &StoredPath<'_>, at: &Config) -> bool
+    requires begins { spot_eq (start_spot (moved_start file path.now.start)) at.now.spot ≡ true }
+    requires texts { stand_first (key path.now) at.now.stacks.symbols ≡ true }
+    ensures { result
+        ≡ (spot_eq (start_spot (moved_start file path.now.start)) at.now.spot && is_some
+        (match_stacks (moved_pre file path.now.pre) at.now.stacks)) }
+{
+    if is_plain(path, at) {
+        return true;
+    }
+    path.meets(file, at)
+}
+
+/// Whether the path asks for no scopes and for at most so many symbols as a key has, and no symbol has any scopes.
+fn is_plain(path: &StoredPath<'_>, at: &Config) -> bool
+    ensures few { IsTrue result → length path.now.pre.symbols ≤ key_size }
+    ensures fixed { IsTrue result → path.now.pre.scopes.fixed ≡ [] }
+    ensures asked { IsTrue result → list_any asks_scopes path.now.pre.symbols ≡ false }
+    ensures stack { IsTrue result
+        → list_any has_scopes (reverse at.now.stacks.symbols) ≡ false }
+{
+    path.fixed().is_empty()
+        && path.asked().len() <= KEY_SIZE
+        && !any_asked(path.asked())
+        && !any_attached(&at.stacks.symbols)
+}
+
+/// Whether scopes are asked for with one of these symbols.
+fn any_asked(asked: &[SymPat]) -> bool
+    ensures { result ≡ list_any asks_scopes asked.now }
+{
+    asked.iter().any(|pat| pat.scopes.is_some())
+}
+
+/// Whether scopes are attached to one of the symbols.
+fn any_attached(symbols: &SymbolStack) -> bool
+    ensures { result ≡ list_any has_scopes (reverse symbols.now) }
+{
+    symbols.reversed().iter().any(|item| item.scopes.is_some())
+}
