@@ -1,5 +1,5 @@
 //! The board of one seat and one thread.
-ghost use Rattle.std.specs.Prelude.{◌≡◌, ◌≢◌, true, false, ◌<◌, ◌≤◌, ◌+◌, ℕ, [], ◌∷◌, ◌++◌, None, Some, Err, IfOk, OnOk, OnErr, vec_len, vec_capacity, length};
+ghost use Rattle.std.specs.Prelude.{◌≡◌, ◌≢◌, true, false, ◌<◌, ◌≤◌, ◌+◌, ℕ, [], ◌∷◌, ◌++◌, None, Some, Ok, Err, IfOk, IfErr, OnOk, OnErr, vec_len, vec_capacity, length};
 ghost use Rattle.std.specs.Arc.{arc_value};
 ghost use Rattle.version_tree.specs.declared.edit.EditFault.{EditFault as Faults};
 ghost use Rattle.version_tree.specs.declared.edit.EditFault.TheVariants as faults;
@@ -63,14 +63,14 @@ impl PlainBoard {
     }
 }
 
-/// Whether the base, where one is given, is the head.
-fn fits_head(base: Option<u32>, head: u32) -> bool
-    ensures yes { result ≡ true → FitsHead base head }
-    ensures no { result ≡ false → ¬ FitsHead base head }
+/// Refuses a base that is given and isn't the head, which is told.
+fn fitting(base: Option<u32>, head: u32) -> Result<(), CommitFault>
+    ensures fits { OnOk result (FitsHead base head) }
+    ensures stale { IfErr result (λ fault. (fault ≡ why.Stale head) × ¬ FitsHead base head) }
 {
     match base {
-        Some(base) => base == head,
-        None => true,
+        Some(base) if base != head => Err(CommitFault::Stale(head)),
+        _ => Ok(()),
     }
 }
 
@@ -83,6 +83,20 @@ fn refused_by(fault: EditFault) -> CommitFault
     match fault {
         EditFault::NoMemory => CommitFault::NoMemory,
         fault => CommitFault::Edit(fault),
+    }
+}
+
+/// What edits make of a version, as a commit tells it.
+fn as_commit(made: Result<Version, EditFault>) -> Result<Version, CommitFault>
+    ensures ok { IfOk result (λ version. made ≡ Ok version) }
+    ensures edit { (e : Faults) → result ≡ Err (why.Edit e)
+        → (made ≡ Err e) × (e ≢ faults.NoMemory) }
+    ensures stale { (n : ℕ) → result ≢ Err (why.Stale n) }
+    ensures memory { result ≡ Err why.NoMemory → made ≡ Err faults.NoMemory }
+{
+    match made {
+        Ok(version) => Ok(version),
+        Err(fault) => Err(refused_by(fault)),
     }
 }
 
@@ -100,13 +114,10 @@ impl PlainBoard {
             → (refusal self.now edits.now ≡ Some e) × (e ≢ faults.NoMemory) }
         ensures stale { (n : ℕ) → result ≢ Err (why.Stale n) }
     {
-        match self.pinned.version.amend(alloc, edits) {
-            Ok(version) => Ok(version),
-            Err(fault) => Err(refused_by(fault)),
-        }
+        as_commit(self.pinned.version.amend(alloc, edits))
     }
 
-    /// Makes what the commit pins.
+    /// Makes what the commit pins. Want of memory is told only where the base fits, as it is looked at first.
     fn prepared(
         &self,
         alloc: Global,
@@ -126,12 +137,10 @@ impl PlainBoard {
         ensures stale { (n : ℕ) → result ≡ Err (why.Stale n) → IsStale base (length self.now) n }
         ensures refused { (e : Faults) → result ≡ Err (why.Edit e)
             → IsRefused base edits.now self.now e }
+        ensures memory { result ≡ Err why.NoMemory → FitsHead base (length self.now) }
     {
         rows_have_one_index();
-        let head = self.pinned.version.number();
-        if !fits_head(base, head) {
-            return Err(CommitFault::Stale(head));
-        }
+        fitting(base, self.pinned.version.number())?;
         let next = self.amended(alloc, edits)?;
         let index = self.index_after(alloc, &next, edits)?;
         let version = Arc::new(alloc, next)?;
@@ -157,29 +166,6 @@ impl PlainBoard {
     }
 }
 
-impl PlainBoard {
-    /// Appends an entry with these edits and pins its version.
-    #[tactic(auto, using(crate::proofs::Replayed::version_push, crate::proofs::Replayed::own_push))]
-    fn extended(
-        &mut self,
-        alloc: Global,
-        base: Option<u32>,
-        edits: &[Edit],
-    ) -> Result<(), CommitFault>
-        ensures ok { OnOk result (IsExtended 0 base edits.now self.old self.new) }
-        ensures stays { OnErr result (self.new ≡ self.old) }
-        ensures stale { (n : ℕ) → result ≡ Err (why.Stale n) → IsStale base (length self.old) n }
-        ensures refused { (e : Faults) → result ≡ Err (why.Edit e)
-            → IsRefused base edits.now self.old e }
-    {
-        let made = self.prepared(alloc, base, edits)?;
-        let serial = self.pinned.version.number();
-        self.log = self.log.and(0, serial, edits);
-        self.pinned = made;
-        Ok(())
-    }
-}
-
 impl Pins for PlainBoard {
     ghost log = { λ b. b };
 
@@ -195,13 +181,26 @@ impl Pins for PlainBoard {
 }
 
 impl<R> Commits<R> for PlainBoard {
+    /// As any seat does. After a refusal the log is what it was, and want of memory is told only where the base fits.
+    #[tactic(auto, using(crate::proofs::Replayed::version_push, crate::proofs::Replayed::own_push))]
     fn commit(
         &mut self,
         _rt: &R,
         alloc: Global,
         base: Option<u32>,
         edits: &[Edit],
-    ) -> Result<(), CommitFault> {
-        self.extended(alloc, base, edits)
+    ) -> Result<(), CommitFault>
+        ensures ok { OnOk result (IsExtended 0 base edits.now self.old self.new) }
+        ensures stays { OnErr result (self.new ≡ self.old) }
+        ensures stale { (n : ℕ) → result ≡ Err (why.Stale n) → IsStale base (length self.new) n }
+        ensures refused { (e : Faults) → result ≡ Err (why.Edit e)
+            → IsRefused base edits.now self.new e }
+        ensures memory { result ≡ Err why.NoMemory → FitsHead base (length self.new) }
+    {
+        let made = self.prepared(alloc, base, edits)?;
+        let serial = self.pinned.version.number();
+        self.log = self.log.and(0, serial, edits);
+        self.pinned = made;
+        Ok(())
     }
 }
