@@ -7,13 +7,14 @@ use Rattle.version_tree.specs.declared.edit.EditFault.{EditFault}
 use Rattle.version_tree.specs.declared.entry.Entry.{Entry}
 use Rattle.version_board.specs.declared.fault.CommitFault.{CommitFault}
 use Rattle.version_board.specs.declared.fault.CommitFault.TheVariants.{Stale, Edit as Unfit, NoMemory}
-use Rattle.version_board.specs.Logs.{IsLater, IsExtended, IsStale, IsRefused}
+use Rattle.version_board.specs.Logs.{FitsHead, IsLater, IsExtended, IsStale, IsRefused}
 
--- the fault is that of the edits on a head that is seen
+-- the fault is that of the edits on a head that is seen, or want of memory, and that only where the base fits
 pub record IsFaultAt (seat : ℕ) (base : Option ℕ) (edits : List Edit) (seen : List Entry) (fault : CommitFault) (head : List Entry) : Type 0 where
   pub later : IsLater seat seen head
   pub stale : (n : ℕ) → fault ≡ Stale n → IsStale base (length head) n
   pub refused : (e : EditFault) → fault ≡ Unfit e → IsRefused base edits head e
+  pub memory : fault ≡ NoMemory → FitsHead base (length head)
 
 -- a head that ends with the entry; or a fault, with the head that was read, where it can be had
 abbrev pub Settles : ℕ → Option ℕ → List Edit → List Entry → Result (List Entry) (CommitFault × Option (List Entry)) → Type 0

@@ -2,4 +2,5 @@ pub mod Books
 pub mod Seats
 pub mod Bodies
 pub mod Commits
+pub mod Desks
 pub mod Tied

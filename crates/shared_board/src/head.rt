@@ -110,6 +110,7 @@ impl<J: Naming> Head<J> {
         ensures stale { (n : ℕ) → result ≡ Err (why.Stale n) → IsStale base (length self.now) n }
         ensures refused { (e : Faults) → result ≡ Err (why.Edit e)
             → IsRefused base edits.now self.now e }
+        ensures memory { result ≡ Err why.NoMemory → FitsHead base (length self.now) }
     {
         let pinned = next_pinned(alloc, &self.body.pinned, base, edits)?;
         let _number = pinned.version.number();

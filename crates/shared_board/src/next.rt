@@ -1,5 +1,5 @@
 //! The version that edits make of another, made before anything is appended.
-ghost use Rattle.std.specs.Prelude.{◌≡◌, ◌≢◌, true, false, ◌<◌, ◌+◌, ◌^◌, ℕ, None, Some, Err, IfOk, length, slice_index, slice_set};
+ghost use Rattle.std.specs.Prelude.{◌≡◌, ◌≢◌, true, false, ◌<◌, ◌+◌, ◌^◌, ℕ, None, Some, Ok, Err, IfOk, IfErr, OnOk, length, slice_index, slice_set};
 ghost use Rattle.std.specs.Arc.{arc_value};
 ghost use Rattle.version_tree.specs.declared.edit.EditFault.{EditFault as Faults};
 ghost use Rattle.version_tree.specs.declared.edit.EditFault.TheVariants as faults;
@@ -15,7 +15,8 @@ use std::sync::Arc;
 use version_board::{CommitFault, Pinned};
 use version_tree::{Edit, EditFault, Version};
 
-/// The version that the edits make of a pinned one, with its index. It is refused as a commit on that head is.
+/// The version that the edits make of a pinned one, with its index. It is refused as a commit on that head is; want of
+/// memory is told only where the base fits, as it is looked at first.
 pub(crate) fn next_pinned(
     alloc: Global,
     head: &Pinned,
@@ -28,11 +29,10 @@ pub(crate) fn next_pinned(
         → IsStale base (arc_value head.now.version).number n }
     ensures refused { (e : Faults) → result ≡ Err (why.Edit e)
         → Refuses base edits.now (arc_value head.now.version) e }
+    ensures memory { result ≡ Err why.NoMemory
+        → FitsHead base (arc_value head.now.version).number }
 {
-    let number = head.version.number();
-    if !fits_head(base, number) {
-        return Err(CommitFault::Stale(number));
-    }
+    fitting(base, head.version.number())?;
     let version = amended(alloc, &head.version, edits)?;
     let index = head.index.amended(alloc, &head.version, &version, edits)?;
     let version = Arc::new(alloc, version)?;
@@ -40,14 +40,14 @@ pub(crate) fn next_pinned(
     Ok(Pinned { version, index })
 }
 
-/// Whether the base, where one is given, is the head.
-fn fits_head(base: Option<u32>, head: u32) -> bool
-    ensures yes { result ≡ true → FitsHead base head }
-    ensures no { result ≡ false → ¬ FitsHead base head }
+/// Refuses a base that is given and isn't the head, which is told.
+fn fitting(base: Option<u32>, head: u32) -> Result<(), CommitFault>
+    ensures fits { OnOk result (FitsHead base head) }
+    ensures stale { IfErr result (λ fault. (fault ≡ why.Stale head) × ¬ FitsHead base head) }
 {
     match base {
-        Some(base) => base == head,
-        None => true,
+        Some(base) if base != head => Err(CommitFault::Stale(head)),
+        _ => Ok(()),
     }
 }
 
@@ -60,7 +60,18 @@ fn amended(alloc: Global, head: &Version, edits: &[Edit]) -> Result<Version, Com
         → (edit_fault head.now.number head.now.content edits.now ≡ Some e) × (e ≢ faults.NoMemory) }
     ensures stale { (n : ℕ) → result ≢ Err (why.Stale n) }
 {
-    match head.amend(alloc, edits) {
+    as_commit(head.amend(alloc, edits))
+}
+
+/// What edits make of a version, as a commit tells it.
+fn as_commit(made: Result<Version, EditFault>) -> Result<Version, CommitFault>
+    ensures ok { IfOk result (λ version. made ≡ Ok version) }
+    ensures edit { (e : Faults) → result ≡ Err (why.Edit e)
+        → (made ≡ Err e) × (e ≢ faults.NoMemory) }
+    ensures stale { (n : ℕ) → result ≢ Err (why.Stale n) }
+    ensures memory { result ≡ Err why.NoMemory → made ≡ Err faults.NoMemory }
+{
+    match made {
         Ok(version) => Ok(version),
         Err(fault) => Err(refused_by(fault)),
     }
