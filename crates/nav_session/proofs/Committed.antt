@@ -5,8 +5,10 @@ use Rattle.nav_session.specs.declared.drafts.Draft.{Draft}
 use Rattle.partial_path.specs.PathSets.{FileRules}
 use Rattle.path_store.specs.Store.{Kept, swept}
 use Rattle.index_gate.specs.declared.fault.FileFault.{FileFault}
+use Rattle.index_gate.specs.declared.fault.IndexFault.{IndexFault}
+use Rattle.index_gate.specs.declared.fault.IndexFault.TheVariants as index
 use Rattle.path_store.specs.Documents.{Doc}
-use Rattle.index_gate.specs.Indexed.{AddsMissing, AreFilesOf, CountsAllWalks, IsFirstFault, docs_of, missing}
+use Rattle.index_gate.specs.Indexed.{AddsMissing, AreFilesOf, CountsAllWalks, HasCause, IsFirstFault, docs_of, missing}
 use Rattle.std.proofs.lemmas.List.{drop_all}
 use Rattle.version_tree.specs.declared.edit.Edit.{Edit}
 use Rattle.version_tree.specs.declared.entry.Entry.{Entry}
@@ -41,6 +43,13 @@ bad_file m base edits path fault f = record {
   store = refl;
   view = inr (refl, refl, refl, refl);
 }
+
+-- the same, where this is the fault that was told of the documents
+pub bad_document : (m : Moment) (base : Option ℕ) (edits : List FileEdit) (docs : List Doc) (path : List ℕ) (why : FileFault) (told : IndexFault)
+    → docs ≡ docs_in edits → told ≡ index.BadFile path why → HasCause docs told → CommitsAs base edits m m (BadFile path (file_error why))
+bad_document m base edits docs path why told is_docs is h =
+    bad_file m base edits path why
+    (subst (λ (ds : List Doc). IsFirstFault ds path why) is_docs (subst (λ (f : IndexFault). HasCause docs f) is h))
 
 -- a commit whose documents have these files comes before the board
 pub judged : (seat : ℕ) (log : List Entry) (pin : ℕ) (s mid : List Kept) (user : Option (List ℕ)) (view : Option (List FileRow)) (new : Moment)

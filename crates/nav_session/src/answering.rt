@@ -1,7 +1,6 @@
 ghost use Rattle.std.specs.Prelude.{◌≡◌, ◌≤◌, ◌+◌, ℕ, [], false, IfOk, OnOk, OnErr};
 ghost use Rattle.index_gate.specs.Indexed.{AreDocWeights, docs_of, missing};
 ghost use Rattle.nav_proto.specs.Replies.{reply_text};
-ghost use Rattle.nav_session.specs.Refusals.{fault_reply};
 ghost use Rattle.nav_session.specs.Requests.{docs_of_line, docs_of_request, quits, is_quit};
 ghost use Rattle.nav_session.specs.Sessions.{IsAnswered};
 ghost use Rattle.nav_session.specs.Transcripts.{with_newline};
@@ -13,12 +12,12 @@ use crate::committing::commit;
 use crate::desk::Desk;
 use crate::judging::rule;
 use crate::pinning::{hello, pin};
-use crate::refusals::fault_reply;
+use crate::refusals::line_reply;
 use crate::room::{Room, ended, print};
 use crate::step::Step;
 use graph_nodes::Steps;
 use nav_io::Gate;
-use nav_proto::{ProtoFault, Reply, Request, print_reply, read_request};
+use nav_proto::{Reply, Request, print_reply, read_request};
 use std::alloc::{AllocError, Global};
 use std::sync::ledger::Ledger;
 use std::thread::Threads;
@@ -75,19 +74,17 @@ pub fn answer_line<R: Threads + Sync, B: Commits<R>, G: Gate + Sync, L: Ledger>(
     let room = Room::new(alloc)?;
     match read_request(alloc, line) {
         Ok(request) => answer_request(rt, alloc, desk, board, gate, request, room, steps),
-        Err(ProtoFault::NoMemory) => Err(AllocError),
-        Err(fault) => refuse(alloc, fault),
+        Err(fault) => refuse(alloc, line_reply(fault)?),
     }
 }
 
-/// What a line that is no request is answered with.
-fn refuse(alloc: Global, fault: ProtoFault) -> Result<Step, AllocError>
-    ensures reply { IfOk result (λ step. step.reply
-        ≡ with_newline (reply_text (fault_reply fault))) }
+/// What a line that is no request is answered with, by the reply to it.
+fn refuse(alloc: Global, reply: Reply) -> Result<Step, AllocError>
+    ensures reply { IfOk result (λ step. step.reply ≡ with_newline (reply_text reply)) }
     ensures quit { IfOk result (λ step. step.quit ≡ false) }
 {
     Ok(Step {
-        reply: ended(print_reply(alloc, &fault_reply(fault))?)?,
+        reply: ended(print_reply(alloc, &reply)?)?,
         quit: false,
     })
 }

@@ -1,6 +1,7 @@
-ghost use Rattle.std.specs.Prelude.{◌≡◌, ◌≤◌, ◌+◌, ℕ, [], IfOk, OnOk, OnErr, MatchBool};
+ghost use Rattle.std.specs.Prelude.{◌≡◌, ◌≢◌, ◌≤◌, ◌+◌, ℕ, [], IfOk, OnOk, OnErr, MatchBool};
 ghost use Rattle.index_gate.specs.Indexed.{AreDocWeights, docs_of, missing};
 ghost use Rattle.version_board.specs.Logs.{own};
+ghost use Rattle.index_gate.specs.declared.fault.IndexFault.TheVariants as why;
 ghost use Rattle.nav_proto.specs.declared.reply.Reply.TheVariants.{BadFile};
 ghost use Rattle.nav_session.specs.BadFiles.{file_error};
 ghost use Rattle.nav_session.specs.Requests.{docs_in};
@@ -12,7 +13,7 @@ use crate::bad_file::file_error;
 use crate::desk::Desk;
 use crate::drafts::{Draft, drafts_of, edits_from};
 use crate::judging::judge;
-use graph_nodes::Steps;
+use graph_nodes::{Name, Steps};
 use index_gate::{FileFault, IndexFault, index_all};
 use nav_io::Gate;
 use nav_proto::{Edits, Reply};
@@ -62,7 +63,7 @@ pub fn commit<R: Threads + Sync, B: Commits<R>, G: Gate + Sync, L: Ledger>(
 }
 
 /// The reply to a commit of a user that may change anything.
-#[tactic(auto, using(crate::proofs::Committed::bad_file, crate::proofs::Committed::judged, crate::proofs::Kept::adds))]
+#[tactic(auto, using(crate::proofs::Committed::bad_document, crate::proofs::Committed::judged, crate::proofs::Kept::adds))]
 fn commit_allowed<R: Threads + Sync, B: Commits<R>, G: Gate + Sync, L: Ledger>(
     rt: &R,
     alloc: Global,
@@ -90,8 +91,22 @@ fn commit_allowed<R: Threads + Sync, B: Commits<R>, G: Gate + Sync, L: Ledger>(
     let drafts = drafts_of(alloc, edits)?;
     match index_all(rt, alloc, &drafts.docs, &mut desk.store, gate, steps) {
         Ok(files) => put_in(rt, alloc, desk, board, base, drafts.drafts, files),
-        Err(IndexFault::BadFile { path, fault }) => bad_file(alloc, path.as_str(), fault),
-        Err(IndexFault::NoMemory) => Err(AllocError),
+        Err(fault) => {
+            let (path, fault) = bad_document(fault)?;
+            bad_file(alloc, path.as_str(), fault)
+        }
+    }
+}
+
+/// The first document that has a fault, by its path, and its fault; the one error is want of memory.
+fn bad_document(fault: IndexFault) -> Result<(Name, FileFault), AllocError>
+    ensures document { IfOk result (λ found. fault ≡ why.BadFile found.0 found.1) }
+    ensures definite { IfOk result (λ _. fault ≢ why.NoMemory) }
+    ensures memory { OnErr result (fault ≡ why.NoMemory) }
+{
+    match fault {
+        IndexFault::BadFile { path, fault } => Ok((path, fault)),
+        IndexFault::NoMemory => Err(AllocError),
     }
 }
 

@@ -1,5 +1,6 @@
 ghost use Rattle.std.specs.Prelude.{◌≡◌, ◌≢◌, Err, IfOk, OnErr};
 ghost use Rattle.nav_answers.specs.declared.found.AskFault.TheVariants as ask;
+ghost use Rattle.nav_proto.specs.declared.proto_fault.ProtoFault.TheVariants as proto;
 ghost use Rattle.version_board.specs.declared.fault.CommitFault.TheVariants as why;
 ghost use Rattle.nav_session.specs.Refusals.{callers_reply, commit_reply, edit_reply, fault_reply, query_reply};
 
@@ -9,13 +10,16 @@ use std::alloc::AllocError;
 use version_board::CommitFault;
 use version_tree::{EditFault, Rows};
 
-/// The reply to a line that is no request. Want of memory is no fault of a line.
-pub fn fault_reply(fault: ProtoFault) -> Reply
-    ensures { result ≡ fault_reply fault }
+/// The reply to a line that is no request for this reason; the one error is want of memory.
+pub fn line_reply(fault: ProtoFault) -> Result<Reply, AllocError>
+    ensures reply { IfOk result (λ reply. reply ≡ fault_reply fault) }
+    ensures definite { IfOk result (λ _. fault ≢ proto.NoMemory) }
+    ensures memory { OnErr result (fault ≡ proto.NoMemory) }
 {
     match fault {
-        ProtoFault::BadJson | ProtoFault::NoMemory => Reply::Plain(PlainError::BadJson),
-        ProtoFault::BadRequest(field) => Reply::BadRequest(field),
+        ProtoFault::BadJson => Ok(Reply::Plain(PlainError::BadJson)),
+        ProtoFault::BadRequest(field) => Ok(Reply::BadRequest(field)),
+        ProtoFault::NoMemory => Err(AllocError),
     }
 }
 
