@@ -4,6 +4,8 @@ use Rattle.std.specs.List.{list_any}
 use Rattle.std.proofs.lemmas.Bool.{eqb-true}
 use Rattle.std.proofs.lemmas.Option.{slice_get_within}
 use Rattle.nav_io.specs.Faults.{HasRisen}
+use Rattle.nav_io.specs.declared.house.HouseFault.{HouseFault}
+use Rattle.nav_io.specs.declared.house.HouseFault.TheVariants as fault
 use Rattle.nav_io.specs.Told.{append_told}
 use Rattle.shared_board.specs.Seats.{Holder, AreNewcomers, AreSeats, newcomer}
 use Rattle.nav_doors.specs.Connections.{Outside, ends_doors}
@@ -126,6 +128,12 @@ ends_so A status (inr e) = subst (λ (s : ℕ). IsTrue (ends_doors s)) (sym e) c
 fails : (A : Type 0) (status : ℕ) → status ≡ 8 → ((status ≡ 8) × A) ⊎ (status ≡ 5) → A
 fails A status e (inl both) = both.1
 fails A status e (inr five) = absurd (omega (arith, e, five))
+
+-- why there is no door, by the fault that the house told and the status of that
+pub none_for : (A : Type 0) (told : HouseFault) (status : ℕ) → (told ≡ fault.Failed → status ≡ 8) → (told ≡ fault.NoMemory → status ≡ 5)
+    → (told ≡ fault.Failed → A) → ((status ≡ 8) × A) ⊎ (status ≡ 5)
+none_for A fault.Failed status eight five cause = inl (eight refl, cause refl)
+none_for A fault.NoMemory status eight five cause = inr (five refl)
 
 -- the house gave out none, since it failed or memory was refused
 pub opened_none : {D S K : Type 0} (o : Outside D S K) (count most : ℕ) (house house' : House D) (status : ℕ)

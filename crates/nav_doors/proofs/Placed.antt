@@ -1,5 +1,6 @@
 -- What is read of lists of places, and what follows for their doors and seats.
-use Rattle.std.proofs.Common.{◌≡◌, ℕ, zero, suc, ◌<◌, ◌==◌, ◌||◌, List, [], ◌∷◌, ◌++◌, ◌≤◌, length, map, take, drop, append-nil, slice_get, slice_index_or, None, Some, Bool, refl, ap, sym, subst, ◌∙◌, arith}
+use Rattle.std.proofs.Common.{◌≡◌, ℕ, zero, suc, ◌<◌, ◌==◌, ◌||◌, List, [], ◌∷◌, ◌++◌, ◌≤◌, length, map, take, drop, append-nil, slice_get, slice_index_or, None, Some, Bool, refl, ap, sym, subst, ◌∙◌, arith, inl}
+use Rattle.std.specs.Prelude.{Result, Ok, Err, OnOk, OnErr, ◌⊎◌}
 use Rattle.std.specs.List.{list_any}
 use Rattle.version_tree.specs.declared.entry.Entry.{Entry}
 use Rattle.shared_board.specs.Seats.{Holder, AreSeats, HaveLearnt, IsLogOfAll, last_log}
@@ -8,7 +9,7 @@ use Rattle.nav_session.specs.Desks.{OnDesk}
 use Rattle.nav_session.specs.Serving.{standing}
 use Rattle.nav_doors.specs.Connections.{Outside, ServesDoor}
 use Rattle.nav_doors.specs.Inside.{ServesPlace, doors_of, seats_of, statuses_of}
-use Rattle.nav_doors.specs.Doors.{ServesDoors, ServesFromEmptyDesk, ServesTied, status_of_all, worst}
+use Rattle.nav_doors.specs.Doors.{ServesDoors, ServesFromEmptyDesk, ServesTied, IsRefused, status_of_all, worst}
 
 -- whether some place has the status
 pub any_status : {D B : Type 0} (status : ℕ) (places : List (Place D B)) → list_any (λ (place : Place D B). place.status == status) places ≡ list_any (λ (told : ℕ). told == status) (statuses_of places)
@@ -158,3 +159,27 @@ from_empty o seat most door door' log log' desk desk' status empty served = reco
   served = subst (λ (d : OnDesk). ServesDoor o seat most door door' (standing log d.store) (standing log' desk'.store) status) empty served;
   seen = refl;
 }
+
+-- the doors were served, and then the seats were brought together, or memory for that was refused
+pub serves_tied : {D S K T E : Type 0} (o : Outside D S K) (most : ℕ) (doors doors' : List D) (seats ended seats' : List Holder) (looped status : ℕ) (tied : Result T E)
+    → ServesDoors o (λ (h : Holder). h.seat) (λ (h : Holder). h.log) most doors doors' seats ended looped
+    → HaveLearnt ended seats' → OnOk tied (IsLogOfAll ended (last_log seats')) → OnOk tied (status ≡ looped) → OnErr tied (status ≡ 5)
+    → ServesTied o most doors doors' seats seats' status ⊎ IsRefused doors doors' seats seats' status
+serves_tied o most doors doors' seats ended seats' looped status (Ok done) served learnt log same five = inl (record {
+  ended = ended;
+  looped = looped;
+  served = served;
+  learnt = learnt;
+  no_memory = λ e. same ∙ e;
+  same_status = λ other. same;
+  one_log = λ other. log;
+})
+serves_tied o most doors doors' seats ended seats' looped status (Err fault) served learnt log same five = inl (record {
+  ended = ended;
+  looped = looped;
+  served = served;
+  learnt = learnt;
+  no_memory = λ e. five;
+  same_status = λ other. absurd (other five);
+  one_log = λ other. absurd (other five);
+})

@@ -1,5 +1,5 @@
 //! The loops of all doors, each on a thread of its own, so that a slow client holds up its own door alone.
-ghost use Rattle.std.specs.Prelude.{◌≡◌, ◌==◌, ◌<◌, ◌⊎◌, ℕ, None, length, vec_len, slice_index_or, IfSome};
+ghost use Rattle.std.specs.Prelude.{◌≡◌, ◌==◌, ◌<◌, ◌⊎◌, ℕ, None, length, vec_len, slice_index_or, IfSome, OnOk, OnErr};
 ghost use Rattle.std.specs.List.{list_any};
 ghost use Rattle.nav_doors.specs.Connections.{outside};
 ghost use Rattle.nav_doors.specs.Inside.{ServesPlace};
@@ -13,7 +13,7 @@ use graph_nodes::Steps;
 use nav_io::{Door, Unguarded};
 use nav_session::Desk;
 use shared_board::{Naming, Seat, tie};
-use std::alloc::Global;
+use std::alloc::{AllocError, Global};
 use std::marker::Brand;
 use std::sync::Wait;
 use std::sync::ledger::{Blank, Ledger};
@@ -160,6 +160,7 @@ where
 /// - 5: memory was refused: to a session, which ended its own door's loop alone, or before any door was asked for a
 ///   connection, or where the seats were brought together.
 /// - 8: a door failed where it was asked for a connection, which ended its own loop alone.
+#[tactic(auto, using(crate::proofs::Placed::serves_tied))]
 pub fn serve_doors<'a, R: Threads + Wait + Sync, D: Door + Send + Drop, J: Naming + Send + Sync>(
     rt: &'a R,
     alloc: Global,
@@ -181,8 +182,17 @@ where
     else {
         return NO_MEMORY;
     };
-    match tie(&rt, seats.as_mut_slice()) {
-        Ok(()) => status,
+    status_tied(status, tie(&rt, seats.as_mut_slice()))
+}
+
+/// The status where the loops of all doors ended with this one, and the seats were then brought together, unless memory was
+/// refused.
+fn status_tied(looped: u8, tied: Result<(), AllocError>) -> u8
+    ensures together { OnOk tied (result ≡ looped) }
+    ensures apart { OnErr tied (result ≡ 5) }
+{
+    match tied {
+        Ok(()) => looped,
         Err(_) => NO_MEMORY,
     }
 }

@@ -129,8 +129,18 @@ where
             house.close(opened);
             status
         }
-        Err(HouseFault::Failed) => ACCEPT_FAILED,
-        Err(HouseFault::NoMemory) => NO_MEMORY,
+        Err(fault) => status_of_fault(fault),
+    }
+}
+
+/// The status where the house gave out no doors for this reason.
+fn status_of_fault(fault: HouseFault) -> u8
+    ensures failed { fault ≡ HouseFault.Failed → result ≡ 8 }
+    ensures memory { fault ≡ HouseFault.NoMemory → result ≡ 5 }
+{
+    match fault {
+        HouseFault::Failed => ACCEPT_FAILED,
+        HouseFault::NoMemory => NO_MEMORY,
     }
 }
 
