@@ -1,13 +1,15 @@
 -- What comes of a commit of one edit by the operator.
-use Rattle.std.proofs.Common.{◌≡◌, inl, inr, ℕ, ◌+◌, Bool, List, [], ◌∷◌, Option, Some, None, ap, subst}
+use Rattle.std.proofs.Common.{◌≡◌, inl, inr, arith, ℕ, ◌+◌, ◌≤◌, Bool, List, [], ◌∷◌, Option, Some, None, ap, subst}
 use Rattle.std.proofs.lemmas.Option.{none-some, same_Some}
+use Rattle.path_store.specs.Store.{cost_of, swept}
+use Rattle.path_store.proofs.Members.{fits}
 use Rattle.version_tree.specs.declared.edit.Edit.{Edit}
 use Rattle.version_tree.specs.declared.entry.Entry.{Entry}
 use Rattle.nav_proto.specs.declared.request.FileEdit.{FileEdit}
 use Rattle.nav_proto.specs.declared.request.Request.TheVariants.{Commit}
 use Rattle.nav_proto.specs.declared.reply.Reply.{Reply}
 use Rattle.nav_session.specs.Sessions.{Asker, asker_of, asked_by, IsAnswered, IsCommitted, IsJudged}
-use Rattle.nav_session.specs.Desks.{session_at, is_accepted}
+use Rattle.nav_session.specs.Desks.{OnDesk, session_at, is_accepted}
 use Rattle.nav_lsp.specs.Editing.{operator}
 use Rattle.nav_lsp.specs.Held.{CommitsOne}
 
@@ -45,3 +47,10 @@ commits_one seat log seen pin edit reply seen' pin' user user' accepted e told h
           (subst (λ (u : Option (List ℕ)). IsAnswered seat log (session_at seen pin u) (Commit None (edit ∷ [])) reply (session_at seen' pin' user')) e h);
       told = told;
     }
+
+-- what is left once the documents went costs nothing
+pub lets_go : (old new : OnDesk) → new ≡ record { store = swept 0 old.store; user = old.user; view = old.view } → cost_of new.store ≡ 0
+lets_go old new is =
+    let few : cost_of (swept 0 old.store) ≤ 0 = fits 0 old.store in
+    let same : cost_of new.store ≡ cost_of (swept 0 old.store) = ap (λ (d : OnDesk). cost_of d.store) is in
+    omega (arith, few, same)

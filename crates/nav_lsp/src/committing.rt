@@ -1,5 +1,6 @@
 //! Texts of open documents, as they are committed.
-ghost use Rattle.std.specs.Prelude.{◌≡◌, length, None, Some, true, IfOk, OnErr, if◌then◌else◌};
+ghost use Rattle.std.specs.Prelude.{◌≡◌, length, None, Some, true, IfOk, OnOk, OnErr, if◌then◌else◌};
+ghost use Rattle.path_store.specs.Store.{cost_of};
 ghost use Rattle.version_board.specs.Logs.{own};
 ghost use Rattle.nav_session.specs.Desks.{HasItsView, is_accepted};
 ghost use Rattle.lsp_texts.specs.Texts.{AreSame, has_room, texts_in, with_text};
@@ -21,9 +22,9 @@ use std::thread::Threads;
 use version_board::Commits;
 use version_tree::PathText;
 
-/// Commits one edit, and keeps no document beside the version. It tells whether it was accepted; the one error is want of
+/// Commits one edit, and keeps no document beside the version, but such as cost nothing. It tells whether it was accepted; the one error is want of
 /// memory, and then no entry of it is in the log.
-#[tactic(auto, using(crate::proofs::Committed::commits_one, crate::proofs::Committed::still_named))]
+#[tactic(auto, using(crate::proofs::Committed::commits_one, crate::proofs::Committed::still_named, crate::proofs::Committed::lets_go))]
 fn commit<R: Threads + Sync, B: Commits<R>, G: Gate + Sync, L: Ledger>(
     rt: &R,
     alloc: Global,
@@ -42,6 +43,7 @@ fn commit<R: Threads + Sync, B: Commits<R>, G: Gate + Sync, L: Ledger>(
         (B.pin_at board.new) edit) }
     ensures user { IfOk result (λ _. desk.new.user ≡ Some operator) }
     ensures view { IfOk result (λ _. HasItsView desk.new (B.log board.new) (B.pin_at board.new)) }
+    ensures let_go { OnOk result (cost_of desk.new.store ≡ 0) }
     ensures none { OnErr result (own (B.seat board.old) (B.log board.new)
         ≡ own (B.seat board.old) (B.log board.old)) }
 {
