@@ -1,5 +1,5 @@
 -- What callers of the program as a function need beside its contract.
-use Rattle.std.proofs.Common.{◌≡◌, ℕ, List, [], inl, inr, refl, sym, ap, subst, append-nil, le_refl, Option, Some, None, IfSome, IsTrue}
+use Rattle.std.proofs.Common.{◌≡◌, ◌⊎◌, ℕ, List, [], inl, inr, refl, sym, ap, subst, append-nil, le_refl, Option, Some, None, IfSome, IsTrue}
 use Rattle.std.specs.Io.KnownBytes.{append_known}
 use Rattle.version_tree.specs.declared.entry.Entry.{Entry}
 use Rattle.nav_session.proofs.CallerLemmas.{served_nothing}
@@ -23,7 +23,7 @@ append_known-nil None = refl
 append_known-nil (Some bytes) = ap Some (sym (append-nil bytes))
 
 -- nothing is the beginning of an output
-nothing_begins : (task : Task) (left : Option (List ℕ)) → IfSome left (λ input. IsBeginning task input [])
+pub nothing_begins : (task : Task) (left : Option (List ℕ)) → IfSome left (λ input. IsBeginning task input [])
 nothing_begins task None = tt
 nothing_begins task (Some input) = inl refl
 
@@ -99,6 +99,27 @@ pub keeps_refused : {D S K : Type 0} (o : Doors D S K) (command : Option Command
 keeps_refused o command left held f k house seat log status five =
     subst (λ (s : ℕ). Keeps o command (scene (seen left f held k) house seat log) (scene (seen left f held k) house seat log) s) (sym five)
     (keeps_at_five o command left held f k house seat log)
+
+-- the words are no command
+keeps_no_command : {D S K : Type 0} (o : Doors D S K) (command : Option Command) (left held : Option (List ℕ)) (f k : ℕ) (house : House D) (seat : ℕ) (log : List Entry)
+    → command ≡ None → Keeps o command (scene (seen left f held k) house seat log) (scene (seen left f held k) house seat log) 2
+keeps_no_command o None left held f k house seat log none = record {
+  ends = refl;
+  causes = blames_none left held f k 2 (λ e. cc) (λ e. cc);
+  complete = λ none. tt;
+  does = tt;
+  same_seat = refl;
+}
+keeps_no_command o (Some one) left held f k house seat log none = absurd (cc none)
+
+-- there is no command, as the status tells: the words are none, or memory was refused before they were read
+pub keeps_without : {D S K : Type 0} (o : Doors D S K) (command : Option Command) (left held : Option (List ℕ)) (f k : ℕ) (house : House D) (seat : ℕ) (log : List Entry) (status : ℕ)
+    → ((status ≡ 2) × (command ≡ None)) ⊎ (status ≡ 5)
+    → Keeps o command (scene (seen left f held k) house seat log) (scene (seen left f held k) house seat log) status
+keeps_without o command left held f k house seat log status (inl both) =
+    subst (λ (s : ℕ). Keeps o command (scene (seen left f held k) house seat log) (scene (seen left f held k) house seat log) s) (sym both.0)
+    (keeps_no_command o command left held f k house seat log both.1)
+keeps_without o command left held f k house seat log status (inr five) = keeps_refused o command left held f k house seat log status five
 
 -- the command that was found was carried out
 pub keeps_one : {D S K : Type 0} (o : Doors D S K) (found : Option Command) (one : Command) (before after : Scene D) (status : ℕ) → found ≡ Some one

@@ -1,5 +1,5 @@
 -- What is kept where no board is made, and what words tell that can't be had.
-use Rattle.std.proofs.Common.{◌≡◌, ◌∙◌, ℕ, Bool, true, not, List, [], Option, None, Some, IsTrue, Result, Ok, Err, String, is_some, refl, sym, ap, subst, true≢false}
+use Rattle.std.proofs.Common.{◌≡◌, ◌⊎◌, ◌∙◌, inl, inr, ℕ, List, [], Option, None, Some, IsTrue, Result, Ok, Err, String, refl, sym, ap, subst, true≢false}
 use Rattle.std.specs.Global.{Global, Vec}
 use Rattle.nav_doors.specs.Connections.{Outside as Doors}
 use Rattle.nav_doors.specs.Houses.{House}
@@ -9,11 +9,6 @@ use Rattle.nav_serve.specs.Outside.{seen}
 use Rattle.nav_serve.specs.Headline.{KeepsAlone, refuses}
 use Rattle.nav_serve.proofs.CallerLemmas.{blames_none, keeps_refused}
 use Rattle.nav_serve.proofs.Given.{gives_nothing}
-
--- what the test for a command tells
-pub none_of : (found command : Option Command) (test : Bool) → is_some found ≡ not test → test ≡ true → found ≡ command → command ≡ None
-none_of None command test told holds is = sym is
-none_of (Some one) command test told holds is = cc
 
 -- a status that refuses the words is none that blames the outside
 not_source : (status : ℕ) → IsTrue (refuses status) → status ≡ 3 → ⊥
@@ -49,6 +44,14 @@ refused o command left held f k house status five = record {
   keeps = keeps_refused o command left held f k house 0 [] status five;
   gives = gives_nothing command left held f k status five;
 }
+
+-- there is no command, as the status tells
+pub without : {D S K : Type 0} (o : Doors D S K) (found command : Option Command) (left held : Option (List ℕ)) (f k : ℕ) (house : House D) (status : ℕ)
+    → found ≡ command → ((status ≡ 2) × (found ≡ None)) ⊎ (status ≡ 5)
+    → KeepsAlone o command (seen left f held k) (seen left f held k) house house status
+without o found command left held f k house status is (inl both) =
+    no_words o command left held f k house status (sym is ∙ both.1) (subst (λ (s : ℕ). IsTrue (refuses s)) (sym both.0) refl)
+without o found command left held f k house status is (inr five) = refused o command left held f k house status five
 
 -- words that can't be had are no command
 pub none_in : {E : Type 0} (words : Result (Vec (String Global)) E) (error : E) → words ≡ Err error → command_in words ≡ None

@@ -5,6 +5,7 @@ pub mod Statuses
 pub mod Outside
 pub mod Outputs
 pub mod Performed
+pub mod Ended
 pub mod Taken
 pub mod Once
 pub mod Upgrade

@@ -7,7 +7,7 @@ ghost use Rattle.nav_serve.specs.Outside.{seen};
 ghost use Rattle.nav_serve.specs.Headline.{KeepsAlone, refuses, used_by};
 
 use crate::running::run;
-use crate::words::command_of;
+use crate::words::command_or_status;
 use graph_nodes::Steps;
 use nav_demo::trees_have_one_summary;
 use nav_io::{Door, House, Sink, Source};
@@ -66,11 +66,8 @@ where
         Ok(words) => words.as_slice(),
         Err(error) => return status_without_words(error.kind()),
     };
-    let Ok(command) = command_of(alloc, words) else {
-        return Halt::NoMemory.status();
-    };
-    if command.is_none() {
-        return BAD_WORDS;
+    if let Err(status) = command_or_status(alloc, words) {
+        return status;
     }
     let Ok(mut board) = PlainBoard::new(alloc) else {
         return Halt::NoMemory.status();
@@ -87,7 +84,9 @@ where
 
 /// Words that can't be had for another reason than memory aren't UTF-8, and so no command.
 fn status_without_words(kind: ErrorKind) -> u8
-    ensures { IsTrue (refuses result) }
+    ensures memory { kind ≡ ErrorKind.OutOfMemory → result ≡ 5 }
+    ensures bad { (kind ≡ ErrorKind.OutOfMemory → ⊥) → result ≡ 2 }
+    ensures status { IsTrue (refuses result) }
 {
     match kind {
         ErrorKind::OutOfMemory => Halt::NoMemory.status(),

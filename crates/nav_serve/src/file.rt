@@ -1,11 +1,11 @@
-ghost use Rattle.std.specs.Prelude.{◌≡◌, ℕ, List, Option, Result, Ok, Err};
+ghost use Rattle.std.specs.Prelude.{◌≡◌, ℕ, List, Option, Result, Ok, Err, IfOk, OnErr};
 ghost use Rattle.std.specs.Option.{option_copied};
 ghost use Rattle.nav_proto.specs.declared.reply.Reply.TheVariants.{BadFile};
 ghost use Rattle.nav_serve.specs.Files.{graph_line};
 ghost use Rattle.nav_serve.specs.Refused.{AnswersAs, parts};
 
 use graph_nodes::FileGraph;
-use index_gate::{ReadFault, read_document};
+use index_gate::{FileFault, ReadFault, read_document};
 use nav_proto::{FileError, Reply, ReplyText};
 use nav_session::{Halt, file_error};
 use std::alloc::{AllocError, Global};
@@ -47,6 +47,7 @@ impl From<AllocError> for Refused {
 
 /// The graph of the line, or the reply that refuses it. The line is read as a document of that path, whose
 /// ending says that it is a graph file.
+#[tactic(auto, using(crate::proofs::Told::refuses_file))]
 pub fn graph_line(alloc: Global, path: &str, line: Option<&[u8]>) -> Result<FileGraph, Refused>
     ensures { AnswersAs parts result (graph_line path.now (option_copied line.entry)) }
 {
@@ -55,8 +56,18 @@ pub fn graph_line(alloc: Global, path: &str, line: Option<&[u8]>) -> Result<File
     };
     match read_document(alloc, path, bytes) {
         Ok(graph) => Ok(graph),
-        Err(ReadFault::NoMemory) => Err(Refused::Halt(Halt::NoMemory)),
-        Err(ReadFault::File(fault)) => refuse(alloc, path, file_error(fault)),
+        Err(fault) => refuse(alloc, path, file_error(fault_of(fault)?)),
+    }
+}
+
+/// The fault of the document; the one error is want of memory.
+fn fault_of(fault: ReadFault) -> Result<FileFault, AllocError>
+    ensures file { IfOk result (λ file. fault ≡ ReadFault.File file) }
+    ensures memory { OnErr result (fault ≡ ReadFault.NoMemory) }
+{
+    match fault {
+        ReadFault::File(fault) => Ok(fault),
+        ReadFault::NoMemory => Err(AllocError),
     }
 }
 

@@ -8,11 +8,10 @@ ghost use Rattle.nav_serve.specs.Headline.{Keeps, used_by};
 
 use crate::session::{run_demo, run_editor, run_session};
 use crate::tasks::{Task, perform};
-use crate::words::{Command, command_of};
+use crate::words::{Command, command_or_status};
 use graph_nodes::Steps;
 use nav_doors::serve_house;
 use nav_io::{Door, House, Sink, Source};
-use nav_session::{BAD_WORDS, Halt};
 use std::alloc::Global;
 use std::sync::Wait;
 use std::sync::ledger::Ledger;
@@ -68,24 +67,19 @@ where
     ensures unused_steps { (used_by (command_of (texts words.now))).steps ≡ false
         → steps.new ≡ steps.old }
 {
-    let Ok(command) = command_of(alloc, words) else {
-        return Halt::NoMemory.status();
-    };
-    match command {
-        Some(Command::Once) => perform(Task::Once, alloc, source, sink),
-        Some(Command::Upgrade) => perform(Task::Upgrade, alloc, source, sink),
-        Some(Command::Run) => run_session(rt, alloc, source, sink, board, steps),
-        Some(Command::Lsp) => run_editor(rt, alloc, source, sink, board, steps),
-        Some(Command::Demo { files, start }) => run_demo(
-            rt, alloc, files, start, sink, board, steps,
-        ),
-        Some(
+    match command_or_status(alloc, words) {
+        Ok(Command::Once) => perform(Task::Once, alloc, source, sink),
+        Ok(Command::Upgrade) => perform(Task::Upgrade, alloc, source, sink),
+        Ok(Command::Run) => run_session(rt, alloc, source, sink, board, steps),
+        Ok(Command::Lsp) => run_editor(rt, alloc, source, sink, board, steps),
+        Ok(Command::Demo { files, start }) => run_demo(rt, alloc, files, start, sink, board, steps),
+        Ok(
             Command::Serve {
                 port,
                 doors,
                 connections,
             },
         ) => serve_house(rt, alloc, house, port, doors, connections),
-        None => BAD_WORDS,
+        Err(status) => status,
     }
 }

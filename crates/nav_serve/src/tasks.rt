@@ -2,6 +2,7 @@
 ghost use Rattle.std.specs.Prelude.{◌≡◌, ◌≤◌, ℕ, IsTrue, Err};
 ghost use Rattle.nav_io.specs.Faults.{HasRisen};
 ghost use Rattle.nav_session.specs.declared.halt.Halt.TheVariants as halt;
+ghost use Rattle.nav_serve.specs.Ended.{status_after};
 ghost use Rattle.nav_serve.specs.Outside.{HasCause, HasNoFault, seen};
 ghost use Rattle.nav_serve.specs.Performed.{DoesTask, EndsTask, task_ends};
 ghost use Rattle.nav_serve.specs.Serving.{AnswersText, Serves};
@@ -41,7 +42,14 @@ pub fn perform<S: Source, K: Sink>(task: Task, alloc: Global, source: &mut S, si
         → EndsTask task (S.left source.old) result }
     ensures statuses { IsTrue (task_ends result) }
 {
-    match serve(task, alloc, source, sink) {
+    status_of(serve(task, alloc, source, sink))
+}
+
+// The status where the task was done, or the one that tells why it wasn't.
+fn status_of(served: Result<(), Halt>) -> u8
+    ensures { result ≡ status_after served }
+{
+    match served {
         Ok(()) => ANSWERED,
         Err(halt) => halt.status(),
     }

@@ -1,13 +1,15 @@
-ghost use Rattle.std.specs.Prelude.{◌≡◌, None, IfOk};
+ghost use Rattle.std.specs.Prelude.{◌≡◌, ◌⊎◌, None, Some, IfOk, IfErr};
 ghost use Rattle.std.specs.List.{list_any};
 ghost use Rattle.std.specs.String.{string_bytes};
 ghost use Rattle.clap.specs.Words.{found_of, rows_of, subcommand_rows_of};
 ghost use Rattle.nav_serve.specs.CommandLine.{chosen, chosen_of, has_hyphen, number_at};
+ghost use Rattle.nav_serve.specs.Ended.{or_status};
 ghost use Rattle.nav_serve.specs.Words.{command_named, command_of, demo_of, number_of, serve_of, spelled, with_digit, texts};
 
 use crate::parser::command_line;
 use clap::ArgMatches;
 use clap::error::ErrorKind;
+use nav_session::{BAD_WORDS, Halt};
 use std::alloc::{AllocError, Global};
 
 /// A command of the program.
@@ -47,6 +49,27 @@ pub fn command_of(alloc: Global, words: &[String]) -> Result<Option<Command>, Al
     match command_line(alloc)?.try_get_matches_from(words) {
         Ok(matches) => Ok(chosen_of(&matches)),
         Err(error) => refused(error.kind()),
+    }
+}
+
+/// The command that the words are, or the status that tells why there is none: 2 where they are no
+/// command, and 5 where memory is refused before they are read.
+pub(crate) fn command_or_status(alloc: Global, words: &[String]) -> Result<Command, u8>
+    ensures command { IfOk result (λ command. command_of (texts words.now) ≡ Some command) }
+    ensures none { IfErr result
+        (λ status. ((status ≡ 2) × (command_of (texts words.now) ≡ None)) ⊎ (status ≡ 5)) }
+{
+    or_status(command_of(alloc, words))
+}
+
+/// The command that was found in words, or the status that tells why there is none.
+fn or_status(found: Result<Option<Command>, AllocError>) -> Result<Command, u8>
+    ensures { result ≡ or_status found }
+{
+    match found {
+        Ok(Some(command)) => Ok(command),
+        Ok(None) => Err(BAD_WORDS),
+        Err(_) => Err(Halt::NoMemory.status()),
     }
 }
 

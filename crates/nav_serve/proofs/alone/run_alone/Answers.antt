@@ -3,7 +3,7 @@ use Rattle.std.proofs.Common.{ap, refl}
 use Rattle.nav_doors.specs.Connections.{outside}
 use Rattle.nav_doors.specs.Houses.{house_with}
 use Rattle.nav_serve.specs.Words.{command_in, command_of, texts}
-use Rattle.nav_serve.proofs.NoBoard.{found_in, none_in, none_of, no_words, refused}
+use Rattle.nav_serve.proofs.NoBoard.{found_in, none_in, no_words, refused, without}
 use Rattle.nav_serve.proofs.Given.{keeps_alone}
 use Rattle.nav_serve.proofs.alone.run_alone.Goals as goal
 
@@ -13,31 +13,23 @@ returns-in-Err-clause-keeps g c =
     let house = house_with (g.H.House.gave c.args.house.now) (g.H.House.got_back c.args.house.now) (g.H.House.faults c.args.house.now) in
     no_words o (command_in c.args.words.now) (g.S.Source.left c.args.source.now) (g.K.Sink.held c.args.sink.now)
     (g.S.Source.faults c.args.source.now) (g.K.Sink.faults c.args.sink.now) house c.status_without_words.result
-    (none_in c.args.words.now c.in-Err.error (cc (c.in-Err.is))) c.status_without_words.ensures
+    (none_in c.args.words.now c.in-Err.error (cc (c.in-Err.is))) c.status_without_words.ensures.status
 
-pub returns-in_default-clause-keeps : goal.returns-in_default-clause-keeps
-returns-in_default-clause-keeps g c =
+pub returns-in-Err-command_or_status-clause-keeps : goal.returns-in-Err-command_or_status-clause-keeps
+returns-in-Err-command_or_status-clause-keeps g c =
     let o = outside g.H.D.Door.gave g.H.D.Door.got_back g.H.D.Door.faults g.H.D.S.Source.left g.H.D.S.Source.faults g.H.D.K.Sink.held g.H.D.K.Sink.faults in
     let house = house_with (g.H.House.gave c.args.house.now) (g.H.House.got_back c.args.house.now) (g.H.House.faults c.args.house.now) in
-    refused o (command_in c.args.words.now) (g.S.Source.left c.args.source.now) (g.K.Sink.held c.args.sink.now)
-    (g.S.Source.faults c.args.source.now) (g.K.Sink.faults c.args.sink.now) house c.status.result c.status.ensures
-
-pub returns-then-is_none-clause-keeps : goal.returns-then-is_none-clause-keeps
-returns-then-is_none-clause-keeps g c =
-    let o = outside g.H.D.Door.gave g.H.D.Door.got_back g.H.D.Door.faults g.H.D.S.Source.left g.H.D.S.Source.faults g.H.D.K.Sink.held g.H.D.K.Sink.faults in
-    let house = house_with (g.H.House.gave c.args.house.now) (g.H.House.got_back c.args.house.now) (g.H.House.faults c.args.house.now) in
-    no_words o (command_in c.args.words.now) (g.S.Source.left c.args.source.now) (g.K.Sink.held c.args.sink.now)
-    (g.S.Source.faults c.args.source.now) (g.K.Sink.faults c.args.sink.now) house 2
-    (none_of c.in-Ok-command_of.command (command_in c.args.words.now) c.is_none.result (cc (c.is_none.ensures)) (cc (c.if-is_none.true))
-    (found_in c.args.words.now c.in-Ok.words c.as_slice-words.result.now c.in-Ok-command_of.command (cc (c.in-Ok.is)) (cc (c.as_slice-words.ensures.value)) c.in-Ok-command_of.ensures))
-    refl
+    without o (command_of (texts c.as_slice-words.result.now)) (command_in c.args.words.now) (g.S.Source.left c.args.source.now) (g.K.Sink.held c.args.sink.now)
+    (g.S.Source.faults c.args.source.now) (g.K.Sink.faults c.args.sink.now) house c.in-Err-command_or_status.status
+    (found_in c.args.words.now c.in-Ok.words c.as_slice-words.result.now (command_of (texts c.as_slice-words.result.now)) (cc (c.in-Ok.is)) (cc (c.as_slice-words.ensures.value)) refl)
+    c.in-Err-command_or_status.ensures.none
 
 pub returns-in_default-new-clause-keeps : goal.returns-in_default-new-clause-keeps
 returns-in_default-new-clause-keeps g c =
     let o = outside g.H.D.Door.gave g.H.D.Door.got_back g.H.D.Door.faults g.H.D.S.Source.left g.H.D.S.Source.faults g.H.D.K.Sink.held g.H.D.K.Sink.faults in
     let house = house_with (g.H.House.gave c.args.house.now) (g.H.House.got_back c.args.house.now) (g.H.House.faults c.args.house.now) in
     refused o (command_in c.args.words.now) (g.S.Source.left c.args.source.now) (g.K.Sink.held c.args.sink.now)
-    (g.S.Source.faults c.args.source.now) (g.K.Sink.faults c.args.sink.now) house c.status-in_default-new.result c.status-in_default-new.ensures
+    (g.S.Source.faults c.args.source.now) (g.K.Sink.faults c.args.sink.now) house c.status.result c.status.ensures
 
 pub returns-clause-keeps : goal.returns-clause-keeps
 returns-clause-keeps g c =
