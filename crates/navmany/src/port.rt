@@ -23,7 +23,8 @@ const LINK: Token = Token(1);
 /// How many events are taken at a time.
 const EVENTS: usize = 64;
 
-/// A listener at a port of 127.0.0.1, and what it and its links are registered with. Contracts see its faults and waits.
+/// A listener at a port of 127.0.0.1, and what it and its links are registered with. Contracts see its faults, its waits and
+/// how often it has settled.
 #[derive(Drop)]
 pub struct MioPort<'r> {
     poll: Poll,
@@ -34,6 +35,7 @@ pub struct MioPort<'r> {
     again: &'r Cell<bool>,
     faults: u64,
     waits: u64,
+    settles: u64,
 }
 
 impl<'r> MioPort<'r> {
@@ -59,6 +61,7 @@ impl<'r> MioPort<'r> {
             again,
             faults: 0,
             waits: 0,
+            settles: 0,
         })
     }
 }
@@ -92,6 +95,8 @@ impl<'r> Port for MioPort<'r> {
 
     ghost waits = { λ port. port.waits };
 
+    ghost settles = { λ port. port.settles };
+
     fn accept(&mut self) -> Result<Arrived<MioLink<'r>>, Failed> {
         match next_stream(&self.poll, &self.listener) {
             Ok(stream) => Ok(Arrived::Link(MioLink::new(stream, self.again))),
@@ -116,6 +121,7 @@ impl<'r> Port for MioPort<'r> {
     }
 
     fn settle(&mut self) -> Result<(), Failed> {
+        self.settles = self.settles.saturating_add(1);
         match self.poll.poll(&mut self.events, longest_wait(self.again)) {
             Ok(()) => Ok(()),
             Err(error) => {

@@ -111,7 +111,7 @@ length_over [] = refl
 length_over (c ∷ cs) = omega (arith, length_over cs)
 
 -- as many links came back as sessions are over
-out_now : {P B K : Type 0} (o : Outside P B K) (call : Call P B) (cut wanted : ℕ) (port : P) (places : List (Place B K)) (u : IsUnderWay o call cut wanted port places)
+pub out_now : {P B K : Type 0} (o : Outside P B K) (call : Call P B) (cut wanted : ℕ) (port : P) (places : List (Place B K)) (u : IsUnderWay o call cut wanted port places)
     → length u.given ≡ length (links_back u.over) + length (open_links places)
 out_now o call cut wanted port places u =
     let e = length_permutation _ _ u.all_back in

@@ -21,9 +21,9 @@ use Rattle.poll_many.proofs.PlaceLists.{told_nothing}
 use Rattle.poll_many.proofs.PlaceSteps.{other}
 use Rattle.poll_many.proofs.PortServed.{AllRestAt, standing_rests, boards_len, board_there, none_open, stands_in}
 
-module _ {P K : Type 0} (gave got_back : P → Option (List K)) (faults : P → ℕ) (left held : K → Option (List ℕ)) (counts : K → Counts) where
+module _ {P K : Type 0} (gave got_back : P → Option (List K)) (faults settles : P → ℕ) (left held : K → Option (List ℕ)) (counts : K → Counts) where
   abbrev o : Outside P Holder K
-  o = outside gave got_back faults left held counts (λ (h : Holder). h.seat) (λ (h : Holder). h.log) (λ (h : Holder). h.pin)
+  o = outside gave got_back faults settles left held counts (λ (h : Holder). h.seat) (λ (h : Holder). h.log) (λ (h : Holder). h.pin)
 
   drop_mid : (a b c : Bool) → (a || false || b || c) ≡ true → (a || b || c) ≡ true
   drop_mid true b c e = refl

@@ -6,6 +6,7 @@ use Rattle.nav_io.specs.Told.{append_told}
 use Rattle.shared_board.specs.Seats.{Holder, AreNewcomers, AreSeats, newcomer}
 use Rattle.poll_many.specs.Connections.{Outside, ends_port}
 use Rattle.poll_many.specs.Ports.{ServesPort}
+use Rattle.poll_many.specs.Settling.{SettlesBehindRounds}
 use Rattle.poll_many.specs.Yards.{Yard, ServesYard}
 
 -- seats that have seen nothing are all seats of their board
@@ -20,9 +21,9 @@ newcomers_are_seats count seats are = record {
 -- a port was given out, its links were served, and it went back
 pub served_one : {P K : Type 0} (o : Outside P Holder K) (count most : ℕ) (yard yard' : Yard P) (port port' : P) (seats : List Holder) (status : ℕ)
     → yard'.gave ≡ append_told yard.gave (port ∷ []) → yard'.got_back ≡ append_told yard.got_back (port' ∷ [])
-    → AreNewcomers count seats → ServesPort o most port port' seats status → yard.faults ≤ yard'.faults → ServesYard o count most yard yard' status
-served_one o count most yard yard' port port' seats status gave back new served le = record {
-  served = inr (record { port = port; port' = port'; gave = gave; got_back = back; seats = seats; new = new; served = served });
+    → AreNewcomers count seats → ServesPort o most port port' seats status → SettlesBehindRounds o port port' → yard.faults ≤ yard'.faults → ServesYard o count most yard yard' status
+served_one o count most yard yard' port port' seats status gave back new served settled le = record {
+  served = inr (record { port = port; port' = port'; gave = gave; got_back = back; seats = seats; new = new; served = served; settled = settled });
   ends = served.ends;
   count_stays = le;
 }

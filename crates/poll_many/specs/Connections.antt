@@ -17,6 +17,7 @@ pub record Outside (P B K : Type 0) : Type 0 where
   pub gave : P → Option (List K)
   pub got_back : P → Option (List K)
   pub faults : P → ℕ
+  pub settles : P → ℕ
   pub left : K → Option (List ℕ)
   pub held : K → Option (List ℕ)
   pub counts : K → Counts
@@ -25,12 +26,13 @@ pub record Outside (P B K : Type 0) : Type 0 where
   pub pin : B → ℕ
 
 -- what is read of them, by these functions
-abbrev pub outside : {P B K : Type 0} → (P → Option (List K)) → (P → Option (List K)) → (P → ℕ)
+abbrev pub outside : {P B K : Type 0} → (P → Option (List K)) → (P → Option (List K)) → (P → ℕ) → (P → ℕ)
     → (K → Option (List ℕ)) → (K → Option (List ℕ)) → (K → Counts) → (B → ℕ) → (B → List Entry) → (B → ℕ) → Outside P B K
-outside gave got_back faults left held counts seat log pin = record {
+outside gave got_back faults settles left held counts seat log pin = record {
   gave = gave;
   got_back = got_back;
   faults = faults;
+  settles = settles;
   left = left;
   held = held;
   counts = counts;

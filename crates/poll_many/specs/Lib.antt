@@ -1,8 +1,10 @@
 pub mod Arrivals
 pub mod MemPorts
 pub mod Connections
+pub mod Settling
 pub mod Ports
 pub mod Yards
 pub mod Places
+pub mod Waiting
 pub mod Rounds
 pub mod ManyWords

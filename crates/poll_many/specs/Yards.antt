@@ -6,6 +6,7 @@ use Rattle.nav_io.specs.Told.{append_told}
 use Rattle.shared_board.specs.Seats.{Holder, AreNewcomers}
 use Rattle.poll_many.specs.Connections.{Outside, ends_port}
 use Rattle.poll_many.specs.Ports.{ServesPort}
+use Rattle.poll_many.specs.Settling.{SettlesBehindRounds}
 
 -- what is seen of a yard at one moment: the ports that it gave out and those that it got back, where it tells them, and how
 -- many faults it has had
@@ -33,6 +34,7 @@ pub record ServesOne {P K : Type 0} (o : Outside P Holder K) (count most : ℕ) 
   pub seats : List Holder
   pub new : AreNewcomers count seats
   pub served : ServesPort o most port port' seats status
+  pub settled : SettlesBehindRounds o port port'
 
 -- what was done for a yard by so many seats and for at most so many links
 pub record ServesYard {P K : Type 0} (o : Outside P Holder K) (count most : ℕ) (yard yard' : Yard P) (status : ℕ) : Type 0 where

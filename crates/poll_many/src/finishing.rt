@@ -3,6 +3,7 @@ ghost use Rattle.std.specs.Prelude.{◌≡◌, ◌<◌, length, vec_len, if◌th
 ghost use Rattle.std.specs.List.{list_any};
 ghost use Rattle.futures.specs.Task.{Keeps};
 ghost use Rattle.poll_many.specs.Connections.{outside};
+ghost use Rattle.poll_many.specs.Settling.{SettlesBehindRounds};
 ghost use Rattle.poll_many.specs.Places.{is_lost};
 ghost use Rattle.poll_many.specs.Rounds.{IsUnderWay, AreFinished, AreNamed, ServesAll};
 
@@ -41,9 +42,12 @@ where
     P::K: Drop,
     requires some { 0 < vec_len seats.old }
     requires names { AreNamed B.seat seats.old.items }
-    ensures served { ServesAll (outside P.gave P.got_back P.faults P.K.left P.K.held P.K.counts
+    ensures served { ServesAll (outside P.gave P.got_back P.faults P.settles P.K.left P.K.held P.K.counts
         B.seat B.log B.pin_at)
         connections port.old port.new seats.old.items seats.new.items result }
+    ensures settled { SettlesBehindRounds (outside P.gave P.got_back P.faults P.settles P.K.left P.K.held P.K.counts
+        B.seat B.log B.pin_at)
+        port.old port.new }
     ensures kept { Keeps cx.old cx.new }
 {
     let call = Call {
@@ -73,11 +77,14 @@ where
     P::K: Drop,
     requires some { 0 < length places.old }
     requires at_first { call.now.port.value ≡ port.old }
-    requires under_way { IsUnderWay (outside P.gave P.got_back P.faults P.K.left P.K.held P.K.counts
+    requires under_way { IsUnderWay (outside P.gave P.got_back P.faults P.settles P.K.left P.K.held P.K.counts
         B.seat B.log B.pin_at) call.now 0 call.now.most port.old places.old }
-    ensures finished { AreFinished (outside P.gave P.got_back P.faults P.K.left P.K.held P.K.counts
+    ensures finished { AreFinished (outside P.gave P.got_back P.faults P.settles P.K.left P.K.held P.K.counts
         B.seat B.log B.pin_at) call.now port.new places.new result }
     ensures len { length places.new ≡ length places.old }
+    ensures settled { SettlesBehindRounds (outside P.gave P.got_back P.faults P.settles P.K.left P.K.held P.K.counts
+        B.seat B.log B.pin_at)
+        call.now.port.value port.new }
     ensures kept { Keeps cx.old cx.new }
 {
     let mut wanted = call.most;

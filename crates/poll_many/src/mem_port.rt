@@ -99,6 +99,8 @@ impl Port for MemPort {
 
     ghost waits = { λ port. port.waits };
 
+    ghost settles = { λ port. port.settles };
+
     fn accept(&mut self) -> Result<Arrived<MemLink>, Failed>
         ensures given { Some self.new.links.gave
             ≡ append_told (Some self.old.links.gave) (links_in result) }
@@ -107,6 +109,7 @@ impl Port for MemPort {
             (length (links_in result)) }
         ensures count { self.old.faults ≤ self.new.faults }
         ensures wait_count { self.old.waits ≤ self.new.waits }
+        ensures unsettled { self.new.settles ≡ self.old.settles }
         ensures cause { OnErr result (HasRisen self.old.faults self.new.faults) }
         ensures not_yet { result ≡ Ok Arrived.NotYet → HasRisen self.old.waits self.new.waits }
 
@@ -147,6 +150,7 @@ impl Port for MemPort {
         ensures no_more_back { HasOut (Some self.new.links.gave) (Some self.new.links.back) 0 }
         ensures count { self.old.faults ≤ self.new.faults }
         ensures wait_count { self.old.waits ≤ self.new.waits }
+        ensures unsettled { self.new.settles ≡ self.old.settles }
 
         // Nothing else changes.
         ensures after { self.new
@@ -161,6 +165,7 @@ impl Port for MemPort {
         ensures no_more_back { HasOut (Some self.new.links.gave) (Some self.new.links.back) 0 }
         ensures count { self.old.faults ≤ self.new.faults }
         ensures wait_count { self.old.waits ≤ self.new.waits }
+        ensures settled { self.new.settles ≡ counted self.old.settles }
         ensures cause { OnErr result (HasRisen self.old.faults self.new.faults) }
 
         // It fails as it was told to, and waits for nobody.

@@ -1,13 +1,14 @@
 //! A place for one session at a time: a seat with its desk, or a session that has both.
-ghost use Rattle.std.specs.Prelude.{◌≡◌, ◌≤◌, ◌==◌, true, false, Some, None, IsTrue, if◌then◌else◌};
+ghost use Rattle.std.specs.Prelude.{◌≡◌, ◌≢◌, ◌≤◌, ◌==◌, true, false, Some, None, IsTrue, if◌then◌else◌};
 ghost use Rattle.futures.specs.Poll.{IfReady, OnPending};
 ghost use Rattle.futures.specs.Task.{Keeps};
 ghost use Rattle.nav_io.specs.Faults.{HasRisen};
 ghost use Rattle.nav_io.specs.Told.{HasOut};
 ghost use Rattle.nav_session.specs.Serving.{ends_session};
 ghost use Rattle.nav_poll.specs.Links.{NoneFell};
-ghost use Rattle.nav_poll.specs.Polling.{KeepsStarts, seen};
+ghost use Rattle.nav_poll.specs.Polling.{KeepsStarts, WaitsForLink, seen};
 ghost use Rattle.poll_many.specs.Connections.{outside};
+ghost use Rattle.poll_many.specs.Waiting.{WaitsAt};
 ghost use Rattle.poll_many.specs.Places.{IsOpen, IsStanding, BeginsWith, TakesLink, TakesTurn, Closes, is_busy};
 
 use crate::port::{Arrived, Port};
@@ -80,17 +81,19 @@ pub(crate) fn take_link<B: Pins + Drop, P: Port>(
 ) -> Asked
 where
     P::K: Drop,
-    requires standing { IsStanding (outside P.gave P.got_back P.faults P.K.left P.K.held P.K.counts
+    requires standing { IsStanding (outside P.gave P.got_back P.faults P.settles P.K.left P.K.held P.K.counts
         B.seat B.log B.pin_at) place.old }
-    ensures takes { TakesLink (outside P.gave P.got_back P.faults P.K.left P.K.held P.K.counts
+    ensures takes { TakesLink (outside P.gave P.got_back P.faults P.settles P.K.left P.K.held P.K.counts
         B.seat B.log B.pin_at) place.old place.new port.old port.new result }
     ensures failed { result ≡ Asked.Failed → HasRisen (P.faults port.old) (P.faults port.new) }
+    ensures same { result ≢ Asked.Given → place.new ≡ place.old }
     ensures count { P.faults port.old ≤ P.faults port.new }
+    ensures unsettled { P.settles port.new ≡ P.settles port.old }
 {
     match mem::replace(place, Place::Away) {
         Place::Free(desk, board) => ask_port(alloc, place, port, desk, board),
         other => {
-            *place = other;
+            put(place, other);
             Asked::Unasked
         }
     }
@@ -106,10 +109,13 @@ fn ask_port<B: Pins + Drop, P: Port>(
 ) -> Asked
 where
     P::K: Drop,
-    ensures takes { TakesLink (outside P.gave P.got_back P.faults P.K.left P.K.held P.K.counts
+    requires empty { place.old ≡ Place.Away }
+    ensures takes { TakesLink (outside P.gave P.got_back P.faults P.settles P.K.left P.K.held P.K.counts
         B.seat B.log B.pin_at) (Place.Free desk board) place.new port.old port.new result }
     ensures failed { result ≡ Asked.Failed → HasRisen (P.faults port.old) (P.faults port.new) }
+    ensures same { result ≢ Asked.Given → place.new ≡ Place.Free desk board }
     ensures count { P.faults port.old ≤ P.faults port.new }
+    ensures unsettled { P.settles port.new ≡ P.settles port.old }
 {
     match port.accept() {
         Ok(Arrived::Link(link)) => {
@@ -117,11 +123,11 @@ where
             Asked::Given
         }
         Ok(Arrived::NotYet) => {
-            *place = Place::Free(desk, board);
+            put(place, Place::Free(desk, board));
             Asked::NotYet
         }
         Err(Failed) => {
-            *place = Place::Free(desk, board);
+            put(place, Place::Free(desk, board));
             Asked::Failed
         }
     }
@@ -138,28 +144,43 @@ fn begin<B: Pins + Drop, P: Port>(
 )
 where
     P::K: Drop,
+    requires empty { place.old ≡ Place.Away }
     requires out { HasOut (P.gave port.old) (P.got_back port.old) 1 }
-    ensures begins { BeginsWith (outside P.gave P.got_back P.faults P.K.left P.K.held P.K.counts
+    ensures begins { BeginsWith (outside P.gave P.got_back P.faults P.settles P.K.left P.K.held P.K.counts
         B.seat B.log B.pin_at) board link place.new port.old port.new }
     ensures count { P.faults port.old ≤ P.faults port.new }
+    ensures unsettled { P.settles port.new ≡ P.settles port.old }
 {
     let given = Snapshot::of(&link);
     let before = Snapshot::of(&board);
     match Polled::start(alloc, desk, board, link) {
         Ok(polled) => {
-            *place = Place::Busy(Open {
+            let session = Open {
                 given,
                 before,
                 polled,
-            });
+            };
+            put(place, Place::Busy(session));
         }
         Err(parts) => {
-            let NotStarted { board, link, .. } = parts;
+            let NotStarted { desk, board, link } = parts;
             port.done(link);
-            *place = Place::Lost(board);
+            let_go(desk);
+            put(place, Place::Lost(board));
         }
     }
 }
+
+/// Puts this at the place, where nothing stands, so that nothing is dropped.
+fn put<B: Pins + Drop, K: Drop>(place: &mut Place<B, K>, what: Place<B, K>)
+    requires empty { place.old ≡ Place.Away }
+    ensures { place.new ≡ what }
+{
+    mem::forget(mem::replace(place, what));
+}
+
+/// Drops a desk. It is a function of its own since the drop of each of its parts is proved anew wherever one is dropped.
+pub(crate) fn let_go(_desk: Desk) {}
 
 /// Polls the session of the place, if it has one. One that ends gives its link back, and its seat is free again, or lost
 /// where the session was refused memory.
@@ -172,18 +193,20 @@ pub(crate) fn take_turn<R: Threads + Sync, B: Commits<R> + Drop, P: Port, L: Led
 ) -> Turn
 where
     P::K: Drop,
-    requires standing { IsStanding (outside P.gave P.got_back P.faults P.K.left P.K.held P.K.counts
+    requires standing { IsStanding (outside P.gave P.got_back P.faults P.settles P.K.left P.K.held P.K.counts
         B.seat B.log B.pin_at) place.old }
     requires out { is_busy place.old ≡ true → HasOut (P.gave port.old) (P.got_back port.old) 1 }
-    ensures takes { TakesTurn (outside P.gave P.got_back P.faults P.K.left P.K.held P.K.counts
+    ensures takes { TakesTurn (outside P.gave P.got_back P.faults P.settles P.K.left P.K.held P.K.counts
         B.seat B.log B.pin_at) place.old place.new port.old port.new result }
+    ensures waits { result ≡ Turn.Waits → WaitsAt P.K.counts place.old place.new }
     ensures count { P.faults port.old ≤ P.faults port.new }
+    ensures unsettled { P.settles port.new ≡ P.settles port.old }
     ensures kept { Keeps cx.old cx.new }
 {
     match mem::replace(place, Place::Away) {
         Place::Busy(session) => poll_open(rt, cx, place, port, session, steps),
         other => {
-            *place = other;
+            put(place, other);
             Turn::Waits
         }
     }
@@ -200,12 +223,15 @@ fn poll_open<R: Threads + Sync, B: Commits<R> + Drop, P: Port, L: Ledger>(
 ) -> Turn
 where
     P::K: Drop,
-    requires standing { IsOpen (outside P.gave P.got_back P.faults P.K.left P.K.held P.K.counts
+    requires standing { IsOpen (outside P.gave P.got_back P.faults P.settles P.K.left P.K.held P.K.counts
         B.seat B.log B.pin_at) session }
+    requires empty { place.old ≡ Place.Away }
     requires out { HasOut (P.gave port.old) (P.got_back port.old) 1 }
-    ensures takes { TakesTurn (outside P.gave P.got_back P.faults P.K.left P.K.held P.K.counts
+    ensures takes { TakesTurn (outside P.gave P.got_back P.faults P.settles P.K.left P.K.held P.K.counts
         B.seat B.log B.pin_at) (Place.Busy session) place.new port.old port.new result }
+    ensures waits { result ≡ Turn.Waits → WaitsAt P.K.counts (Place.Busy session) place.new }
     ensures count { P.faults port.old ≤ P.faults port.new }
+    ensures unsettled { P.settles port.new ≡ P.settles port.old }
     ensures kept { Keeps cx.old cx.new }
 {
     let Open {
@@ -215,17 +241,18 @@ where
     } = session;
     match poll_once(rt, cx, &mut polled, steps) {
         Poll::Pending => {
-            *place = Place::Busy(Open {
+            let session = Open {
                 given,
                 before,
                 polled,
-            });
+            };
+            put(place, Place::Busy(session));
             Turn::Waits
         }
         Poll::Ready(status) => {
             let (desk, board, link) = polled.close();
             port.done(link);
-            *place = rest_of(desk, board, status);
+            put(place, rest_of(desk, board, status));
             Turn::Ended
         }
     }
@@ -236,6 +263,7 @@ fn rest_of<B: Pins + Drop, K>(desk: Desk, board: B, status: u8) -> Place<B, K>
     ensures { result ≡ if status == 5 then Place.Lost board else Place.Free desk board }
 {
     if status == NO_MEMORY {
+        let_go(desk);
         return Place::Lost(board);
     }
     Place::Free(desk, board)
@@ -251,7 +279,9 @@ fn poll_once<R: Threads + Sync, B: Commits<R>, K: Link, L: Ledger>(
     ensures stands { KeepsStarts (seen B.seat B.log B.pin_at K.left K.held polled.old)
         (seen B.seat B.log B.pin_at K.left K.held polled.new) }
     ensures seat { B.seat polled.new.board ≡ B.seat polled.old.board }
-    ensures pending { OnPending result (polled.new.ended ≡ None) }
+    ensures pending { OnPending result ((polled.new.ended ≡ None)
+        × WaitsForLink (K.counts polled.old.link) (K.counts polled.new.link)
+        (seen B.seat B.log B.pin_at K.left K.held polled.new)) }
     ensures ready { IfReady result (λ status. polled.new.ended ≡ Some status) }
     ensures statuses { IfReady result (λ status. polled.old.ended ≡ None
         → IsTrue (ends_session status)) }
@@ -270,21 +300,22 @@ fn poll_once<R: Threads + Sync, B: Commits<R>, K: Link, L: Ledger>(
 pub(crate) fn close_place<B: Pins + Drop, P: Port>(place: &mut Place<B, P::K>, port: &mut P)
 where
     P::K: Drop,
-    requires standing { IsStanding (outside P.gave P.got_back P.faults P.K.left P.K.held P.K.counts
+    requires standing { IsStanding (outside P.gave P.got_back P.faults P.settles P.K.left P.K.held P.K.counts
         B.seat B.log B.pin_at) place.old }
     requires out { is_busy place.old ≡ true → HasOut (P.gave port.old) (P.got_back port.old) 1 }
-    ensures closes { Closes (outside P.gave P.got_back P.faults P.K.left P.K.held P.K.counts
+    ensures closes { Closes (outside P.gave P.got_back P.faults P.settles P.K.left P.K.held P.K.counts
         B.seat B.log B.pin_at) place.old place.new port.old port.new }
     ensures rests { is_busy place.new ≡ false }
     ensures count { P.faults port.old ≤ P.faults port.new }
+    ensures unsettled { P.settles port.new ≡ P.settles port.old }
 {
     match mem::replace(place, Place::Away) {
         Place::Busy(session) => {
             let Open { polled, .. } = session;
             let (desk, board, link) = polled.close();
             port.done(link);
-            *place = Place::Free(desk, board);
+            put(place, Place::Free(desk, board));
         }
-        other => *place = other,
+        other => put(place, other),
     }
 }

@@ -1,6 +1,6 @@
 //! Where links come from: a port gives them out, and takes them back.
 ghost use Rattle.std.specs.Prelude.{◌≡◌, ◌≤◌, ℕ, List, [], ◌∷◌, length, Option, Ok, OnErr};
-ghost use Rattle.nav_io.specs.Faults.{HasRisen};
+ghost use Rattle.nav_io.specs.Faults.{HasRisen, counted};
 ghost use Rattle.nav_io.specs.Told.{append_told, HasOut};
 ghost use Rattle.poll_many.specs.Arrivals.{links_in};
 
@@ -19,7 +19,7 @@ pub enum Arrived<K> {
 /// Gives out links, one for each connection, and takes them back. Of its calls `settle` alone waits.
 pub trait Port {
     ghost use Rattle.std.specs.Prelude.{◌≡◌, ◌≤◌, ℕ, List, [], ◌∷◌, length, Option, Ok, OnErr};
-    ghost use Rattle.nav_io.specs.Faults.{HasRisen};
+    ghost use Rattle.nav_io.specs.Faults.{HasRisen, counted};
     ghost use Rattle.nav_io.specs.Told.{append_told, HasOut};
     ghost use Rattle.poll_many.specs.Arrivals.{links_in};
     ghost use Rattle.poll_many.specs.declared.port.Arrived.TheVariants as arrived;
@@ -38,6 +38,9 @@ pub trait Port {
     /// How often no link was there yet. The count stands still at 2^64 - 1.
     ghost waits: { Self → ℕ };
 
+    /// How often it has settled. The count stands still at 2^64 - 1.
+    ghost settles: { Self → ℕ };
+
     /// Gives out the link of the next connection, if one is there.
     ///
     /// `NotYet` comes only where the count of waits rose in this call, `Failed` only where that of faults did.
@@ -48,6 +51,7 @@ pub trait Port {
 
         ensures count { faults self.old ≤ faults self.new }
         ensures wait_count { waits self.old ≤ waits self.new }
+        ensures unsettled { settles self.new ≡ settles self.old }
         ensures cause { OnErr result (HasRisen (faults self.old) (faults self.new)) }
         ensures not_yet { result ≡ Ok arrived.NotYet → HasRisen (waits self.old) (waits self.new) };
 
@@ -58,7 +62,8 @@ pub trait Port {
         ensures given { gave self.new ≡ gave self.old }
         ensures no_more_back { HasOut (gave self.new) (got_back self.new) 0 }
         ensures count { faults self.old ≤ faults self.new }
-        ensures wait_count { waits self.old ≤ waits self.new };
+        ensures wait_count { waits self.old ≤ waits self.new }
+        ensures unsettled { settles self.new ≡ settles self.old };
 
     /// Waits until a connection may be there, or a byte may move on a link that was given out.
     ///
@@ -69,5 +74,6 @@ pub trait Port {
         ensures no_more_back { HasOut (gave self.new) (got_back self.new) 0 }
         ensures count { faults self.old ≤ faults self.new }
         ensures wait_count { waits self.old ≤ waits self.new }
+        ensures settled { settles self.new ≡ counted (settles self.old) }
         ensures cause { OnErr result (HasRisen (faults self.old) (faults self.new)) };
 }

@@ -1,10 +1,11 @@
 //! The rounds in which many sessions are served: links are taken for free seats, then each open session is polled once.
-ghost use Rattle.std.specs.Prelude.{◌≡◌, ◌≤◌, ◌<◌, ◌+◌, ◌||◌, not, true, false, length, OnOk, OnErr};
+ghost use Rattle.std.specs.Prelude.{◌≡◌, ◌≢◌, ◌≤◌, ◌<◌, ◌+◌, ◌||◌, not, true, false, length, Ok, OnOk, OnErr};
 ghost use Rattle.std.specs.List.{list_any};
 ghost use Rattle.futures.specs.Task.{Keeps};
-ghost use Rattle.nav_io.specs.Faults.{HasRisen};
+ghost use Rattle.nav_io.specs.Faults.{HasRisen, counted};
 ghost use Rattle.poll_many.specs.Connections.{outside};
 ghost use Rattle.poll_many.specs.Places.{is_busy, is_free};
+ghost use Rattle.poll_many.specs.Waiting.{GaveNone, OneMoreWaits, AllHaveWaited, SettlesOn};
 ghost use Rattle.poll_many.specs.Rounds.{IsUnderWay, GoesRound, AreOver, NoneBusy, RestBefore, still_wanted};
 
 use crate::call::Call;
@@ -32,11 +33,15 @@ where
     P::K: Drop,
     requires inside { n < length places.old }
     requires some { 0 < wanted.old }
-    requires under_way { IsUnderWay (outside P.gave P.got_back P.faults P.K.left P.K.held P.K.counts
+    requires under_way { IsUnderWay (outside P.gave P.got_back P.faults P.settles P.K.left P.K.held P.K.counts
         B.seat B.log B.pin_at) call.now 0 wanted.old port.old places.old }
-    ensures goes { GoesRound (outside P.gave P.got_back P.faults P.K.left P.K.held P.K.counts
+    ensures goes { GoesRound (outside P.gave P.got_back P.faults P.settles P.K.left P.K.held P.K.counts
         B.seat B.log B.pin_at) call.now wanted.new port.old port.new places.old places.new }
     ensures failed { result ≡ Asked.Failed → HasRisen (P.faults port.old) (P.faults port.new) }
+    ensures none { result ≢ Asked.Given → GaveNone (outside P.gave P.got_back P.faults P.settles P.K.left P.K.held P.K.counts
+        B.seat B.log B.pin_at)
+        port.old port.new places.old places.new }
+    ensures unsettled { P.settles port.new ≡ P.settles port.old }
 {
     let asked = take_link(alloc, &mut places[n], port);
     *wanted = still_wanted(*wanted, asked);
@@ -65,11 +70,15 @@ fn take_links<B: Pins + Drop, P: Port>(
 ) -> Result<bool, Failed>
 where
     P::K: Drop,
-    requires under_way { IsUnderWay (outside P.gave P.got_back P.faults P.K.left P.K.held P.K.counts
+    requires under_way { IsUnderWay (outside P.gave P.got_back P.faults P.settles P.K.left P.K.held P.K.counts
         B.seat B.log B.pin_at) call.now 0 wanted.old port.old places.old }
-    ensures goes { GoesRound (outside P.gave P.got_back P.faults P.K.left P.K.held P.K.counts
+    ensures goes { GoesRound (outside P.gave P.got_back P.faults P.settles P.K.left P.K.held P.K.counts
         B.seat B.log B.pin_at) call.now wanted.new port.old port.new places.old places.new }
     ensures failed { OnErr result (HasRisen (P.faults port.old) (P.faults port.new)) }
+    ensures none { result ≡ Ok false → GaveNone (outside P.gave P.got_back P.faults P.settles P.K.left P.K.held P.K.counts
+        B.seat B.log B.pin_at)
+        port.old port.new places.old places.new }
+    ensures unsettled { P.settles port.new ≡ P.settles port.old }
 {
     let mut any = false;
     for n in 0..places.len() {
@@ -100,10 +109,14 @@ fn take_turn_at<R: Threads + Sync, B: Commits<R> + Drop, P: Port, L: Ledger>(
 where
     P::K: Drop,
     requires inside { n < length places.old }
-    requires under_way { IsUnderWay (outside P.gave P.got_back P.faults P.K.left P.K.held P.K.counts
+    requires under_way { IsUnderWay (outside P.gave P.got_back P.faults P.settles P.K.left P.K.held P.K.counts
         B.seat B.log B.pin_at) call.now 0 wanted port.old places.old }
-    ensures goes { GoesRound (outside P.gave P.got_back P.faults P.K.left P.K.held P.K.counts
+    ensures goes { GoesRound (outside P.gave P.got_back P.faults P.settles P.K.left P.K.held P.K.counts
         B.seat B.log B.pin_at) call.now wanted port.old port.new places.old places.new }
+    ensures waits { result ≡ Turn.Waits → OneMoreWaits (outside P.gave P.got_back P.faults P.settles P.K.left P.K.held P.K.counts
+        B.seat B.log B.pin_at)
+        n port.old port.new places.old places.new }
+    ensures unsettled { P.settles port.new ≡ P.settles port.old }
     ensures kept { Keeps cx.old cx.new }
 {
     let _ = wanted;
@@ -122,19 +135,30 @@ fn take_turns<R: Threads + Sync, B: Commits<R> + Drop, P: Port, L: Ledger>(
 ) -> bool
 where
     P::K: Drop,
-    requires under_way { IsUnderWay (outside P.gave P.got_back P.faults P.K.left P.K.held P.K.counts
+    requires under_way { IsUnderWay (outside P.gave P.got_back P.faults P.settles P.K.left P.K.held P.K.counts
         B.seat B.log B.pin_at) call.now 0 wanted port.old places.old }
-    ensures goes { GoesRound (outside P.gave P.got_back P.faults P.K.left P.K.held P.K.counts
+    ensures goes { GoesRound (outside P.gave P.got_back P.faults P.settles P.K.left P.K.held P.K.counts
         B.seat B.log B.pin_at) call.now wanted port.old port.new places.old places.new }
+    ensures waits { result ≡ false → AllHaveWaited (outside P.gave P.got_back P.faults P.settles P.K.left P.K.held P.K.counts
+        B.seat B.log B.pin_at)
+        port.old port.new places.old places.new }
+    ensures unsettled { P.settles port.new ≡ P.settles port.old }
     ensures kept { Keeps cx.old cx.new }
 {
     let mut any = false;
     for n in 0..places.len() {
-        if take_turn_at(rt, cx, call, places, n, port, wanted, steps) == Turn::Ended {
-            any = true;
-        }
+        let turn = take_turn_at(rt, cx, call, places, n, port, wanted, steps);
+        any = has_ended(any, turn);
     }
     any
+}
+
+/// Whether a session had ended, or ends in this turn.
+fn has_ended(any: bool, turn: Turn) -> bool
+    ensures none { result ≡ false → any ≡ false }
+    ensures waits { result ≡ false → turn ≡ Turn.Waits }
+{
+    any || turn == Turn::Ended
 }
 
 /// Whether a round came to nothing: no link was given out, and every poll was pending.
@@ -157,11 +181,15 @@ fn go_round<R: Threads + Sync, B: Commits<R> + Drop, P: Port, L: Ledger>(
 ) -> Result<bool, Failed>
 where
     P::K: Drop,
-    requires under_way { IsUnderWay (outside P.gave P.got_back P.faults P.K.left P.K.held P.K.counts
+    requires under_way { IsUnderWay (outside P.gave P.got_back P.faults P.settles P.K.left P.K.held P.K.counts
         B.seat B.log B.pin_at) call.now 0 wanted.old port.old places.old }
-    ensures goes { GoesRound (outside P.gave P.got_back P.faults P.K.left P.K.held P.K.counts
+    ensures goes { GoesRound (outside P.gave P.got_back P.faults P.settles P.K.left P.K.held P.K.counts
         B.seat B.log B.pin_at) call.now wanted.new port.old port.new places.old places.new }
     ensures failed { OnErr result (HasRisen (P.faults port.old) (P.faults port.new)) }
+    ensures quiet { result ≡ Ok true → AllHaveWaited (outside P.gave P.got_back P.faults P.settles P.K.left P.K.held P.K.counts
+        B.seat B.log B.pin_at)
+        port.old port.new places.old places.new }
+    ensures unsettled { P.settles port.new ≡ P.settles port.old }
     ensures kept { Keeps cx.old cx.new }
 {
     let given = take_links(alloc, call, places, port, wanted)?;
@@ -176,6 +204,7 @@ fn settle_if<P: Port>(port: &mut P, is_quiet: bool) -> Result<(), Failed>
     ensures failed { OnErr result (HasRisen (P.faults port.old) (P.faults port.new)) }
     ensures count { P.faults port.old ≤ P.faults port.new }
     ensures busy { is_quiet ≡ false → port.new ≡ port.old }
+    ensures settled { is_quiet ≡ true → P.settles port.new ≡ counted (P.settles port.old) }
 {
     if !is_quiet {
         return Ok(());
@@ -231,12 +260,15 @@ pub(crate) fn go_on<R: Threads + Wait + Sync, B: Commits<R> + Drop, P: Port, L: 
 ) -> Result<(), Failed>
 where
     P::K: Drop,
-    requires under_way { IsUnderWay (outside P.gave P.got_back P.faults P.K.left P.K.held P.K.counts
+    requires under_way { IsUnderWay (outside P.gave P.got_back P.faults P.settles P.K.left P.K.held P.K.counts
         B.seat B.log B.pin_at) call.now 0 wanted.old port.old places.old }
-    ensures goes { GoesRound (outside P.gave P.got_back P.faults P.K.left P.K.held P.K.counts
+    ensures goes { GoesRound (outside P.gave P.got_back P.faults P.settles P.K.left P.K.held P.K.counts
         B.seat B.log B.pin_at) call.now wanted.new port.old port.new places.old places.new }
     ensures over { OnOk result (AreOver wanted.new places.new) }
     ensures failed { OnErr result (HasRisen (P.faults port.old) (P.faults port.new)) }
+    ensures settled { SettlesOn (outside P.gave P.got_back P.faults P.settles P.K.left P.K.held P.K.counts
+        B.seat B.log B.pin_at)
+        call.now.port.value port.old port.new }
     ensures kept { Keeps cx.old cx.new }
 {
     for _ in rt.forever() {
@@ -260,14 +292,15 @@ fn close_at<B: Pins + Drop, P: Port>(
 where
     P::K: Drop,
     requires inside { n < length places.old }
-    requires under_way { IsUnderWay (outside P.gave P.got_back P.faults P.K.left P.K.held P.K.counts
+    requires under_way { IsUnderWay (outside P.gave P.got_back P.faults P.settles P.K.left P.K.held P.K.counts
         B.seat B.log B.pin_at) call.now n wanted port.old places.old }
     requires before { RestBefore n places.old }
-    ensures under_way { IsUnderWay (outside P.gave P.got_back P.faults P.K.left P.K.held P.K.counts
+    ensures under_way { IsUnderWay (outside P.gave P.got_back P.faults P.settles P.K.left P.K.held P.K.counts
         B.seat B.log B.pin_at) call.now (n + 1) wanted port.new places.new }
     ensures before { RestBefore (n + 1) places.new }
     ensures len { length places.new ≡ length places.old }
     ensures count { P.faults port.old ≤ P.faults port.new }
+    ensures unsettled { P.settles port.new ≡ P.settles port.old }
 {
     let _ = wanted;
     close_place(&mut places[n], port);
@@ -282,13 +315,14 @@ pub(crate) fn close_all<B: Pins + Drop, P: Port>(
 )
 where
     P::K: Drop,
-    requires under_way { IsUnderWay (outside P.gave P.got_back P.faults P.K.left P.K.held P.K.counts
+    requires under_way { IsUnderWay (outside P.gave P.got_back P.faults P.settles P.K.left P.K.held P.K.counts
         B.seat B.log B.pin_at) call.now 0 wanted port.old places.old }
-    ensures under_way { IsUnderWay (outside P.gave P.got_back P.faults P.K.left P.K.held P.K.counts
+    ensures under_way { IsUnderWay (outside P.gave P.got_back P.faults P.settles P.K.left P.K.held P.K.counts
         B.seat B.log B.pin_at) call.now (length places.new) wanted port.new places.new }
     ensures rest { NoneBusy places.new }
     ensures len { length places.new ≡ length places.old }
     ensures count { P.faults port.old ≤ P.faults port.new }
+    ensures unsettled { P.settles port.new ≡ P.settles port.old }
 {
     for n in 0..places.len() {
         close_at(call, places, n, port, wanted);

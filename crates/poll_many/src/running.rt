@@ -15,11 +15,11 @@ use crate::yard::Yard;
 use futures::task::Context;
 use graph_nodes::Steps;
 use nav_io::HouseFault;
-use shared_board::{Naming, Seat, SharedBoard, close};
+use shared_board::{Naming, Seat, Shared, SharedBoard, close};
 use std::alloc::Global;
 use std::marker::Brand;
-use std::sync::Wait;
 use std::sync::ledger::Ledger;
+use std::sync::{Arc, Wait};
 use std::thread::Threads;
 
 /// The words are no such words.
@@ -45,7 +45,7 @@ where
     ensures bad_words { (result ≡ 2) ↔ (wanted_by (texts words.now) ≡ None) }
     ensures untouched { result ≡ 2 → yard.new ≡ yard.old }
     ensures served { IfSome (wanted_by (texts words.now)) (λ wanted. ServesYard
-        (outside Y.P.gave Y.P.got_back Y.P.faults Y.P.K.left Y.P.K.held Y.P.K.counts
+        (outside Y.P.gave Y.P.got_back Y.P.faults Y.P.settles Y.P.K.left Y.P.K.held Y.P.K.counts
         (λ seat. seat.seat) (λ seat. seat.log) (λ seat. seat.pin))
         wanted.seats wanted.connections
         (yard_with (Y.gave yard.old) (Y.got_back yard.old) (Y.faults yard.old))
@@ -77,18 +77,24 @@ where
     requires all { board.seats ≡ wanted.seats }
     requires some { 1 ≤ wanted.seats }
     ensures served { ServesYard
-        (outside Y.P.gave Y.P.got_back Y.P.faults Y.P.K.left Y.P.K.held Y.P.K.counts
+        (outside Y.P.gave Y.P.got_back Y.P.faults Y.P.settles Y.P.K.left Y.P.K.held Y.P.K.counts
         (λ seat. seat.seat) (λ seat. seat.log) (λ seat. seat.pin))
         wanted.seats wanted.connections
         (yard_with (Y.gave yard.old) (Y.got_back yard.old) (Y.faults yard.old))
         (yard_with (Y.gave yard.new) (Y.got_back yard.new) (Y.faults yard.new)) result }
     ensures kept { Keeps cx.old cx.new }
 {
-    let Ok((_shared, seats)) = board.named::<J, R>(rt, alloc) else {
+    let Ok((shared, seats)) = board.named::<J, R>(rt, alloc) else {
         return NO_MEMORY;
     };
-    serve_yard(rt, alloc, cx, yard, wanted, seats, steps)
+    let status = serve_yard(rt, alloc, cx, yard, wanted, seats, steps);
+    let_go(shared);
+    status
 }
+
+/// Drops what the seats shared. It is a function of its own since the drop of each of its parts is proved anew wherever it is
+/// dropped.
+fn let_go<'a, J: Naming, R: Wait>(_shared: Arc<Shared<J, &'a R>>) {}
 
 /// Asks the yard for the port, and serves its links for these seats.
 fn serve_yard<'a, J: Naming + Send + Sync, R: Threads + Wait + Sync, Y: Yard, L: Ledger>(
@@ -106,7 +112,7 @@ where
     requires all { J.board.seats ≡ wanted.seats }
     requires some { 1 ≤ wanted.seats }
     ensures served { ServesYard
-        (outside Y.P.gave Y.P.got_back Y.P.faults Y.P.K.left Y.P.K.held Y.P.K.counts
+        (outside Y.P.gave Y.P.got_back Y.P.faults Y.P.settles Y.P.K.left Y.P.K.held Y.P.K.counts
         (λ seat. seat.seat) (λ seat. seat.log) (λ seat. seat.pin))
         wanted.seats wanted.connections
         (yard_with (Y.gave yard.old) (Y.got_back yard.old) (Y.faults yard.old))

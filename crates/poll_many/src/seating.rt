@@ -2,7 +2,8 @@
 ghost use Rattle.std.specs.Prelude.{◌≡◌, ◌<◌, ◌≤◌, ◌+◌, ◌++◌, [], vec_len, vec_capacity, IfOk, OnOk, OnErr};
 ghost use Rattle.poll_many.specs.Places.{AllFree, board_at, boards_of};
 
-use crate::place::Place;
+use crate::place::{Open, Place, let_go};
+use nav_poll::Link;
 use nav_session::Desk;
 use std::alloc::{AllocError, Global};
 use version_board::Pins;
@@ -28,7 +29,10 @@ pub(crate) fn places_of<B: Pins + Drop, K: Drop>(
 }
 
 /// Puts the seats of the places back.
-pub(crate) fn take_apart<B: Pins + Drop, K: Drop>(places: Vec<Place<B, K>>, seats: &mut Vec<B>)
+pub(crate) fn take_apart<B: Pins + Drop, K: Link + Drop>(
+    places: Vec<Place<B, K>>,
+    seats: &mut Vec<B>,
+)
     requires room { vec_len places ≤ vec_capacity seats.old }
     requires none { seats.old.items ≡ [] }
     ensures { seats.new.items ≡ boards_of places.items }
@@ -40,16 +44,23 @@ pub(crate) fn take_apart<B: Pins + Drop, K: Drop>(places: Vec<Place<B, K>>, seat
 }
 
 /// Puts the seat of the place back, if one rests there.
-fn put_back<B: Pins + Drop, K: Drop>(place: Place<B, K>, seats: &mut Vec<B>)
+fn put_back<B: Pins + Drop, K: Link + Drop>(place: Place<B, K>, seats: &mut Vec<B>)
     requires room { vec_len seats.old < vec_capacity seats.old }
     ensures put { seats.new.items ≡ seats.old.items ++ board_at place }
     ensures room { vec_capacity seats.new ≡ vec_capacity seats.old }
     ensures len { vec_len seats.new ≤ vec_len seats.old + 1 }
 {
     match place {
-        Place::Free(_desk, board) => seats.push_reserved(board),
+        Place::Free(desk, board) => {
+            let_go(desk);
+            seats.push_reserved(board);
+        }
         Place::Lost(board) => seats.push_reserved(board),
-        Place::Busy(_session) => {}
+        Place::Busy(session) => {
+            let Open { polled, .. } = session;
+            let (desk, _board, _link) = polled.close();
+            let_go(desk);
+        }
         Place::Away => {}
     }
 }

@@ -1,8 +1,9 @@
 //! The links of a port served for all seats of a board.
 ghost use Rattle.std.specs.Prelude.{◌<◌, vec_len};
 ghost use Rattle.futures.specs.Task.{Keeps};
-ghost use Rattle.shared_board.specs.Seats.{AreSeats};
+ghost use Rattle.shared_board.specs.Seats.{AreSeats, Holder};
 ghost use Rattle.poll_many.specs.Connections.{outside};
+ghost use Rattle.poll_many.specs.Settling.{SettlesBehindRounds};
 ghost use Rattle.poll_many.specs.Ports.{ServesPort};
 
 use crate::finishing::serve_all;
@@ -41,9 +42,12 @@ where
     P::K: Drop,
     requires seats { AreSeats J.board.seats seats.items }
     requires some { 0 < vec_len seats }
-    ensures served { ServesPort (outside P.gave P.got_back P.faults P.K.left P.K.held P.K.counts
+    ensures served { ServesPort (outside P.gave P.got_back P.faults P.settles P.K.left P.K.held P.K.counts
         (λ seat. seat.seat) (λ seat. seat.log) (λ seat. seat.pin))
         connections port.old port.new seats.entry.items result }
+    ensures settled { SettlesBehindRounds {B = Holder} (outside P.gave P.got_back P.faults P.settles P.K.left P.K.held P.K.counts
+        (λ seat. seat.seat) (λ seat. seat.log) (λ seat. seat.pin))
+        port.old port.new }
     ensures kept { Keeps cx.old cx.new }
 {
     let mut seats = seats;
@@ -66,9 +70,12 @@ where
     P::K: Drop,
     requires seats { AreSeats J.board.seats seats.old.items }
     requires some { 0 < vec_len seats.old }
-    ensures served { ServesPort (outside P.gave P.got_back P.faults P.K.left P.K.held P.K.counts
+    ensures served { ServesPort (outside P.gave P.got_back P.faults P.settles P.K.left P.K.held P.K.counts
         (λ seat. seat.seat) (λ seat. seat.log) (λ seat. seat.pin))
         connections port.old port.new seats.old.items result }
+    ensures settled { SettlesBehindRounds {B = Holder} (outside P.gave P.got_back P.faults P.settles P.K.left P.K.held P.K.counts
+        (λ seat. seat.seat) (λ seat. seat.log) (λ seat. seat.pin))
+        port.old port.new }
     ensures kept { Keeps cx.old cx.new }
 {
     let status = serve_all::<&'a R, Seat<J, &'a R>, P, L>(

@@ -3,6 +3,7 @@ use Rattle.std.proofs.Common.{rules, slice_index_or}
 use Rattle.std.proofs.lemmas.Option.{slice_get-get_or}
 use Rattle.poll_many.specs.Connections.{outside}
 use Rattle.poll_many.proofs.PlaceTurns.{took}
+use Rattle.poll_many.proofs.Settled.{none_at}
 use Rattle.poll_many.proofs.rounds.take_link_at.Goals as goal
 
 pub take_link-asked-requires : goal.take_link-asked-requires
@@ -13,7 +14,7 @@ take_link-asked-requires g c = record {
 
 pub returns-clause-goes : goal.returns-clause-goes
 returns-clause-goes g c = record {
-  under_way = rw c.still_wanted.ensures (took (outside g.P.Port.gave g.P.Port.got_back g.P.Port.faults g.P.K.Link.left g.P.K.Link.held g.P.K.Link.counts g.B.Pins.seat g.B.Pins.log g.B.Pins.pin_at)
+  under_way = rw c.still_wanted.ensures (took (outside g.P.Port.gave g.P.Port.got_back g.P.Port.faults g.P.Port.settles g.P.K.Link.left g.P.K.Link.held g.P.K.Link.counts g.B.Pins.seat g.B.Pins.log g.B.Pins.pin_at)
       c.args.call.now c.args.wanted.now c.args.port.now c.take_link-asked.new.port c.args.places.now c.args.n
       (slice_index_or c.args.places.now c.args.n c.index-places-n.result) c.take_link-asked.new.place c.take_link-asked.result
       (slice_get-get_or c.args.places.now c.args.n c.index-places-n.result c.requires.inside) c.take_link-asked.ensures.count c.requires.some
@@ -21,3 +22,10 @@ returns-clause-goes g c = record {
   len = search rules;
   count = c.take_link-asked.ensures.count;
 }
+
+pub returns-clause-none : goal.returns-clause-none
+returns-clause-none g c =
+    none_at (outside g.P.Port.gave g.P.Port.got_back g.P.Port.faults g.P.Port.settles g.P.K.Link.left g.P.K.Link.held g.P.K.Link.counts g.B.Pins.seat g.B.Pins.log g.B.Pins.pin_at)
+    c.args.port.now c.take_link-asked.new.port c.args.places.now c.args.n
+    (slice_index_or c.args.places.now c.args.n c.index-places-n.result) c.take_link-asked.new.place c.take_link-asked.result
+    (slice_get-get_or c.args.places.now c.args.n c.index-places-n.result c.requires.inside) c.take_link-asked.ensures.takes c.take_link-asked.ensures.same

@@ -14,7 +14,7 @@ serve_many-status-requires-clause-seats g c _ _ =
 pub returns-in-Ok-clause-served : goal.returns-in-Ok-clause-served
 returns-in-Ok-clause-served g c =
     served_one
-    (outside g.Y.P.Port.gave g.Y.P.Port.got_back g.Y.P.Port.faults g.Y.P.K.Link.left g.Y.P.K.Link.held g.Y.P.K.Link.counts (λ (h : Holder). h.seat) (λ (h : Holder). h.log) (λ (h : Holder). h.pin))
+    (outside g.Y.P.Port.gave g.Y.P.Port.got_back g.Y.P.Port.faults g.Y.P.Port.settles g.Y.P.K.Link.left g.Y.P.K.Link.held g.Y.P.K.Link.counts (λ (h : Holder). h.seat) (λ (h : Holder). h.log) (λ (h : Holder). h.pin))
     c.args.wanted.seats c.args.wanted.connections
     (yard_with (g.Y.Yard.gave c.args.yard.now) (g.Y.Yard.got_back c.args.yard.now) (g.Y.Yard.faults c.args.yard.now))
     (yard_with (g.Y.Yard.gave c.close.new.self) (g.Y.Yard.got_back c.close.new.self) (g.Y.Yard.faults c.close.new.self))
@@ -22,13 +22,13 @@ returns-in-Ok-clause-served g c =
     (c.close.ensures.given ∙ c.in-Ok.ensures.ok)
     (c.close.ensures.back ∙ ap (λ told. append_told told (c.serve_many-status.new.port ∷ [])) c.in-Ok.ensures.back)
     (subst (λ (n : ℕ). AreNewcomers n c.args.seats.items) c.requires.all c.requires.seats)
-    c.serve_many-status.ensures.served
+    c.serve_many-status.ensures.served c.serve_many-status.ensures.settled
     (omega (arith, c.in-Ok.ensures.count, c.close.ensures.count))
 
 pub returns-in-Err-Failed-clause-served : goal.returns-in-Err-Failed-clause-served
 returns-in-Err-Failed-clause-served g c =
     opened_none
-    (outside g.Y.P.Port.gave g.Y.P.Port.got_back g.Y.P.Port.faults g.Y.P.K.Link.left g.Y.P.K.Link.held g.Y.P.K.Link.counts (λ (h : Holder). h.seat) (λ (h : Holder). h.log) (λ (h : Holder). h.pin))
+    (outside g.Y.P.Port.gave g.Y.P.Port.got_back g.Y.P.Port.faults g.Y.P.Port.settles g.Y.P.K.Link.left g.Y.P.K.Link.held g.Y.P.K.Link.counts (λ (h : Holder). h.seat) (λ (h : Holder). h.log) (λ (h : Holder). h.pin))
     c.args.wanted.seats c.args.wanted.connections
     (yard_with (g.Y.Yard.gave c.args.yard.now) (g.Y.Yard.got_back c.args.yard.now) (g.Y.Yard.faults c.args.yard.now))
     (yard_with (g.Y.Yard.gave c.port.new.self) (g.Y.Yard.got_back c.port.new.self) (g.Y.Yard.faults c.port.new.self))
@@ -38,7 +38,7 @@ returns-in-Err-Failed-clause-served g c =
 pub returns-in-Err-NoMemory-clause-served : goal.returns-in-Err-NoMemory-clause-served
 returns-in-Err-NoMemory-clause-served g c =
     opened_none
-    (outside g.Y.P.Port.gave g.Y.P.Port.got_back g.Y.P.Port.faults g.Y.P.K.Link.left g.Y.P.K.Link.held g.Y.P.K.Link.counts (λ (h : Holder). h.seat) (λ (h : Holder). h.log) (λ (h : Holder). h.pin))
+    (outside g.Y.P.Port.gave g.Y.P.Port.got_back g.Y.P.Port.faults g.Y.P.Port.settles g.Y.P.K.Link.left g.Y.P.K.Link.held g.Y.P.K.Link.counts (λ (h : Holder). h.seat) (λ (h : Holder). h.log) (λ (h : Holder). h.pin))
     c.args.wanted.seats c.args.wanted.connections
     (yard_with (g.Y.Yard.gave c.args.yard.now) (g.Y.Yard.got_back c.args.yard.now) (g.Y.Yard.faults c.args.yard.now))
     (yard_with (g.Y.Yard.gave c.port.new.self) (g.Y.Yard.got_back c.port.new.self) (g.Y.Yard.faults c.port.new.self))
