@@ -1,28 +1,22 @@
 //! What is kept of each path of a file beside its parts, which stand in pools.
-ghost use Rattle.std.specs.Prelude.{◌≡◌, ℕ};
+ghost use Rattle.std.specs.Prelude.{◌≡◌, ℕ, IfOk};
 ghost use Rattle.partial_path.specs.FileNumbers.{StartIn, EndIn};
-ghost use Rattle.partial_path.specs.Pooled.{start_of, end_of};
+ghost use Rattle.partial_path.specs.Pooled.{start_of, end_of, kept_tail};
 
 use crate::config::Spot;
 use crate::rule::{End, Start};
 use stacks_vars::{NodeAt, Tail};
-
-/// Where a part of a path stands in its pool.
-#[derive(Clone, Copy, Debug)]
-pub struct Part {
-    pub from: u32,
-    pub len: u32,
-}
+use std::alloc::AllocError;
 
 /// Where a path of one file begins, by the file's own numbers.
 #[derive(Clone, Copy, Debug)]
 pub enum RowStart {
     /// At this reference, which isn't entered yet.
-    Before(u32),
+    Before(u16),
     /// At the root.
     Root,
     /// At this node, which was entered before.
-    After(u32),
+    After(u16),
 }
 
 /// Where it ends.
@@ -31,50 +25,89 @@ pub enum RowEnd {
     /// At the root.
     Root,
     /// At this node.
-    At(u32),
+    At(u16),
     /// At the scope in front of the scope stack, which is taken off.
     ByStack,
 }
 
+/// The variable behind the scopes that it makes.
+#[derive(Clone, Copy, Debug)]
+pub enum RowTail {
+    /// Nothing.
+    Nil,
+    /// What followed the scopes that it asks for.
+    Front,
+    /// What followed the scopes attached to the symbol at this place of those that it asks for.
+    Item(u16),
+}
+
 /// A path of one file: its ends, its peak, the variable behind the scopes that it makes, and where its parts
-/// stand in the pools. It has 68 bytes.
+/// stand in the pools. It has 40 bytes: numbers of 16 bits serve for nodes, for how many parts a path has and for its
+/// peak, since a graph has at most 16,384 nodes, and a stored path goes through each at most once.
 #[derive(Clone, Copy, Debug)]
 pub struct PathRow {
+    /// From which place on its parts stand: the symbols that it asks for, those that it makes, its scopes, and
+    /// its edges.
+    pub asked_from: u32,
+    pub made_from: u32,
+    pub nodes_from: u32,
+    pub edges_from: u32,
     pub start: RowStart,
     pub end: RowEnd,
-    pub peak: u32,
-    pub tail: Tail,
-    /// The symbols that it asks for, and the scopes.
-    pub asked: Part,
-    pub fixed: Part,
-    /// The symbols that it makes, and the scopes.
-    pub made: Part,
-    pub scopes: Part,
-    pub edges: Part,
+    pub tail: RowTail,
+    pub peak: u16,
+    /// How many symbols it asks for, and how many it makes.
+    pub asked: u16,
+    pub made: u16,
+    /// How many scopes it asks for, and how many it makes, which stand behind them.
+    pub fixed: u16,
+    pub scopes: u16,
+    pub edges: u16,
 }
 
-/// The start, as a row of its file keeps it.
-pub fn row_start(start: Start) -> RowStart
+/// The start, as a row of its file keeps it. The error comes where the node has no number of 16 bits.
+pub fn row_start(start: Start) -> Result<RowStart, AllocError>
     requires { StartIn (λ file. file ≡ 0) start }
-    ensures { start_of result ≡ start }
+    ensures { IfOk result (λ row. start_of row ≡ start) }
 {
     match start {
-        Start::Before(node) => RowStart::Before(node.node),
-        Start::After(Spot::Root) => RowStart::Root,
-        Start::After(Spot::At(node)) => RowStart::After(node.node),
+        Start::Before(node) => Ok(RowStart::Before(short(node.node)?)),
+        Start::After(Spot::Root) => Ok(RowStart::Root),
+        Start::After(Spot::At(node)) => Ok(RowStart::After(short(node.node)?)),
     }
 }
 
-/// The end, as a row of its file keeps it.
-pub fn row_end(end: End) -> RowEnd
+/// The end, as a row of its file keeps it. The error comes where the node has no number of 16 bits.
+pub fn row_end(end: End) -> Result<RowEnd, AllocError>
     requires { EndIn (λ file. file ≡ 0) end }
-    ensures { end_of result ≡ end }
+    ensures { IfOk result (λ row. end_of row ≡ end) }
 {
     match end {
-        End::At(Spot::Root) => RowEnd::Root,
-        End::At(Spot::At(node)) => RowEnd::At(node.node),
-        End::ByStack => RowEnd::ByStack,
+        End::At(Spot::Root) => Ok(RowEnd::Root),
+        End::At(Spot::At(node)) => Ok(RowEnd::At(short(node.node)?)),
+        End::ByStack => Ok(RowEnd::ByStack),
     }
+}
+
+/// The variable, as a row keeps it. The error comes where the symbol's place has no number of 16 bits.
+pub fn row_tail(tail: Tail) -> Result<RowTail, AllocError>
+    ensures { IfOk result (λ row. kept_tail row ≡ tail) }
+{
+    match tail {
+        Tail::Nil => Ok(RowTail::Nil),
+        Tail::Front => Ok(RowTail::Front),
+        Tail::Item(place) => Ok(RowTail::Item(short(place)?)),
+    }
+}
+
+/// The number in 16 bits. The error comes where it has more.
+pub fn short(number: u32) -> Result<u16, AllocError>
+    ensures { IfOk result (λ short. short ≡ number) }
+{
+    if number > u16::MAX as u32 {
+        return Err(AllocError);
+    }
+    Ok(number as u16)
 }
 
 /// The start that a row keeps.
@@ -99,9 +132,23 @@ pub fn end_of(end: RowEnd) -> End
     }
 }
 
+/// The variable that a row keeps.
+pub fn kept_tail(tail: RowTail) -> Tail
+    ensures { result ≡ kept_tail tail }
+{
+    match tail {
+        RowTail::Nil => Tail::Nil,
+        RowTail::Front => Tail::Front,
+        RowTail::Item(place) => Tail::Item(place as u32),
+    }
+}
+
 /// The node at that position of file 0.
-fn own_node(node: u32) -> NodeAt
+fn own_node(node: u16) -> NodeAt
     ensures { (result.file ≡ 0) × (result.node ≡ node) }
 {
-    NodeAt { file: 0, node }
+    NodeAt {
+        file: 0,
+        node: node as u32,
+    }
 }

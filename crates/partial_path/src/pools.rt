@@ -1,24 +1,23 @@
 //! The parts of a file's paths, each kind of them in one vector.
-ghost use Rattle.std.specs.Prelude.{◌≡◌, ◌++◌, ℕ, map, All, IfOk, OnOk};
+ghost use Rattle.std.specs.Prelude.{◌≡◌, ◌+◌, ◌++◌, ℕ, length, map, All, IfOk, OnOk};
 ghost use Rattle.partial_path.specs.FileNumbers.{IsOfFileZero, EdgeIn, edge_number, own_edge};
 ghost use Rattle.partial_path.specs.Rules.{IsRule};
-ghost use Rattle.partial_path.specs.Pooled.{AreAddedTo, IsKept, IsPartOf, part_of};
+ghost use Rattle.partial_path.specs.Pooled.{AreAddedTo, Begins, IsKept, IsPartOf, IsPut, part_of};
 
 use crate::config::EdgeAt;
 use crate::path::{PartialPath, PathParts};
-use crate::path_row::{Part, PathRow, row_end, row_start};
+use crate::path_row::{PathRow, row_end, row_start, row_tail, short};
 use stacks_vars::{NodeAt, ScopeOut, SymOut, SymPat};
 use std::alloc::{AllocError, Global};
 
 /// The parts of a file's paths.
 #[derive(Debug, Drop)]
 pub struct Pools {
-    /// The symbols that paths ask for, and the scopes.
+    /// The symbols that paths ask for, and those that they make.
     pub asked: Vec<SymPat>,
-    pub fixed: Vec<NodeAt>,
-    /// The symbols that they make, and the scopes.
     pub made: Vec<SymOut>,
-    pub scopes: Vec<NodeAt>,
+    /// The scopes that each path asks for, and behind them those that it makes.
+    pub nodes: Vec<NodeAt>,
     /// The numbers of their edges in the file.
     pub edges: Vec<u32>,
 }
@@ -27,9 +26,8 @@ pub struct Pools {
 #[derive(Clone, Copy)]
 struct Sizes {
     asked: usize,
-    fixed: usize,
     made: usize,
-    scopes: usize,
+    nodes: usize,
     edges: usize,
 }
 
@@ -38,9 +36,8 @@ pub fn pools_for(alloc: Global, paths: &[PartialPath]) -> Result<Pools, AllocErr
     let sizes = sizes_of(paths);
     Ok(Pools {
         asked: Vec::with_capacity(alloc, sizes.asked)?,
-        fixed: Vec::with_capacity(alloc, sizes.fixed)?,
         made: Vec::with_capacity(alloc, sizes.made)?,
-        scopes: Vec::with_capacity(alloc, sizes.scopes)?,
+        nodes: Vec::with_capacity(alloc, sizes.nodes)?,
         edges: Vec::with_capacity(alloc, sizes.edges)?,
     })
 }
@@ -49,9 +46,8 @@ pub fn pools_for(alloc: Global, paths: &[PartialPath]) -> Result<Pools, AllocErr
 fn sizes_of(paths: &[PartialPath]) -> Sizes {
     let mut sizes = Sizes {
         asked: 0,
-        fixed: 0,
         made: 0,
-        scopes: 0,
+        nodes: 0,
         edges: 0,
     };
     for path in paths {
@@ -63,11 +59,12 @@ fn sizes_of(paths: &[PartialPath]) -> Sizes {
 /// These numbers with those of the path.
 fn with_path(sizes: Sizes, path: &PartialPath) -> Sizes {
     let (pre, post) = (path.pre(), path.post());
+    let fixed = pre.scopes.fixed.len();
+    let scopes = post.scopes.scopes.len();
     Sizes {
         asked: sizes.asked.saturating_add(pre.symbols.len()),
-        fixed: sizes.fixed.saturating_add(pre.scopes.fixed.len()),
         made: sizes.made.saturating_add(post.symbols.len()),
-        scopes: sizes.scopes.saturating_add(post.scopes.scopes.len()),
+        nodes: sizes.nodes.saturating_add(fixed).saturating_add(scopes),
         edges: sizes.edges.saturating_add(path.edges().len()),
     }
 }
@@ -90,19 +87,64 @@ pub fn put_path(pools: &mut Pools, path: PartialPath) -> Result<PathRow, AllocEr
     let ScopeOut { scopes, tail } = post.scopes;
     let edges = put_edges(&mut pools.edges, edges.as_slice())?;
     let asked = put(&mut pools.asked, pre.symbols.into_items())?;
-    let fixed = put(&mut pools.fixed, pre.scopes.fixed.into_items())?;
     let made = put(&mut pools.made, post.symbols.into_items())?;
-    let scopes = put(&mut pools.scopes, scopes.into_items())?;
+    let fixed = pre.scopes.fixed.into_items();
+    let nodes = put_nodes(&mut pools.nodes, fixed, scopes.into_items())?;
+    let start = row_start(start)?;
+    let end = row_end(end)?;
+    let tail = row_tail(tail)?;
+    let peak = short(peak)?;
     Ok(PathRow {
-        start: row_start(start),
-        end: row_end(end),
-        peak,
+        asked_from: asked.from,
+        made_from: made.from,
+        nodes_from: nodes.from,
+        edges_from: edges.from,
+        start,
+        end,
         tail,
-        asked,
-        fixed,
-        made,
-        scopes,
-        edges,
+        peak,
+        asked: asked.len,
+        made: made.len,
+        fixed: nodes.fixed,
+        scopes: nodes.scopes,
+        edges: edges.len,
+    })
+}
+
+/// Where a part of a path stands in its pool.
+#[derive(Clone, Copy)]
+struct Part {
+    from: u32,
+    len: u16,
+}
+
+/// Where a path's scopes stand: those that it asks for, and behind them those that it makes.
+#[derive(Clone, Copy)]
+struct NodeParts {
+    from: u32,
+    fixed: u16,
+    scopes: u16,
+}
+
+/// Moves a path's scopes behind those of the pool: those that it asks for, and behind them those that it makes;
+/// and tells where they stand. The one error is want of memory, or of numbers.
+fn put_nodes(
+    pool: &mut Vec<NodeAt>,
+    fixed: Vec<NodeAt>,
+    scopes: Vec<NodeAt>,
+) -> Result<NodeParts, AllocError>
+    ensures added { OnOk result (Begins pool.old.items pool.new.items) }
+    ensures fixed { IfOk result
+        (λ parts. IsPut parts.from parts.fixed pool.new.items fixed.items) }
+    ensures scopes { IfOk result
+        (λ parts. IsPut (parts.from + parts.fixed) parts.scopes pool.new.items scopes.items) }
+{
+    let asked = put(pool, fixed)?;
+    let made = put(pool, scopes)?;
+    Ok(NodeParts {
+        from: asked.from,
+        fixed: asked.len,
+        scopes: made.len,
     })
 }
 
@@ -110,8 +152,10 @@ pub fn put_path(pools: &mut Pools, path: PartialPath) -> Result<PathRow, AllocEr
 /// numbers.
 fn put<T: Drop>(pool: &mut Vec<T>, items: Vec<T>) -> Result<Part, AllocError>
     ensures items { OnOk result (pool.new.items ≡ pool.old.items ++ items.items) }
-    ensures within { IfOk result (λ part. IsPartOf part pool.new.items) }
-    ensures value { IfOk result (λ part. part_of part pool.new.items ≡ items.items) }
+    ensures place { IfOk result (λ part. part.from ≡ length pool.old.items) }
+    ensures len { IfOk result (λ part. part.len ≡ length items.items) }
+    ensures within { IfOk result (λ part. IsPartOf part.from part.len pool.new.items) }
+    ensures value { IfOk result (λ part. part_of part.from part.len pool.new.items ≡ items.items) }
 {
     let part = part_at(pool.len(), items.len())?;
     let mut items = items;
@@ -124,8 +168,9 @@ fn put<T: Drop>(pool: &mut Vec<T>, items: Vec<T>) -> Result<Part, AllocError>
 fn put_edges(pool: &mut Vec<u32>, edges: &[EdgeAt]) -> Result<Part, AllocError>
     requires { All (EdgeIn (λ file. file ≡ 0)) edges.now }
     ensures items { OnOk result (pool.new.items ≡ pool.old.items ++ map edge_number edges.now) }
-    ensures within { IfOk result (λ part. IsPartOf part pool.new.items) }
-    ensures value { IfOk result (λ part. map own_edge (part_of part pool.new.items) ≡ edges.now) }
+    ensures within { IfOk result (λ part. IsPartOf part.from part.len pool.new.items) }
+    ensures value { IfOk result (λ part. map own_edge
+        (part_of part.from part.len pool.new.items) ≡ edges.now) }
 {
     let part = part_at(pool.len(), edges.len())?;
     for edge in edges {
@@ -134,16 +179,16 @@ fn put_edges(pool: &mut Vec<u32>, edges: &[EdgeAt]) -> Result<Part, AllocError>
     Ok(part)
 }
 
-/// The part of so many items from that place on. The error comes where one of both has no number of 32 bits.
+/// The part of so many items from that place on. The error comes where the place has no number of 32 bits, or the
+/// count none of 16.
 fn part_at(from: usize, len: usize) -> Result<Part, AllocError>
     ensures { IfOk result (λ part. (part.from ≡ from) × (part.len ≡ len)) }
 {
-    let most = u32::MAX as usize;
-    if from > most || len > most {
+    if from > u32::MAX as usize || len > u16::MAX as usize {
         return Err(AllocError);
     }
     Ok(Part {
         from: from as u32,
-        len: len as u32,
+        len: len as u16,
     })
 }

@@ -1,5 +1,5 @@
 //! A path of a file, lent by the pools in which its parts stand.
-use crate::path_row::{Part, PathRow, end_of, start_of};
+use crate::path_row::{PathRow, end_of, kept_tail, start_of};
 use crate::pools::Pools;
 use crate::rule::{End, Start};
 use stacks_vars::{NodeAt, SymOut, SymPat, Tail};
@@ -69,7 +69,7 @@ impl<'a> StoredPath<'a> {
         ensures value { result ≡ self.now.peak }
         ensures rule { IsRule self.now }
     {
-        self.row.peak
+        self.row.peak as u32
     }
 
     /// The symbols that the path asks for, the front first.
@@ -78,7 +78,7 @@ impl<'a> StoredPath<'a> {
         ensures rule { IsRule self.now }
     {
         let pools = self.pools;
-        part_of(&pools.asked, self.row.asked)
+        part_of(&pools.asked, self.row.asked_from as usize, self.row.asked)
     }
 
     /// The scopes with which the scope stack has to begin, the front first.
@@ -87,7 +87,7 @@ impl<'a> StoredPath<'a> {
         ensures rule { IsRule self.now }
     {
         let pools = self.pools;
-        part_of(&pools.fixed, self.row.fixed)
+        part_of(&pools.nodes, self.row.nodes_from as usize, self.row.fixed)
     }
 
     /// The symbols that the path makes, the front first.
@@ -96,7 +96,7 @@ impl<'a> StoredPath<'a> {
         ensures rule { IsRule self.now }
     {
         let pools = self.pools;
-        part_of(&pools.made, self.row.made)
+        part_of(&pools.made, self.row.made_from as usize, self.row.made)
     }
 
     /// The scopes that the path makes, the front first.
@@ -105,7 +105,8 @@ impl<'a> StoredPath<'a> {
         ensures rule { IsRule self.now }
     {
         let pools = self.pools;
-        part_of(&pools.scopes, self.row.scopes)
+        let from = self.row.nodes_from as usize + self.row.fixed as usize;
+        part_of(&pools.nodes, from, self.row.scopes)
     }
 
     /// What stands behind the scopes that the path makes.
@@ -113,7 +114,7 @@ impl<'a> StoredPath<'a> {
         ensures value { result ≡ self.now.post.scopes.tail }
         ensures rule { IsRule self.now }
     {
-        self.row.tail
+        kept_tail(self.row.tail)
     }
 
     /// The numbers in its file of the edges that the path stands for, the first first.
@@ -123,18 +124,17 @@ impl<'a> StoredPath<'a> {
         ensures rule { IsRule self.now }
     {
         let pools = self.pools;
-        part_of(&pools.edges, self.row.edges)
+        part_of(&pools.edges, self.row.edges_from as usize, self.row.edges)
     }
 }
 
 ghost use Rattle.std.specs.Prelude.{◌≡◌};
 ghost use Rattle.partial_path.specs.Pooled.{part_of, IsPartOf};
 
-/// What stands in the part of the pool.
-fn part_of<T>(pool: &Vec<T>, part: Part) -> &[T]
-    requires { IsPartOf part pool.now.items }
-    ensures { result.now ≡ part_of part pool.now.items }
+/// So many items of the pool, from that place on.
+fn part_of<T>(pool: &Vec<T>, from: usize, len: u16) -> &[T]
+    requires { IsPartOf from len pool.now.items }
+    ensures { result.now ≡ part_of from len pool.now.items }
 {
-    let from = part.from as usize;
-    &pool.as_slice()[from..from + part.len as usize]
+    &pool.as_slice()[from..from + len as usize]
 }

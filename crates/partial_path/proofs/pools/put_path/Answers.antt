@@ -19,19 +19,18 @@ put_edges-requires c =
 pub returns-clause-added : goal.returns-clause-added
 returns-clause-added c = record {
   asked = (_, c.in_ok-asked.ensures.items);
-  fixed = (_, c.in_ok-fixed.ensures.items);
   made = (_, c.in_ok-made.ensures.items);
-  scopes = (_, c.in_ok-scopes.ensures.items);
+  nodes = c.in_ok-nodes.ensures.added;
   edges = (_, c.in_ok-edges.ensures.items);
 }
 
 pub returns-clause-kept : goal.returns-clause-kept
 returns-clause-kept c =
     let asked = c.in_ok-asked.ensures.value ∙ c.into_items.ensures in
-    let fixed = c.in_ok-fixed.ensures.value ∙ c.into_items-2.ensures in
-    let made = c.in_ok-made.ensures.value ∙ c.into_items-3.ensures in
-    let scopes = c.in_ok-scopes.ensures.value ∙ c.into_items-4.ensures in
+    let made = c.in_ok-made.ensures.value ∙ c.into_items-2.ensures in
+    let fixed = c.in_ok-nodes.ensures.fixed.value ∙ c.into_items-fixed.ensures in
+    let scopes = c.in_ok-nodes.ensures.scopes.value ∙ c.into_items-3.ensures in
     let same =
-    (λ i. rule_of (c.row_start.ensures i) (c.row_end.ensures i) (pre_of (asked i) (fixed i)) (post_of (made i) (scopes i) c.into_parts-start.result.post.scopes.tail) c.into_parts-start.result.peak ((c.in_ok-edges.ensures.value ∙ c.as_slice.ensures.value) i))
+    (λ i. rule_of (c.in_ok-start.ensures i) (c.in_ok-end.ensures i) (pre_of (asked i) (fixed i)) (post_of (made i) (scopes i) (c.in_ok-tail.ensures i)) (c.in_ok-peak.ensures i) ((c.in_ok-edges.ensures.value ∙ c.as_slice.ensures.value) i))
     ∙ c.into_parts-start.ensures.value in
-    row_kept _ _ _ c.in_ok-asked.ensures.within c.in_ok-fixed.ensures.within c.in_ok-made.ensures.within c.in_ok-scopes.ensures.within c.in_ok-edges.ensures.within same c.into_parts-start.ensures.rule
+    row_kept _ _ _ c.in_ok-asked.ensures.within c.in_ok-nodes.ensures.fixed.within c.in_ok-made.ensures.within c.in_ok-nodes.ensures.scopes.within c.in_ok-edges.ensures.within same c.into_parts-start.ensures.rule
