@@ -94,7 +94,7 @@ impl FilePaths {
         ensures sets { AreFileRules self.now }
     {
         let paths = self.paths.lent();
-        let (low, high) = self.starts.run(&paths, start);
+        let (low, high) = self.starts.run(&paths, &start);
         paths.between(low, high)
     }
 

@@ -61,7 +61,7 @@ pub fn next_offer<'a>(
         ≡ found.0 ∷ offers_left found.1 symbols.now paths.now) }
     ensures start { IfSome result (λ found. found.1.start ≡ at.start) }
 {
-    let (low, high) = starts.run(paths, at.start);
+    let (low, high) = starts.run(paths, &at.start);
     let from = at.place.max(low);
     match offered_in_run(
         paths,

@@ -70,7 +70,7 @@ fn with_path(sizes: Sizes, path: &PartialPath) -> Sizes {
 }
 
 /// Moves the parts of a path of file 0 into the pools, and gives its row. The one error is want of memory, or
-/// of numbers for so many parts.
+/// of numbers: for so many parts, or of 16 bits for this path's nodes, parts and peak.
 pub fn put_path(pools: &mut Pools, path: PartialPath) -> Result<PathRow, AllocError>
     requires { IsOfFileZero path }
     ensures added { OnOk result (AreAddedTo pools.old pools.new) }

@@ -47,14 +47,14 @@ impl StartTable {
 
     /// Where the paths stand that begin there: from which place on, and before which. It takes constant time
     /// where the table tells it, and halves over all paths where it doesn't.
-    pub fn run(&self, paths: &StoredPaths<'_>, start: Start) -> (usize, usize)
+    pub fn run(&self, paths: &StoredPaths<'_>, start: &Start) -> (usize, usize)
         requires order { IsByStart paths.now }
         requires table { IsTable self.now.before.items self.now.nodes paths.now }
         ensures run { take (result.1 - result.0) (drop result.0 paths.now)
-            ≡ rules_at start paths.now }
+            ≡ rules_at start.now paths.now }
         ensures bounds { (result.0 ≤ result.1) × (result.1 ≤ length paths.now) }
     {
-        match told(self.before.as_slice(), self.nodes, start) {
+        match told(self.before.as_slice(), self.nodes, *start) {
             Some(found) => found,
             None => halved_run(paths, start),
         }
@@ -185,14 +185,18 @@ fn place_in(start: Start, nodes: u32) -> usize
     }
 }
 
-/// Where the paths of the start stand, found by halving.
-fn halved_run(paths: &StoredPaths<'_>, start: Start) -> (usize, usize)
+/// Where the paths of the start stand, found by halving. It is seldom called, and stands apart so that a look-up in the
+/// table is a few instructions where it is used.
+#[cold]
+#[inline(never)]
+fn halved_run(paths: &StoredPaths<'_>, start: &Start) -> (usize, usize)
     requires { IsByStart paths.now }
-    ensures run { take (result.1 - result.0) (drop result.0 paths.now) ≡ rules_at start paths.now }
+    ensures run { take (result.1 - result.0) (drop result.0 paths.now)
+        ≡ rules_at start.now paths.now }
     ensures bounds { (result.0 ≤ result.1) × (result.1 ≤ length paths.now) }
 {
-    let low = count_before(paths, start);
-    let many = count_at(&paths.between(low, paths.len()), start);
+    let low = count_before(paths, *start);
+    let many = count_at(&paths.between(low, paths.len()), *start);
     (low, low + many)
 }
 

@@ -101,7 +101,8 @@ impl KeptPaths {
     ghost use Rattle.partial_path.specs.FileNumbers.{IsOfFileZero};
 
     /// These paths of file 0, in their order. It takes room for them once, and no more than they need. The one
-    /// error is want of memory, or of numbers for so many parts.
+    /// error is want of memory, or of numbers: for so many parts, or as a row has them for one path's nodes, parts and
+    /// peak.
     pub fn of(alloc: Global, paths: Vec<PartialPath>) -> Result<KeptPaths, AllocError>
         requires { All IsOfFileZero paths.items }
         ensures { IfOk result (λ kept. kept ≡ paths.items) }

@@ -11,7 +11,7 @@ pub count_at-many-requires : goal.count_at-many-requires
 count_at-many-requires c =
     let rest = c.between.ensures.value ∙ ap (λ n. take (n - c.count_before-low.result) (drop c.count_before-low.result c.args.paths.now)) c.len.ensures
     ∙ take_rest c.args.paths.now c.count_before-low.result ∙ ap (λ n. drop n c.args.paths.now) c.count_before-low.ensures.value in
-    subst (IsPartitionedBy (begins_at c.args.start)) (sym rest) (parted_at c.args.paths.now c.args.start c.requires)
+    subst (IsPartitionedBy (begins_at c.args.start.now)) (sym rest) (parted_at c.args.paths.now c.args.start.now c.requires)
 
 pub returns-clause-run : goal.returns-clause-run
 returns-clause-run c =
@@ -19,6 +19,6 @@ returns-clause-run c =
     ∙ take_rest c.args.paths.now c.count_before-low.result ∙ ap (λ n. drop n c.args.paths.now) c.count_before-low.ensures.value in
     let many : (c.count_before-low.result + c.count_at-many.result) - c.count_before-low.result ≡ c.count_at-many.result = omega arith in
     ap (λ n. take n (drop c.count_before-low.result c.args.paths.now)) (many ∙ c.count_at-many.ensures.value)
-    ∙ ap (λ (rs : List Rule). take (prefix_len (begins_at c.args.start) rs) (drop c.count_before-low.result c.args.paths.now)) rest
-    ∙ ap (λ n. take (prefix_len (begins_at c.args.start) (drop (prefix_len (is_before c.args.start) c.args.paths.now) c.args.paths.now)) (drop n c.args.paths.now)) c.count_before-low.ensures.value
-    ∙ run_is c.args.paths.now c.args.start c.requires
+    ∙ ap (λ (rs : List Rule). take (prefix_len (begins_at c.args.start.now) rs) (drop c.count_before-low.result c.args.paths.now)) rest
+    ∙ ap (λ n. take (prefix_len (begins_at c.args.start.now) (drop (prefix_len (is_before c.args.start.now) c.args.paths.now) c.args.paths.now)) (drop n c.args.paths.now)) c.count_before-low.ensures.value
+    ∙ run_is c.args.paths.now c.args.start.now c.requires
