@@ -65,7 +65,7 @@ fn put_edges(
     ensures fits { OnOk result (AllByRecursion EdgeFits graph.now.edges) }
 {
     for e in 0..graph.edge_count() {
-        put_edge(alloc, out, named, graph.edge(e))?;
+        put_edge(alloc, out, named, &graph.edge(e))?;
     }
     out.end_array()
 }

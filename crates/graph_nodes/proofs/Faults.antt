@@ -1,14 +1,17 @@
 -- What it tells of lists of nodes and edges that they have no fault. The layers above cite these.
-use Rattle.std.proofs.Common.{◌≡◌, ℕ, ◌≤◌, List, length, Bool, true, false, not, cond, refl, arith, IsTrue, Option, Some, None, position, ltb}
+use Rattle.std.proofs.Common.{◌≡◌, ℕ, ◌≤◌, List, length, Bool, true, false, not, cond, refl, arith, ◌&&◌, IsTrue, Option, Some, None, position, ltb}
 use Rattle.std.specs.List.{All, position_or_len}
 use Rattle.std.specs.Option.{option_map}
 use Rattle.std.proofs.lemmas.List.Sums.{fails_before_first}
 use Rattle.std.proofs.lemmas.Bool.Decides.{nat_tests}
 use Rattle.graph_nodes.specs.declared.node.Node.{Node}
 use Rattle.graph_nodes.specs.declared.node.Edge.{Edge}
+use Rattle.graph_nodes.specs.declared.node.Place.{Place}
+use Rattle.graph_nodes.specs.declared.node.Place.TheVariants.{Root, Jump, At}
 use Rattle.graph_nodes.specs.declared.fault.GraphFault.{GraphFault}
 use Rattle.graph_nodes.specs.declared.fault.GraphFault.TheVariants.{TooManyNodes, TooManyEdges, BadEnd, JumpSource, BadScope}
 use Rattle.graph_nodes.specs.Limits.{max_nodes, max_edges}
+use Rattle.graph_nodes.specs.Graph.{has_place}
 use Rattle.graph_nodes.specs.Checked.{has_ends, is_jump, has_scope, above, first_of, graph_fault}
 
 -- of two faults looked at in order there is none where there is neither
@@ -64,3 +67,23 @@ graph_fault-none nodes edges h =
 pub ends_in : (nodes : List Node) (edges others : List Edge) (count : ℕ) → graph_fault nodes edges ≡ None
     → others ≡ edges → count ≡ length nodes → All (λ (e : Edge). IsTrue (has_ends count e)) others
 ends_in nodes edges others count h e n = rw (e, n) (graph_fault-none nodes edges h).ends
+
+-- a place that is there is there among more nodes too
+has_place-more : (m n : ℕ) (place : Place) → m ≤ n → IsTrue (has_place m place) → IsTrue (has_place n place)
+has_place-more m n Root le h = refl
+has_place-more m n Jump le h = refl
+has_place-more m n (At k) le h = grind (arith, nat_tests)
+
+both-more : (a b c d : Bool) → (IsTrue a → IsTrue c) → (IsTrue b → IsTrue d) → IsTrue (a && b) → IsTrue (c && d)
+both-more true true c d f g h = rw (f refl, g refl) refl
+both-more true false c d f g h = cc
+both-more false b c d f g h = cc
+
+-- the ends of each edge are there among the most nodes that a file has, the edges by another name
+pub ends_fit : (nodes : List Node) (edges others : List Edge) → graph_fault nodes edges ≡ None
+    → others ≡ edges → All (λ (e : Edge). IsTrue (has_ends max_nodes e)) others
+ends_fit nodes edges others h e =
+    let none = graph_fault-none nodes edges h in
+    let there : All (λ (e : Edge). IsTrue (has_ends max_nodes e)) edges = λ k d lt.
+    both-more _ _ _ _ (has_place-more (length nodes) max_nodes _ none.few_nodes) (has_place-more (length nodes) max_nodes _ none.few_nodes) (none.ends k d lt) in
+    rw e there

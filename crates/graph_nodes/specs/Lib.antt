@@ -4,4 +4,5 @@ pub mod Checked
 pub mod Cut
 pub mod Out
 pub mod Inside
+pub mod Packed
 pub mod Whole

@@ -3,6 +3,7 @@ use crate::edges::EdgeIter;
 use crate::fault::GraphFault;
 use crate::index::{Rows, marks_of, row_of, rows_of};
 use crate::node::{Edge, Node, Place};
+use crate::packed::{EdgeRow, edge_in, packed};
 use std::alloc::{AllocError, Global};
 use std::marker::Model;
 
@@ -16,7 +17,7 @@ pub const MAX_EDGES: usize = 65_536;
 #[derive(Debug, Drop)]
 pub struct FileGraph {
     nodes: Vec<Node>,
-    edges: Vec<Edge>,
+    edges: Vec<EdgeRow>,
     /// For each place the positions of the edges that leave it, rising.
     rows: Rows,
     /// For each node whether it is a turning node.
@@ -24,14 +25,16 @@ pub struct FileGraph {
 }
 
 impl Model for FileGraph {
+    ghost use Rattle.std.specs.Prelude.{map};
     ghost use Rattle.graph_nodes.specs.Graph.{Graph};
     ghost use Rattle.graph_nodes.specs.Inside.{IsIndexed};
+    ghost use Rattle.graph_nodes.specs.Packed.{edge_in};
 
     ghost Value = { Graph };
 
-    ghost view = { λ g. record { nodes = g.nodes.items; edges = g.edges.items } };
+    ghost view = { λ g. record { nodes = g.nodes.items; edges = map edge_in g.edges.items } };
 
-    ghost invariant = { λ g. IsIndexed g.nodes.items g.edges.items
+    ghost invariant = { λ g. IsIndexed g.nodes.items (map edge_in g.edges.items)
         g.rows.starts.items g.rows.order.items g.marks.items };
 }
 
@@ -71,6 +74,7 @@ impl FileGraph {
         let count = nodes.as_slice().len();
         let rows = rows_of(alloc, count, edges.as_slice())?;
         let marks = marks_of(alloc, count, edges.as_slice())?;
+        let edges = packed(alloc, edges.as_slice())?;
         Ok(FileGraph {
             nodes,
             edges,
@@ -102,13 +106,6 @@ impl FileGraph {
         self.nodes.as_slice()
     }
 
-    /// The edges, by position.
-    pub fn edges(&self) -> &[Edge]
-        ensures { result.now ≡ self.now.edges }
-    {
-        self.edges.as_slice()
-    }
-
     /// The node at the position.
     pub fn node(&self, n: u32) -> &Node
         requires { n < length self.now.nodes }
@@ -118,11 +115,11 @@ impl FileGraph {
     }
 
     /// The edge at the position.
-    pub fn edge(&self, e: u32) -> &Edge
+    pub fn edge(&self, e: u32) -> Edge
         requires { e < length self.now.edges }
-        ensures { slice_get self.now.edges e ≡ Some result.now }
+        ensures { slice_get self.now.edges e ≡ Some result }
     {
-        &self.edges[e as usize]
+        edge_in(self.edges[e as usize])
     }
 
     /// Whether a path is cut at the place: at the root, at jump, at exported scopes and at turning

@@ -7,6 +7,7 @@ mod fault;
 mod graph;
 mod index;
 mod node;
+mod packed;
 mod steps;
 
 pub use edges::EdgeIter;

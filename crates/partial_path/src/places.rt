@@ -20,8 +20,8 @@ pub fn node_at(files: &[FileGraph], at: NodeAt) -> Option<&Node>
 }
 
 /// The edge of the files; None where there is none.
-pub fn edge_at(files: &[FileGraph], at: EdgeAt) -> Option<&Edge>
-    ensures { option_copied result ≡ edge_of files.now at.file at.edge }
+pub fn edge_at(files: &[FileGraph], at: EdgeAt) -> Option<Edge>
+    ensures { result ≡ edge_of files.now at.file at.edge }
 {
     let graph = files.get(at.file as usize)?;
     if at.edge < graph.edge_count() {

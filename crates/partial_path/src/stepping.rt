@@ -22,7 +22,7 @@ pub fn step(
     ensures { IfOk result (λ next. next ≡ step files.now at edge) }
 {
     match edge_at(files, edge) {
-        Some(found) => follow(alloc, files, edge.file, *found, at),
+        Some(found) => follow(alloc, files, edge.file, found, at),
         None => Ok(None),
     }
 }

@@ -59,7 +59,7 @@ pub(crate) fn edge_of(graph: &FileGraph, edge: u32) -> Edge
     ensures sink { IsTrue (has_place (length graph.now.nodes) result.sink) }
 {
     let _ = graph.edge_count();
-    *graph.edge(edge)
+    graph.edge(edge)
 }
 
 /// The path of these edges that enters the place of the file.

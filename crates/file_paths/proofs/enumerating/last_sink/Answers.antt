@@ -7,7 +7,7 @@ pub edge-requires : goal.edge-requires
 edge-requires c = last_is_there c.args.graph.now c.args.edges.now _ c.requires
 
 pub returns-clause-leads : goal.returns-clause-leads
-returns-clause-leads c = last_leads c.args.graph.now c.args.edges.now _ c.edge.result.now c.requires c.edge.ensures
+returns-clause-leads c = last_leads c.args.graph.now c.args.edges.now _ c.edge.result c.requires c.edge.ensures
 
 pub returns-clause-place : goal.returns-clause-place
-returns-clause-place c = has_sink c.args.graph.now _ c.edge.result.now c.edge_count.ensures.checked c.edge.ensures
+returns-clause-place c = has_sink c.args.graph.now _ c.edge.result c.edge_count.ensures.checked c.edge.ensures

@@ -7,7 +7,7 @@ loop-e-init c = no_edges c.args.named c.args.out.now c.args.graph.now.edges
 
 pub loop-e-preserved : goal.loop-e-preserved
 loop-e-preserved c =
-    one_edge c.args.named c.args.out.now c.loop-e.out c.put_edge.new.out c.loop-e.e c.args.graph.now.edges c.edge.result.now c.edge.ensures c.loop-e.invariant
+    one_edge c.args.named c.args.out.now c.loop-e.out c.put_edge.new.out c.loop-e.e c.args.graph.now.edges c.edge.result c.edge.ensures c.loop-e.invariant
     (c.in_ok-put_edge.ensures).adds.ok (c.in_ok-put_edge.ensures).adds.before (c.in_ok-put_edge.ensures).fits
 
 pub returns-clause-adds : goal.returns-clause-adds

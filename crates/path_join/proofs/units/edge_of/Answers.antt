@@ -26,6 +26,6 @@ sink-there nodes edges e edge h s =
 pub returns : goal.returns
 returns c = record {
   is = c.edge.ensures;
-  source = source-no_jump c.args.graph.now.nodes c.args.graph.now.edges c.args.edge c.edge.result.now c.edge_count.ensures.checked c.edge.ensures;
-  sink = sink-there c.args.graph.now.nodes c.args.graph.now.edges c.args.edge c.edge.result.now c.edge_count.ensures.checked c.edge.ensures;
+  source = source-no_jump c.args.graph.now.nodes c.args.graph.now.edges c.args.edge c.edge.result c.edge_count.ensures.checked c.edge.ensures;
+  sink = sink-there c.args.graph.now.nodes c.args.graph.now.edges c.args.edge c.edge.result c.edge_count.ensures.checked c.edge.ensures;
 }

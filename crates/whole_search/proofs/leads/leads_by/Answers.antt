@@ -4,4 +4,4 @@ use Rattle.whole_search.proofs.leads.leads_by.Goals as goal
 
 pub leads_on-requires : goal.leads_on-requires
 leads_on-requires c =
-    has_sink c.args.graph.now c.args.e c.edge.result.now c.edge_count.ensures.checked c.edge.ensures
+    has_sink c.args.graph.now c.args.e c.edge.result c.edge_count.ensures.checked c.edge.ensures
