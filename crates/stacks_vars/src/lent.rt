@@ -1,0 +1,184 @@
+//! Symbols on the stacks of a search, lent by the files whose paths make them.
+use crate::scopes::ScopeStack;
+use crate::symbol::Symbol;
+use std::alloc::{AllocError, Global};
+use std::marker::Model;
+
+/// A symbol on a stack of a search: plain, or with an attached scope stack. The symbol itself is lent, so that a copy
+/// counts no holder more. A contract sees a `SymbolItem`.
+#[derive(Drop)]
+pub struct LentItem<'a> {
+    symbol: &'a Symbol,
+    scopes: Option<ScopeStack>,
+}
+
+impl<'a> Model for LentItem<'a> {
+    ghost use Rattle.stacks_vars.specs.declared.items.SymbolItem.{SymbolItem};
+    ghost use Rattle.stacks_vars.specs.Enter.{item_of};
+
+    ghost Value = { SymbolItem };
+
+    ghost view = { λ i. item_of i.symbol.now i.scopes };
+}
+
+impl<'a> LentItem<'a> {
+    ghost use Rattle.std.specs.Prelude.{◌≡◌, ◌↔◌, IfOk, IsTrue};
+    ghost use Rattle.stacks_vars.specs.Enter.{item_of};
+    ghost use Rattle.stacks_vars.specs.Same.{item_eq};
+
+    /// The symbol with these scopes attached.
+    pub fn of(symbol: &'a Symbol, scopes: Option<ScopeStack>) -> LentItem<'a>
+        ensures { result ≡ item_of symbol.now scopes }
+    {
+        LentItem { symbol, scopes }
+    }
+
+    /// The symbol itself.
+    pub fn symbol(&self) -> &'a Symbol
+        ensures { result.now ≡ self.now.symbol }
+    {
+        self.symbol
+    }
+
+    /// The attached scopes; None where it is plain.
+    pub fn scopes(&self) -> &Option<ScopeStack>
+        ensures { result.now ≡ self.now.scopes }
+    {
+        &self.scopes
+    }
+
+    /// The same symbol and scopes once more, at the cost of the scopes' number; the one error is want of memory.
+    pub fn copy(&self, alloc: Global) -> Result<LentItem<'a>, AllocError>
+        ensures { IfOk result (λ copy. copy ≡ self.now) }
+    {
+        let scopes = match &self.scopes {
+            Some(scopes) => Some(scopes.copy(alloc)?),
+            None => None,
+        };
+        Ok(LentItem {
+            symbol: self.symbol,
+            scopes,
+        })
+    }
+
+    /// Whether both have the same symbol, and both are plain or have the same scopes attached.
+    pub fn same(&self, other: &LentItem<'_>) -> bool
+        ensures eq { result ≡ item_eq self.now other.now }
+        ensures exact { IsTrue result ↔ (self.now ≡ other.now) }
+    {
+        self.symbol.same(other.symbol) && same_scopes(&self.scopes, &other.scopes)
+    }
+}
+
+/// A stack of symbols that are lent. A contract sees a list, its front first.
+#[derive(Drop)]
+pub struct LentStack<'a> {
+    /// The front is last, so that it comes and goes at no cost.
+    items: Vec<LentItem<'a>>,
+}
+
+impl<'a> Model for LentStack<'a> {
+    ghost use Rattle.std.specs.Prelude.{List, reverse};
+    ghost use Rattle.stacks_vars.specs.declared.items.SymbolItem.{SymbolItem};
+
+    ghost Value = { List SymbolItem };
+
+    ghost view = { λ s. reverse s.items.items };
+}
+
+impl<'a> LentStack<'a> {
+    ghost use Rattle.std.specs.Prelude.{◌≡◌, ◌↔◌, ◌+◌, [], ◌∷◌, drop, length, reverse, IfOk, OnOk, IsTrue};
+    ghost use Rattle.std.specs.Cmp.Lexicographic.{pointwise};
+    ghost use Rattle.stacks_vars.specs.Same.{item_eq};
+
+    /// The empty stack. It takes no memory.
+    pub fn new(alloc: Global) -> LentStack<'a>
+        ensures { result ≡ [] }
+    {
+        LentStack {
+            items: Vec::new(alloc),
+        }
+    }
+
+    /// Its symbols from the last to the front, which they are kept in.
+    pub fn reversed(&self) -> &[LentItem<'a>]
+        ensures { result.now ≡ reverse self.now }
+    {
+        self.items.as_slice()
+    }
+
+    /// How many symbols it has.
+    pub fn len(&self) -> usize
+        ensures { result ≡ length self.now }
+    {
+        self.items.len()
+    }
+
+    /// Whether it has no symbols.
+    pub fn is_empty(&self) -> bool
+        ensures { IsTrue result ↔ (self.now ≡ []) }
+    {
+        self.items.is_empty()
+    }
+
+    /// Puts the symbol in front; the one error is want of memory.
+    pub fn push(&mut self, item: LentItem<'a>) -> Result<(), AllocError>
+        ensures { OnOk result (self.new ≡ item.entry ∷ self.old) }
+    {
+        self.items.push(item)?;
+        Ok(())
+    }
+
+    /// The stack without its first symbols, so many, once more, with room for `room` symbols to be put in front. It costs
+    /// what is left; the one error is want of memory.
+    pub fn rest(&self, alloc: Global, but: usize, room: usize) -> Result<LentStack<'a>, AllocError>
+        ensures { IfOk result (λ rest. rest ≡ drop but self.now) }
+    {
+        let left = self.items.len().saturating_sub(but);
+        let mut items = Vec::with_capacity(alloc, left.saturating_add(room))?;
+        for item in &self.items[..left] {
+            items.push(item.copy(alloc)?)?;
+        }
+        Ok(LentStack { items })
+    }
+
+    /// Whether both have the same symbols, with the same scopes, in the same order. It begins at the front, where two
+    /// stacks of one search differ first.
+    pub fn same(&self, other: &LentStack<'_>) -> bool
+        ensures eq { result ≡ pointwise item_eq self.now other.now }
+        ensures exact { IsTrue result ↔ (self.now ≡ other.now) }
+    {
+        same_items(self.reversed(), other.reversed())
+    }
+}
+
+ghost use Rattle.std.specs.Prelude.{◌≡◌, ◌↔◌, IsTrue};
+ghost use Rattle.stacks_vars.specs.Same.{attached_eq};
+
+/// Whether both are plain, or both have the same scopes attached.
+fn same_scopes(left: &Option<ScopeStack>, right: &Option<ScopeStack>) -> bool
+    ensures { result ≡ attached_eq left.now right.now }
+{
+    match (left, right) {
+        (Some(left), Some(right)) => left.same(right),
+        (None, None) => true,
+        _ => false,
+    }
+}
+
+/// Whether both are the same symbols in the same order, begun at the last.
+fn same_items(left: &[LentItem<'_>], right: &[LentItem<'_>]) -> bool
+    ensures { IsTrue result ↔ (left.now ≡ right.now) }
+{
+    if left.len() != right.len() {
+        return false;
+    }
+    let mut rest = left.len();
+    while rest > 0 {
+        rest -= 1;
+        if !left[rest].same(&right[rest]) {
+            return false;
+        }
+    }
+    true
+}
