@@ -1,5 +1,5 @@
 -- Heads stand as their texts do where they differ, and those of short texts tell them.
-use Rattle.std.proofs.Common.{◌≡◌, refl, sym, ◌∙◌, ap, subst, ℕ, zero, suc, ◌+◌, ◌*◌, ◌%◌, ◌<◌, ◌≤◌, List, [], ◌∷◌, length, true, arith, inl, inr, ◌⊎◌}
+use Rattle.std.proofs.Common.{◌≡◌, refl, sym, ◌∙◌, ap, subst, ℕ, zero, suc, ◌+◌, ◌*◌, ◌%◌, ◌<◌, ◌≤◌, List, [], ◌∷◌, length, drop, true, arith, inl, inr, ◌⊎◌}
 use Rattle.std.specs.Prelude.{slice_index}
 use Rattle.std.specs.Str.{bytes_eq}
 use Rattle.std.proofs.lemmas.Slice.Eq.{bytes_eq-Decides}
@@ -140,3 +140,34 @@ whole_stands p q xs ys a b same whole = sym (same_stands xs ys (whole_told p q x
 
 pub whole_equal : (p q : ℕ) (xs ys : List ℕ) → IsHead p xs → IsHead q ys → p ≡ q → p % 256 ≤ 8 → bytes_eq xs ys ≡ true
 whole_equal p q xs ys a b same whole = (bytes_eq-Decides xs ys).1 (whole_told p q xs ys a b same whole)
+
+-- bytes that are the same decide nothing
+past_alike : (n : ℕ) (xs ys : List ℕ) → Alike n xs ys → n ≤ length xs → n ≤ length ys → slice_cmp nat_cmp xs ys ≡ slice_cmp nat_cmp (drop n xs) (drop n ys)
+past_alike zero xs ys same a b = refl
+past_alike (suc n) [] ys same a b = absurd (omega (arith, a))
+past_alike (suc n) (x ∷ xs) [] same a b = absurd (omega (arith, b))
+past_alike (suc n) (x ∷ xs) (y ∷ ys) same a b =
+    ap (λ o. ordering_then o (slice_cmp nat_cmp xs ys)) (nat_same x y (same zero (omega arith)))
+    ∙ past_alike n xs ys (later n x y xs ys same) (omega (arith, a)) (omega (arith, b))
+
+-- texts of more than seven bytes with one head: so many, and the bytes behind the first seven decide
+pub record AreLong (xs ys : List ℕ) : Type 0 where
+  pub first : 7 ≤ length xs
+  pub second : 7 ≤ length ys
+  pub alike : slice_cmp nat_cmp xs ys ≡ slice_cmp nat_cmp (drop 7 xs) (drop 7 ys)
+
+pub long_alike : (p q : ℕ) (xs ys : List ℕ) → IsHead p xs → IsHead q ys → p ≡ q → (p % 256 ≤ 8 → ⊥) → AreLong xs ys
+long_alike p q xs ys a b same long = by (front 7 xs) (front 7 ys) refl refl
+  where
+    by : (m n : ℕ) → front 7 xs ≡ m → front 7 ys ≡ n → AreLong xs ys
+    by m n is_m is_n =
+        let left : p ≡ m * 256 + last_digit xs = a.value ∙ ap (λ k. k * 256 + last_digit xs) is_m in
+        let right : q ≡ n * 256 + last_digit ys = b.value ∙ ap (λ k. k * 256 + last_digit ys) is_n in
+        let fronts : m ≡ n = omega (arith, left, right, same) in
+        let one : 7 ≤ length xs = omega (arith, left, long) in
+        let other : 7 ≤ length ys = omega (arith, right, same, long) in
+        record {
+          first = one;
+          second = other;
+          alike = past_alike 7 xs ys (fronts_alike 7 xs ys a.bytes b.bytes (is_m ∙ fronts ∙ sym is_n)) one other;
+        }

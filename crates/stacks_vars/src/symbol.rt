@@ -97,7 +97,7 @@ impl Symbol {
         if is_whole(self.head) {
             return Ordering::Equal;
         }
-        bytes_cmp(self.as_bytes(), other.as_bytes())
+        tails_cmp(self.as_bytes(), other.as_bytes())
     }
 
     /// Whether both are the same symbol. Bytes are looked at only where both heads are equal and the
@@ -109,17 +109,24 @@ impl Symbol {
         if self.head != other.head {
             return false;
         }
-        is_whole(self.head) || bytes_cmp(self.as_bytes(), other.as_bytes()).is_eq()
+        is_whole(self.head) || tails_cmp(self.as_bytes(), other.as_bytes()).is_eq()
     }
 }
 
-/// How bytes stand to others: as the first ones that differ do, and a shorter text before those that begin with it. They
-/// are compared one by one: most symbols have so few bytes that comparing words of them takes longer.
-fn bytes_cmp(a: &[u8], b: &[u8]) -> Ordering
+/// How many bytes of a symbol its head has.
+const HEAD_BYTES: usize = 7;
+
+/// How bytes stand to others whose first seven are the same: as the first ones that differ do, and a shorter text before
+/// those that begin with it. They are compared one by one: most symbols have so few more bytes that comparing words of
+/// them takes longer.
+fn tails_cmp(a: &[u8], b: &[u8]) -> Ordering
+    requires more { (7 ≤ length a.now) × (7 ≤ length b.now) }
+    requires alike { slice_cmp nat_cmp a.now b.now
+        ≡ slice_cmp nat_cmp (drop 7 a.now) (drop 7 b.now) }
     ensures { result ≡ slice_cmp nat_cmp a.now b.now }
 {
     let count = a.len().min(b.len());
-    for i in 0..count {
+    for i in HEAD_BYTES..count {
         let order = a[i].cmp(&b[i]);
         if order.is_ne() {
             return order;
@@ -128,7 +135,7 @@ fn bytes_cmp(a: &[u8], b: &[u8]) -> Ordering
     a.len().cmp(&b.len())
 }
 
-ghost use Rattle.std.specs.Prelude.{◌≡◌, ◌↔◌, ◌+◌, ◌%◌, ◌≤◌, IsTrue, length, min, slice_index};
+ghost use Rattle.std.specs.Prelude.{◌≡◌, ◌↔◌, ◌+◌, ◌%◌, ◌≤◌, IsTrue, drop, length, min, slice_index};
 ghost use Rattle.stacks_vars.specs.Head.{IsHead, last_digit};
 ghost use Rattle.std.specs.Ordering.{nat_cmp};
 ghost use Rattle.std.specs.Cmp.Lexicographic.{slice_cmp};

@@ -23,11 +23,11 @@ returns-then-is_whole-clause-exact c =
 
 pub returns-else-is_whole-clause-eq : goal.returns-else-is_whole-clause-eq
 returns-else-is_whole-clause-eq c =
-    c.is_eq.ensures ∙ ap is_eq (c.bytes_cmp.ensures ∙ (λ i. slice_cmp nat_cmp (c.as_bytes.ensures i) (c.as_bytes-else-is_whole.ensures i)))
+    c.is_eq.ensures ∙ ap is_eq (c.tails_cmp.ensures ∙ (λ i. slice_cmp nat_cmp (c.as_bytes.ensures i) (c.as_bytes-else-is_whole.ensures i)))
     ∙ is_eq-slice_cmp c.args.self.now c.args.other.now
 
 pub returns-else-is_whole-clause-exact : goal.returns-else-is_whole-clause-exact
 returns-else-is_whole-clause-exact c =
-    let told = c.is_eq.ensures ∙ ap is_eq (c.bytes_cmp.ensures ∙ (λ i. slice_cmp nat_cmp (c.as_bytes.ensures i) (c.as_bytes-else-is_whole.ensures i)))
+    let told = c.is_eq.ensures ∙ ap is_eq (c.tails_cmp.ensures ∙ (λ i. slice_cmp nat_cmp (c.as_bytes.ensures i) (c.as_bytes-else-is_whole.ensures i)))
     ∙ is_eq-slice_cmp c.args.self.now c.args.other.now in
     (λ e. (bytes_eq-Decides c.args.self.now c.args.other.now).0 (sym told ∙ e), λ e. told ∙ (bytes_eq-Decides c.args.self.now c.args.other.now).1 e)

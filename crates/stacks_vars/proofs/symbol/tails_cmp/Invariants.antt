@@ -1,7 +1,7 @@
 use Rattle.std.proofs.Common.{◌≡◌, drop}
 use Rattle.std.specs.Ordering.{nat_cmp}
 use Rattle.std.specs.Cmp.Lexicographic.{slice_cmp}
-use Rattle.stacks_vars.proofs.symbol.bytes_cmp.Given as goal
+use Rattle.stacks_vars.proofs.symbol.tails_cmp.Given as goal
 
 -- the bytes left decide
 abbrev pub invariant-loop-i : goal.invariant-loop-i
