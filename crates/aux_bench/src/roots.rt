@@ -5,7 +5,7 @@ ghost use Rattle.root_index.specs.Roots.{IsIndexOf, IsIndexOfView};
 use crate::graphs::{file_of, graph};
 use partial_path::SharedPaths;
 use root_index::RootIndex;
-use stacks_vars::{Symbol, SymbolItem, SymbolStack};
+use stacks_vars::{LentStack, Symbol, SymbolItem, SymbolStack};
 use std::alloc::Global;
 use std::marker::Model;
 use std::str;
@@ -160,16 +160,20 @@ pub fn offered(alloc: Global, text: &[u8], times: u32) -> Option<u32> {
         stacks.push(stack_of(alloc, word)?).ok()?;
     }
     let kept = Kept::of(alloc, &files)?;
-    asked(alloc, &kept, &stacks, times)
+    let mut lent = Vec::new(alloc);
+    for stack in &stacks {
+        lent.push(LentStack::of(alloc, stack).ok()?).ok()?;
+    }
+    asked(alloc, &kept, &lent, times)
 }
 
 /// Asks the index so many times for each of the stacks.
-fn asked(alloc: Global, kept: &Kept, stacks: &[SymbolStack], times: u32) -> Option<u32> {
+fn asked(alloc: Global, kept: &Kept, stacks: &[LentStack<'_>], times: u32) -> Option<u32> {
     let view = kept.version.view(alloc, "operator").ok()?;
     Some(asked_in(&kept.index, &view, stacks, times))
 }
 
-fn asked_in(index: &RootIndex, view: &View, stacks: &[SymbolStack], times: u32) -> u32
+fn asked_in(index: &RootIndex, view: &View, stacks: &[LentStack<'_>], times: u32) -> u32
     requires { IsIndexOfView index.now view.now }
 {
     let mut count = 0;
@@ -179,7 +183,7 @@ fn asked_in(index: &RootIndex, view: &View, stacks: &[SymbolStack], times: u32) 
     count
 }
 
-fn offered_to_all(index: &RootIndex, view: &View, stacks: &[SymbolStack]) -> u32
+fn offered_to_all(index: &RootIndex, view: &View, stacks: &[LentStack<'_>]) -> u32
     requires { IsIndexOfView index.now view.now }
 {
     let mut count: u32 = 0;
@@ -190,7 +194,7 @@ fn offered_to_all(index: &RootIndex, view: &View, stacks: &[SymbolStack]) -> u32
 }
 
 /// How many paths the index offers to the stack.
-fn offers_to(index: &RootIndex, view: &View, symbols: &SymbolStack) -> u32
+fn offers_to(index: &RootIndex, view: &View, symbols: &LentStack<'_>) -> u32
     requires { IsIndexOfView index.now view.now }
 {
     let mut at = index.offers(view, symbols);

@@ -5,7 +5,7 @@ use crate::paths::paths_of;
 use aux_graph_text::stacks_of;
 use partial_path::{Spot, Start, StoredPath};
 use root_index::RootIndex;
-use stacks_vars::SymbolStack;
+use stacks_vars::LentStack;
 use std::alloc::Global;
 use std::marker::Model;
 use std::test::Fail;
@@ -92,7 +92,7 @@ fn offered(
     index: &RootIndex,
     version: &Version,
     user: &str,
-    symbols: &SymbolStack,
+    symbols: &LentStack<'_>,
 ) -> Result<Vec<(u32, usize, usize)>, Fail>
     requires { IsIndexOf version.now.content.rows index.now }
 {
@@ -111,14 +111,14 @@ fn offered(
 }
 
 /// Whether the texts of the first six symbols that the path asks for are those of the stack's first ones.
-fn stands_first(path: &StoredPath<'_>, symbols: &SymbolStack) -> bool {
+fn stands_first(path: &StoredPath<'_>, symbols: &LentStack<'_>) -> bool {
     let asked = path.asked();
     let items = symbols.reversed();
     for i in 0..asked.len().min(6) {
         if i >= items.len() {
             return false;
         }
-        if !asked[i].symbol.same(&items[items.len() - 1 - i].symbol) {
+        if !asked[i].symbol.same(items[items.len() - 1 - i].symbol()) {
             return false;
         }
     }
@@ -130,7 +130,7 @@ fn filtered(
     alloc: Global,
     version: &Version,
     user: &str,
-    symbols: &SymbolStack,
+    symbols: &LentStack<'_>,
 ) -> Result<Vec<(u32, usize, usize)>, Fail> {
     let view = version.view(alloc, user)?;
     let mut found = Vec::new(alloc);
@@ -153,9 +153,10 @@ fn is_right(alloc: Global, index: &RootIndex, version: &Version) -> Result<bool,
 {
     for text in &STACKS {
         let stacks = stacks_of(alloc, text)?;
+        let symbols = LentStack::of(alloc, &stacks.symbols)?;
         for user in &["operator", "ann"] {
-            let found = offered(alloc, index, version, user, &stacks.symbols)?;
-            if found.as_slice() != filtered(alloc, version, user, &stacks.symbols)?.as_slice() {
+            let found = offered(alloc, index, version, user, &symbols)?;
+            if found.as_slice() != filtered(alloc, version, user, &symbols)?.as_slice() {
                 return Ok(false);
             }
         }

@@ -11,7 +11,7 @@ use partial_path::{
     FileOffers, FilePaths, ListOffers, PathSource, Spot, Start, StoredPath, StoredPaths, asks,
 };
 use root_index::{RootIndex, RootOffers};
-use stacks_vars::{NodeAt, Symbol, SymbolStack};
+use stacks_vars::{LentStack, NodeAt, Symbol};
 use std::marker::Model;
 use version_tree::View;
 
@@ -78,14 +78,14 @@ impl<'a> PathSource for ViewSource<'a> {
 
     ghost offered = { λ s symbols at. offers_left s symbols at };
 
-    fn offers(&self, start: &Start, symbols: &SymbolStack) -> ViewOffers {
+    fn offers(&self, start: &Start, symbols: &LentStack<'_>) -> ViewOffers {
         are_sources(self.view);
         offers_from(self.view, self.index, *start, symbols)
     }
 
     fn next_offer(
         &self,
-        symbols: &SymbolStack,
+        symbols: &LentStack<'_>,
         at: ViewOffers,
     ) -> Option<(u32, StoredPath<'_>, ViewOffers)> {
         match at {
@@ -221,7 +221,7 @@ fn path_of_root<'a>(
 }
 
 /// Before the first path that is offered at the start.
-fn offers_from(view: &View, index: &RootIndex, start: Start, symbols: &SymbolStack) -> ViewOffers
+fn offers_from(view: &View, index: &RootIndex, start: Start, symbols: &LentStack<'_>) -> ViewOffers
     requires { IsIndexOfView index.now view.now }
     ensures { IsPermutation (rules_offered (files_of view.now) start symbols.now)
         (offers_left (seen_of view.now index.now) symbols.now result) }
@@ -236,7 +236,7 @@ fn offers_from(view: &View, index: &RootIndex, start: Start, symbols: &SymbolSta
 }
 
 /// The same at a start that is in the file of this node.
-fn offers_inside(view: &View, start: Start, node: NodeAt, _symbols: &SymbolStack) -> ListOffers
+fn offers_inside(view: &View, start: Start, node: NodeAt, _symbols: &LentStack<'_>) -> ListOffers
     requires alone { is_shared start ≡ false }
     requires file { node.file ≡ file_of start }
     ensures { offers_here (files_of view.now) _symbols.now result
@@ -273,7 +273,7 @@ fn in_file_0(node: NodeAt) -> NodeAt
 /// The path that comes next in a look-up in one file, with the file's number, and where the look-up stands after it.
 fn next_inside<'a>(
     view: &'a View,
-    symbols: &SymbolStack,
+    symbols: &LentStack<'_>,
     at: ListOffers,
 ) -> Option<(u32, StoredPath<'a>, ListOffers)>
     ensures { MatchOption result (offers_here (files_of view.now) symbols.now at ≡ [])

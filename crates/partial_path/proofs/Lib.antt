@@ -1,5 +1,5 @@
 -- Which clause rests on which file. `PartialPath::check` on Firsts; `moved` on MovedRules and FileNumberLaws;
--- `meets` on Lefts and Asked, `apply` and `apply_met` on Leaving and Put. `FilePaths::new`: order and keys on Pieces
+-- `meets` on Lefts and Asked, `apply` and `apply_met` on Leaving. `FilePaths::new`: order and keys on Pieces
 -- and KeyOrders, its sets on Reordered; `paths_from` on Tabled and Halved, `paths_asking` on Halved; `next_offer` on
 -- Offered, which Tabled, HeadOrders, Kept, KeyOrders and Standing serve. `FileList` on Asking and Listing; `is_cut_edge` on
 -- Edges. HeadOrders is also for `root_index`, Standing for `root_index` and `end_index`.
@@ -15,7 +15,6 @@ pub mod Prefixes
 pub mod Cycles
 pub mod Firsts
 pub mod Lefts
-pub mod Put
 pub mod Leaving
 pub mod Asked
 pub mod Orders

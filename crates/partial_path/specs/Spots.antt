@@ -19,6 +19,10 @@ at_root stacks = record { spot = Root; stacks = stacks }
 abbrev pub at_node : NodeAt → Stacks → Config
 at_node node stacks = record { spot = At node; stacks = stacks }
 
+-- standing at a spot
+abbrev pub standing_at : Spot → Stacks → Config
+standing_at spot stacks = record { spot = spot; stacks = stacks }
+
 -- whether the spot is the root
 abbrev pub is_root : Spot → Bool
 is_root Root = true

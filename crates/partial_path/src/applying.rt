@@ -1,23 +1,30 @@
 ghost use Rattle.std.specs.Prelude.{◌≡◌, ◌&&◌, IfOk, IsTrue};
 ghost use Rattle.std.specs.Option.{is_some};
+ghost use Rattle.stacks_vars.specs.Enter.{stacks_of};
 ghost use Rattle.partial_path.specs.Same.{spot_eq};
 ghost use Rattle.partial_path.specs.Rules.{start_spot};
 ghost use Rattle.partial_path.specs.Apply.{match_stacks, end_at, apply};
 ghost use Rattle.partial_path.specs.Moved.{moved, moved_spot, moved_start, moved_pre, moved_end, Fits, FitsSpot, FitsEnd};
 
-use crate::config::{Config, Spot};
+use crate::config::Spot;
 use crate::filling::{Met, filled_scopes, filled_symbols, moved_node};
+use crate::lent_config::LentConfig;
 use crate::matching::{is_moved, meets_items, meets_scopes};
 use crate::rule::{End, Start};
 use crate::stored::StoredPath;
-use stacks_vars::{Stacks, jump};
+use stacks_vars::{LentStack, ScopeStack};
 use std::alloc::{AllocError, Global};
 
 impl<'a> StoredPath<'a> {
     /// The path with `base` added to each file number, applied to the configuration; None where the
     /// configuration isn't at its start, doesn't meet its precondition, or has no scope by which the path
     /// could end. The one error is want of memory. What isn't met is refused at the cost of the pattern.
-    pub fn apply(&self, alloc: Global, base: u32, at: &Config) -> Result<Option<Config>, AllocError>
+    pub fn apply(
+        &self,
+        alloc: Global,
+        base: u32,
+        at: &LentConfig<'a>,
+    ) -> Result<Option<LentConfig<'a>>, AllocError>
         requires { Fits base self.now }
         ensures { IfOk result (λ next. next ≡ apply (moved base self.now) at.now) }
     {
@@ -34,8 +41,8 @@ impl<'a> StoredPath<'a> {
         &self,
         alloc: Global,
         base: u32,
-        at: &Config,
-    ) -> Result<Option<Config>, AllocError>
+        at: &LentConfig<'a>,
+    ) -> Result<Option<LentConfig<'a>>, AllocError>
         requires fits { Fits base self.now }
         requires met { IsTrue (spot_eq (start_spot
             (moved_start base self.now.start)) at.now.spot && is_some
@@ -45,23 +52,23 @@ impl<'a> StoredPath<'a> {
         let met = Met {
             asked: self.asked(),
             fixed: self.fixed(),
-            stacks: &at.stacks,
+            at,
         };
         let symbols = filled_symbols(alloc, base, &met, self.made())?;
         let scopes = filled_scopes(alloc, base, &met, self.scopes(), self.tail())?;
-        Ok(end_at(base, self.end(), Stacks { symbols, scopes }))
+        Ok(end_at(base, self.end(), symbols, scopes))
     }
 
     /// Whether the configuration is at the path's start, moved by `base`, and meets its precondition. It
     /// takes no memory, and time that follows the precondition.
-    pub fn meets(&self, base: u32, at: &Config) -> bool
+    pub fn meets(&self, base: u32, at: &LentConfig<'_>) -> bool
         ensures { result
             ≡ (spot_eq (start_spot (moved_start base self.now.start)) at.now.spot && is_some
             (match_stacks (moved_pre base self.now.pre) at.now.stacks)) }
     {
-        begins_at(base, self.start(), at.spot)
-            && meets_scopes(base, self.fixed(), &at.stacks.scopes)
-            && meets_items(base, self.asked(), &at.stacks.symbols)
+        begins_at(base, self.start(), at.spot())
+            && meets_scopes(base, self.fixed(), at.scopes())
+            && meets_items(base, self.asked(), at.symbols())
     }
 }
 
@@ -79,22 +86,29 @@ fn begins_at(base: u32, start: Start, at: Spot) -> bool
 
 /// Where a path with this end, moved by `base`, stands with these stacks; None where it ends by the stack
 /// and there is no scope.
-fn end_at(base: u32, end: End, stacks: Stacks) -> Option<Config>
+fn end_at<'a>(
+    base: u32,
+    end: End,
+    symbols: LentStack<'a>,
+    scopes: ScopeStack,
+) -> Option<LentConfig<'a>>
     requires { FitsEnd base end }
-    ensures { result ≡ end_at (moved_end base end) stacks }
+    ensures { result ≡ end_at (moved_end base end) (stacks_of symbols.entry scopes) }
 {
     match end {
-        End::At(spot) => Some(Config {
-            spot: moved_spot(base, spot),
-            stacks,
-        }),
-        End::ByStack => match jump(stacks) {
-            Some((scope, stacks)) => Some(Config {
-                spot: Spot::At(scope),
-                stacks,
-            }),
-            None => None,
-        },
+        End::At(spot) => Some(LentConfig::of(moved_spot(base, spot), symbols, scopes)),
+        End::ByStack => by_stack(symbols, scopes),
+    }
+}
+
+/// At the scope in front of these, which is taken off; None where there is none.
+fn by_stack<'a>(symbols: LentStack<'a>, scopes: ScopeStack) -> Option<LentConfig<'a>>
+    ensures { result ≡ end_at End.ByStack (stacks_of symbols.entry scopes) }
+{
+    let mut left = scopes;
+    match left.pop() {
+        Some(scope) => Some(LentConfig::of(Spot::At(scope), symbols, left)),
+        None => None,
     }
 }
 

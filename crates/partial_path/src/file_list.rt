@@ -5,7 +5,7 @@ use crate::rule::Start;
 use crate::source::PathSource;
 use crate::stored::StoredPath;
 use crate::stored_paths::StoredPaths;
-use stacks_vars::{NodeAt, Pre, Symbol, SymbolStack};
+use stacks_vars::{LentStack, NodeAt, Pre, Symbol};
 use std::alloc::{AllocError, Global};
 use std::marker::Model;
 
@@ -88,7 +88,7 @@ impl PathSource for FileList {
 
     ghost offered = { λ l symbols at. list_offers_left l symbols at };
 
-    fn offers(&self, start: &Start, _symbols: &SymbolStack) -> ListOffers {
+    fn offers(&self, start: &Start, _symbols: &LentStack<'_>) -> ListOffers {
         // The files' facts are known once they are looked at.
         let _count = self.files.len();
         offers_from(*start)
@@ -96,7 +96,7 @@ impl PathSource for FileList {
 
     fn next_offer(
         &self,
-        symbols: &SymbolStack,
+        symbols: &LentStack<'_>,
         at: ListOffers,
     ) -> Option<(u32, StoredPath<'_>, ListOffers)> {
         offer_of(self.files.as_slice(), symbols, at)
@@ -270,7 +270,7 @@ fn in_file_0(node: NodeAt) -> NodeAt
 /// stands after it.
 fn offer_of<'a>(
     files: &'a [FilePaths],
-    symbols: &SymbolStack,
+    symbols: &LentStack<'_>,
     at: ListOffers,
 ) -> Option<(u32, StoredPath<'a>, ListOffers)>
     requires { length files.now ≤ 2 ^ 32 }
@@ -287,7 +287,7 @@ fn offer_of<'a>(
 /// The same of the file where the look-up stands alone.
 fn offer_here<'a>(
     files: &'a [FilePaths],
-    symbols: &SymbolStack,
+    symbols: &LentStack<'_>,
     at: ListOffers,
 ) -> Option<(u32, StoredPath<'a>, ListOffers)>
     requires { length files.now ≤ 2 ^ 32 }
@@ -313,7 +313,7 @@ fn offer_here<'a>(
 /// The same of the files behind that one.
 fn offer_behind<'a>(
     files: &'a [FilePaths],
-    symbols: &SymbolStack,
+    symbols: &LentStack<'_>,
     at: ListOffers,
 ) -> Option<(u32, StoredPath<'a>, ListOffers)>
     requires { length files.now ≤ 2 ^ 32 }

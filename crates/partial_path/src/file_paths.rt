@@ -7,7 +7,7 @@ use crate::start_table::StartTable;
 use crate::stored::StoredPath;
 use crate::stored_paths::{KeptPaths, StoredPaths};
 use graph_nodes::{FileGraph, Node, Place};
-use stacks_vars::SymbolStack;
+use stacks_vars::LentStack;
 use std::alloc::AllocError;
 use std::marker::Model;
 
@@ -103,7 +103,7 @@ impl FilePaths {
     pub fn paths_asking<'a>(
         &'a self,
         start: Start,
-        symbols: &SymbolStack,
+        symbols: &LentStack<'_>,
         count: usize,
     ) -> StoredPaths<'a>
         requires { count ≤ key_size }
@@ -121,7 +121,7 @@ impl FilePaths {
     /// paths whose first symbol has the head of the stack's first one, and at more of these by halving.
     pub fn next_offer<'a>(
         &'a self,
-        symbols: &SymbolStack,
+        symbols: &LentStack<'_>,
         at: FileOffers,
     ) -> Option<(StoredPath<'a>, FileOffers)>
         ensures next { MatchOption result (offers_left at symbols.now self.now.rules ≡ [])

@@ -4,111 +4,92 @@ ghost use Rattle.partial_path.specs.Apply.{tail_scopes, fill_scopes, fill_item};
 ghost use Rattle.partial_path.specs.Left.{left_attached, left_items, left_by};
 ghost use Rattle.partial_path.specs.Moved.{moved_node, moved_scopes_out, moved_symbol_out, FitsNode, FitsSymbol};
 
-use stacks_vars::{
-    NodeAt, ScopeOut, ScopeStack, Stacks, SymOut, SymPat, SymbolItem, SymbolStack, Tail,
-};
+use crate::lent_config::LentConfig;
+use stacks_vars::{LentItem, LentStack, NodeAt, ScopeOut, ScopeStack, SymOut, SymPat, Tail};
 use std::alloc::{AllocError, Global};
 
 /// What a rule asks for, and stacks that meet it: what the rule's variables stand for is there, and is copied where the
 /// postcondition names it.
 #[derive(Clone, Copy)]
-pub struct Met<'a> {
+pub struct Met<'r, 'a> {
     /// The symbols, and the scopes with which the scope stack begins.
-    pub asked: &'a [SymPat],
-    pub fixed: &'a [NodeAt],
-    pub stacks: &'a Stacks,
+    pub asked: &'r [SymPat],
+    pub fixed: &'r [NodeAt],
+    pub at: &'r LentConfig<'a>,
 }
 
 /// The symbols that a rule makes, moved by `base`, and those that it leaves, of which alone there are copies. The one
 /// error is want of memory.
-pub fn filled_symbols(
+pub fn filled_symbols<'a>(
     alloc: Global,
     base: u32,
-    met: &Met,
-    outs: &[SymOut],
-) -> Result<SymbolStack, AllocError>
+    met: &Met<'_, 'a>,
+    outs: &'a [SymOut],
+) -> Result<LentStack<'a>, AllocError>
     requires { All (FitsSymbol base) outs.now }
     ensures { IfOk result
         (λ symbols. symbols
-        ≡ map (fill_item (left_by met.now.asked.now met.now.fixed.now met.now.stacks.now))
+        ≡ map (fill_item (left_by met.now.asked.now met.now.fixed.now met.now.at.now.stacks))
         (map (moved_symbol_out base) outs.now) ++ drop
-        (length met.now.asked.now) met.now.stacks.now.symbols) }
+        (length met.now.asked.now) met.now.at.now.stacks.symbols) }
 {
-    let asked = met.asked.len();
-    let left = met.stacks.symbols.len().saturating_sub(asked);
-    let mut items = Vec::with_capacity(alloc, outs.len().saturating_add(left))?;
-    put_made(alloc, base, met, outs, &mut items)?;
-    put_left(alloc, &met.stacks.symbols, asked, &mut items)?;
-    Ok(SymbolStack::of(items))
+    let mut symbols = met.at.symbols().rest(alloc, met.asked.len(), outs.len())?;
+    put_made(alloc, base, met, outs, &mut symbols)?;
+    Ok(symbols)
 }
 
-/// Puts the symbols that a rule makes, moved by `base`, behind the others. The one error is want of memory.
-fn put_made(
+/// Puts the symbols that a rule makes, moved by `base`, before those of the stack. The one error is want of memory.
+fn put_made<'a>(
     alloc: Global,
     base: u32,
-    met: &Met,
-    outs: &[SymOut],
-    items: &mut Vec<SymbolItem>,
+    met: &Met<'_, 'a>,
+    outs: &'a [SymOut],
+    symbols: &mut LentStack<'a>,
 ) -> Result<(), AllocError>
     requires { All (FitsSymbol base) outs.now }
-    ensures { OnOk result (items.new.items ≡ items.old.items
-        ++ map (fill_item (left_by met.now.asked.now met.now.fixed.now met.now.stacks.now))
-        (map (moved_symbol_out base) outs.now)) }
+    ensures { OnOk result (symbols.new
+        ≡ map (fill_item (left_by met.now.asked.now met.now.fixed.now met.now.at.now.stacks))
+        (map (moved_symbol_out base) outs.now) ++ symbols.old) }
 {
-    for out in outs {
-        items.push(filled_item(alloc, base, met, out)?)?;
-    }
-    Ok(())
-}
-
-/// Puts copies of a stack's symbols behind the others, but for the first of them, so many. The one error is want of
-/// memory.
-fn put_left(
-    alloc: Global,
-    symbols: &SymbolStack,
-    but: usize,
-    items: &mut Vec<SymbolItem>,
-) -> Result<(), AllocError>
-    ensures { OnOk result (items.new.items ≡ items.old.items ++ drop but symbols.now) }
-{
-    let stored = symbols.reversed();
-    let mut left = stored.len().saturating_sub(but);
+    let mut left = outs.len();
     while left > 0 {
         left -= 1;
-        items.push(stored[left].copy(alloc)?)?;
+        symbols.push(filled_item(alloc, base, met, &outs[left])?)?;
     }
     Ok(())
 }
 
 /// A symbol that a rule makes.
-fn filled_item(alloc: Global, base: u32, met: &Met, out: &SymOut) -> Result<SymbolItem, AllocError>
+fn filled_item<'a>(
+    alloc: Global,
+    base: u32,
+    met: &Met<'_, 'a>,
+    out: &'a SymOut,
+) -> Result<LentItem<'a>, AllocError>
     requires { FitsSymbol base out.now }
     ensures { IfOk result
         (λ item. item
-        ≡ fill_item (left_by met.now.asked.now met.now.fixed.now met.now.stacks.now)
+        ≡ fill_item (left_by met.now.asked.now met.now.fixed.now met.now.at.now.stacks)
         (moved_symbol_out base out.now)) }
 {
     let scopes = match &out.scopes {
         Some(scopes) => Some(filled_held(alloc, base, met, scopes.get())?),
         None => None,
     };
-    Ok(SymbolItem {
-        symbol: out.symbol.copy()?,
-        scopes,
-    })
+    Ok(LentItem::of(&out.symbol, scopes))
 }
 
 /// The scopes that are attached to a symbol that a rule makes.
 fn filled_held(
     alloc: Global,
     base: u32,
-    met: &Met,
+    met: &Met<'_, '_>,
     out: &ScopeOut,
 ) -> Result<ScopeStack, AllocError>
     requires { All (FitsNode base) out.now.scopes }
     ensures { IfOk result
         (λ scopes. scopes
-        ≡ fill_scopes (left_by met.now.asked.now met.now.fixed.now met.now.stacks.now)
+        ≡ fill_scopes (left_by met.now.asked.now met.now.fixed.now met.now.at.now.stacks)
         (moved_scopes_out base out.now)) }
 {
     filled_scopes(alloc, base, met, out.scopes.items(), out.tail)
@@ -118,13 +99,13 @@ fn filled_held(
 pub fn filled_scopes(
     alloc: Global,
     base: u32,
-    met: &Met,
+    met: &Met<'_, '_>,
     made: &[NodeAt],
     tail: Tail,
 ) -> Result<ScopeStack, AllocError>
     requires { All (FitsNode base) made.now }
     ensures { IfOk result (λ scopes. scopes ≡ map (moved_node base) made.now
-        ++ tail_scopes (left_by met.now.asked.now met.now.fixed.now met.now.stacks.now) tail) }
+        ++ tail_scopes (left_by met.now.asked.now met.now.fixed.now met.now.at.now.stacks) tail) }
 {
     let mut scopes = tail_copy(alloc, met, tail)?;
     put_fixed(base, made, &mut scopes)?;
@@ -132,33 +113,23 @@ pub fn filled_scopes(
 }
 
 /// A copy of what the variable stands for.
-fn tail_copy(alloc: Global, met: &Met, tail: Tail) -> Result<ScopeStack, AllocError>
+fn tail_copy(alloc: Global, met: &Met<'_, '_>, tail: Tail) -> Result<ScopeStack, AllocError>
     ensures { IfOk result
         (λ scopes. scopes
-        ≡ tail_scopes (left_by met.now.asked.now met.now.fixed.now met.now.stacks.now) tail) }
+        ≡ tail_scopes (left_by met.now.asked.now met.now.fixed.now met.now.at.now.stacks) tail) }
 {
     match tail {
         Tail::Nil => Ok(ScopeStack::new(alloc)),
-        Tail::Front => scopes_left(alloc, met.fixed.len(), &met.stacks.scopes),
-        Tail::Item(place) => { item_left(alloc, met.asked, &met.stacks.symbols, place as usize) }
+        Tail::Front => met.at.scopes().rest(alloc, met.fixed.len()),
+        Tail::Item(place) => { item_left(alloc, met.asked, met.at.symbols(), place as usize) }
     }
 }
 
-/// A copy of the scopes behind the first so many.
-fn scopes_left(alloc: Global, asked: usize, scopes: &ScopeStack) -> Result<ScopeStack, AllocError>
-    ensures { IfOk result (λ left. left ≡ drop asked scopes.now) }
-{
-    let left = scopes.reversed().len().saturating_sub(asked);
-    let mut copy = scopes.copy(alloc)?;
-    copy.keep(left);
-    Ok(copy)
-}
-
-/// The same of the scopes that are attached to the symbol at that place; none where there are none.
+/// A copy of what the variable behind the scopes of the symbol at that place stands for; none where there are none.
 fn item_left(
     alloc: Global,
     asked: &[SymPat],
-    symbols: &SymbolStack,
+    symbols: &LentStack<'_>,
     place: usize,
 ) -> Result<ScopeStack, AllocError>
     ensures { IfOk result (λ left. left ≡ option_map_or
@@ -173,11 +144,11 @@ fn item_left(
 }
 
 /// The same of the scopes that are attached to a symbol.
-fn attached_left(alloc: Global, pat: &SymPat, item: &SymbolItem) -> Result<ScopeStack, AllocError>
+fn attached_left(alloc: Global, pat: &SymPat, item: &LentItem<'_>) -> Result<ScopeStack, AllocError>
     ensures { IfOk result (λ left. left ≡ left_attached pat.now.scopes item.now.scopes) }
 {
-    match (&pat.scopes, &item.scopes) {
-        (Some(scopes), Some(attached)) => scopes_left(alloc, scopes.get().fixed.len(), attached),
+    match (&pat.scopes, item.scopes()) {
+        (Some(scopes), Some(attached)) => attached.rest(alloc, scopes.get().fixed.len()),
         _ => Ok(ScopeStack::new(alloc)),
     }
 }

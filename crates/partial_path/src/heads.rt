@@ -7,7 +7,7 @@ use crate::halving::middle_of;
 use crate::slots::{KEY_SIZE, asked_at, symbol_at};
 use crate::stored::StoredPath;
 use crate::stored_paths::StoredPaths;
-use stacks_vars::SymbolStack;
+use stacks_vars::LentStack;
 use std::alloc::{AllocError, Global};
 
 /// The heads of the paths' first symbols, 0 for one that asks for none; none at all where memory is refused.
@@ -42,7 +42,7 @@ fn first_head(path: &StoredPath<'_>) -> u64
 }
 
 /// The head of the stack's first symbol; 0 where it has none.
-pub fn wanted_head(symbols: &SymbolStack) -> u64
+pub fn wanted_head(symbols: &LentStack<'_>) -> u64
     ensures { IsHeadAt result (slice_get (texts symbols.now) 0) }
 {
     match symbol_at(symbols, KEY_SIZE, 0) {

@@ -12,6 +12,7 @@ mod filling;
 mod halving;
 mod heads;
 mod laws;
+mod lent_config;
 mod matching;
 mod moving;
 mod offers;
@@ -41,6 +42,7 @@ pub use laws::{
     moved_starts_are_starts, no_edges_no_walks, offered_paths_are_stored, returns_are_starts,
     runs_end_in_files,
 };
+pub use lent_config::LentConfig;
 pub use moving::file_zero_moves;
 pub use offers::FileOffers;
 pub use path::{PartialPath, PathParts};

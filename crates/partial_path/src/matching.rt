@@ -4,7 +4,7 @@ ghost use Rattle.stacks_vars.specs.Same.{node_eq};
 ghost use Rattle.partial_path.specs.Apply.{after_fixed, match_item, match_items};
 ghost use Rattle.partial_path.specs.Moved.{moved_node, moved_symbol};
 
-use stacks_vars::{NodeAt, ScopeStack, SymPat, SymbolItem, SymbolStack};
+use stacks_vars::{LentItem, LentStack, NodeAt, ScopeStack, SymPat};
 
 /// How many scopes follow the fixed ones, moved by `base`; None where the stack doesn't begin with them.
 /// The stack's front is the last of `scopes`.
@@ -33,13 +33,13 @@ pub fn is_moved(base: u32, node: NodeAt, at: NodeAt) -> bool
 }
 
 /// Whether the symbol is as it is asked for. It takes no memory, and time that follows the pattern.
-pub fn meets_item(base: u32, pat: &SymPat, item: &SymbolItem) -> bool
+pub fn meets_item(base: u32, pat: &SymPat, item: &LentItem<'_>) -> bool
     ensures { result ≡ is_some (match_item (moved_symbol base pat.now) item.now) }
 {
-    if !pat.symbol.same(&item.symbol) {
+    if !pat.symbol.same(item.symbol()) {
         return false;
     }
-    match (&pat.scopes, &item.scopes) {
+    match (&pat.scopes, item.scopes()) {
         (None, None) => true,
         (Some(scopes), Some(attached)) => meets_scopes(base, scopes.get().fixed.items(), attached),
         _ => false,
@@ -55,7 +55,7 @@ pub fn meets_scopes(base: u32, fixed: &[NodeAt], scopes: &ScopeStack) -> bool
 
 /// Whether the first symbols are as they are asked for. It takes no memory, and time that follows the
 /// patterns.
-pub fn meets_items(base: u32, asked: &[SymPat], symbols: &SymbolStack) -> bool
+pub fn meets_items(base: u32, asked: &[SymPat], symbols: &LentStack<'_>) -> bool
     ensures { result ≡ is_some (match_items (map (moved_symbol base) asked.now) symbols.now) }
 {
     let items = symbols.reversed();

@@ -14,7 +14,7 @@ use crate::slots::{KEY_SIZE, first_in_slot, stands_first};
 use crate::start_table::StartTable;
 use crate::stored::StoredPath;
 use crate::stored_paths::StoredPaths;
-use stacks_vars::SymbolStack;
+use stacks_vars::LentStack;
 
 /// How many paths of one head are looked at one by one, before the others are halved.
 const NEAR: usize = 8;
@@ -50,7 +50,7 @@ impl FileOffers {
 pub fn next_offer<'a>(
     paths: &StoredPaths<'a>,
     starts: &StartTable,
-    symbols: &SymbolStack,
+    symbols: &LentStack<'_>,
     at: FileOffers,
 ) -> Option<(StoredPath<'a>, FileOffers)>
     requires order { IsByKey paths.now }
@@ -90,7 +90,7 @@ fn offered_in_run(
     from: usize,
     high: usize,
     start: Start,
-    symbols: &SymbolStack,
+    symbols: &LentStack<'_>,
 ) -> Option<usize>
     requires order { IsByKey paths.now }
     requires heads { AreFirstHeads heads.now paths.now }
@@ -123,7 +123,7 @@ fn offered_in_zone(
     from: usize,
     high: usize,
     start: Start,
-    symbols: &SymbolStack,
+    symbols: &LentStack<'_>,
     wanted: u64,
 ) -> Option<usize>
     requires order { IsByKey paths.now }
@@ -156,7 +156,7 @@ fn offered_between(
     from: usize,
     high: usize,
     start: Start,
-    symbols: &SymbolStack,
+    symbols: &LentStack<'_>,
 ) -> Option<usize>
     requires order { IsByKey paths.now }
     requires bounds { (from ≤ high) × (high ≤ length paths.now) }
@@ -170,7 +170,7 @@ fn offered_between(
 
 /// The place of the first path that is offered: of those that ask for nothing, else of those that ask for one
 /// symbol, and so on.
-fn first_offered(paths: &StoredPaths<'_>, start: Start, symbols: &SymbolStack) -> Option<usize>
+fn first_offered(paths: &StoredPaths<'_>, start: Start, symbols: &LentStack<'_>) -> Option<usize>
     requires { IsByKey paths.now }
     ensures { IsNextOffer start symbols.now paths.now 0 (length paths.now) result }
 {

@@ -14,7 +14,7 @@ use crate::path::PartialPath;
 use crate::rule::Start;
 use crate::stored::StoredPath;
 use crate::stored_paths::StoredPaths;
-use stacks_vars::{SymPat, Symbol, SymbolStack};
+use stacks_vars::{LentStack, SymPat, Symbol};
 use std::cmp::Ordering;
 
 /// Of how many symbols that a path asks for the texts count, where paths are stored and found.
@@ -76,7 +76,7 @@ fn texts_cmp(a: Option<&Symbol>, b: Option<&Symbol>) -> Ordering
 }
 
 /// How the path's start and key stand to a start and the texts of the stack's first symbols, so many of them.
-fn slot_side(path: &StoredPath<'_>, start: Start, symbols: &SymbolStack, count: usize) -> Ordering
+fn slot_side(path: &StoredPath<'_>, start: Start, symbols: &LentStack<'_>, count: usize) -> Ordering
     requires { count ≤ key_size }
     ensures { result ≡ slot_side start (take count (texts symbols.now)) path.now }
 {
@@ -88,7 +88,7 @@ fn slot_side(path: &StoredPath<'_>, start: Start, symbols: &SymbolStack, count: 
 }
 
 /// How the path's key stands to the texts of the stack's first symbols, so many of them.
-pub fn key_side(path: &StoredPath<'_>, symbols: &SymbolStack, count: usize) -> Ordering
+pub fn key_side(path: &StoredPath<'_>, symbols: &LentStack<'_>, count: usize) -> Ordering
     requires { count ≤ key_size }
     ensures { result ≡ key_cmp (key path.now) (take count (texts symbols.now)) }
 {
@@ -103,12 +103,12 @@ pub fn key_side(path: &StoredPath<'_>, symbols: &SymbolStack, count: usize) -> O
 }
 
 /// The symbol at that place, from the front on, of the first `count`; None where there are fewer.
-pub fn symbol_at(symbols: &SymbolStack, count: usize, i: usize) -> Option<&Symbol>
+pub fn symbol_at<'a>(symbols: &LentStack<'a>, count: usize, i: usize) -> Option<&'a Symbol>
     ensures { option_copied result ≡ slice_get (take count (texts symbols.now)) i }
 {
     let items = symbols.reversed();
     if i < count && i < items.len() {
-        Some(&items[items.len() - 1 - i].symbol)
+        Some(items[items.len() - 1 - i].symbol())
     } else {
         None
     }
@@ -119,7 +119,7 @@ pub fn symbol_at(symbols: &SymbolStack, count: usize, i: usize) -> Option<&Symbo
 pub fn run_asking(
     paths: &StoredPaths<'_>,
     start: Start,
-    symbols: &SymbolStack,
+    symbols: &LentStack<'_>,
     count: usize,
 ) -> (usize, usize)
     requires order { IsByKey paths.now }
@@ -137,7 +137,7 @@ pub fn run_asking(
 pub fn first_in_slot(
     paths: &StoredPaths<'_>,
     start: Start,
-    symbols: &SymbolStack,
+    symbols: &LentStack<'_>,
     count: usize,
 ) -> Option<usize>
     requires order { IsByKey paths.now }
@@ -159,7 +159,7 @@ pub fn first_in_slot(
 }
 
 /// Whether the first symbols that the path asks for, those of its key, have the texts of the stack's first ones.
-pub fn stands_first(path: &StoredPath<'_>, symbols: &SymbolStack) -> bool
+pub fn stands_first(path: &StoredPath<'_>, symbols: &LentStack<'_>) -> bool
     ensures { result ≡ stand_first (key path.now) symbols.now }
 {
     let asked = path.asked();
@@ -184,7 +184,7 @@ fn is_met(asked: Option<&Symbol>, symbol: Option<&Symbol>) -> bool
 }
 
 /// How many of the paths, which are in the order of their keys, stand before that slot.
-fn count_before(paths: &StoredPaths<'_>, start: Start, symbols: &SymbolStack, count: usize) -> usize
+fn count_before(paths: &StoredPaths<'_>, start: Start, symbols: &LentStack<'_>, count: usize) -> usize
     requires order { IsByKey paths.now }
     requires count { count ≤ key_size }
     ensures value { result
@@ -206,7 +206,7 @@ fn count_before(paths: &StoredPaths<'_>, start: Start, symbols: &SymbolStack, co
 
 /// How many of the first paths stand in that slot, of paths of which none stands there after one that
 /// doesn't.
-fn count_at(paths: &StoredPaths<'_>, start: Start, symbols: &SymbolStack, count: usize) -> usize
+fn count_at(paths: &StoredPaths<'_>, start: Start, symbols: &LentStack<'_>, count: usize) -> usize
     requires parted { IsPartitionedBy (is_at_slot start
         (take count (texts symbols.now))) paths.now }
     requires count { count ≤ key_size }

@@ -10,7 +10,7 @@ ghost use Rattle.partial_path.specs.Sources.{IsSourceFile, graphs_of, rules_from
 
 use crate::rule::Start;
 use crate::stored::StoredPath;
-use stacks_vars::{NodeAt, Symbol, SymbolStack};
+use stacks_vars::{LentStack, NodeAt, Symbol};
 
 /// The path sets of a list of files. A path, a start and a node are told with the number of their file, its
 /// place in that list.
@@ -46,7 +46,7 @@ pub trait PathSource {
 
     /// A look-up of the paths that can be met from the start with this symbol stack, as far as the texts of
     /// the first six symbols tell: before its first path.
-    fn offers(&self, start: &Start, symbols: &SymbolStack) -> Self::Offers
+    fn offers(&self, start: &Start, symbols: &LentStack<'_>) -> Self::Offers
         ensures exact { IsPermutation (rules_offered (files self.now) start.now symbols.now)
             (offered self.now symbols.now result) }
         ensures sets { All IsSourceFile (files self.now) };
@@ -57,7 +57,7 @@ pub trait PathSource {
     /// symbols.
     fn next_offer(
         &self,
-        symbols: &SymbolStack,
+        symbols: &LentStack<'_>,
         at: Self::Offers,
     ) -> Option<(u32, StoredPath<'_>, Self::Offers)>
         ensures { MatchOption result (offered self.now symbols.now at ≡ [])

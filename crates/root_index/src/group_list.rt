@@ -9,7 +9,7 @@ use crate::group::Group;
 use crate::groups::Groups;
 use crate::slot::Slot;
 use crate::slot_list::{blocks_near, is_before_key};
-use stacks_vars::SymbolStack;
+use stacks_vars::LentStack;
 use std::alloc::{AllocError, Global};
 use std::marker::Model;
 
@@ -120,7 +120,7 @@ impl GroupList {
 
     /// How many paths stand before the key that the texts of the stack's first symbols make, so many of
     /// them. They are found by halving.
-    pub(crate) fn end_of(&self, symbols: &SymbolStack, count: usize) -> usize
+    pub(crate) fn end_of(&self, symbols: &LentStack<'_>, count: usize) -> usize
         requires parted { IsPartitionedBy (is_before_key (take count (texts symbols.now))) self.now }
         requires count { count ≤ key_size }
         ensures value { result
@@ -138,7 +138,7 @@ impl GroupList {
 }
 
 /// How many groups begin within the key, by halving.
-fn groups_within(groups: &[Group], symbols: &SymbolStack, count: usize) -> usize
+fn groups_within(groups: &[Group], symbols: &LentStack<'_>, count: usize) -> usize
     requires parted { IsPartitionedBy (first_passes
         (is_before_key (take count (texts symbols.now)))) groups.now }
     requires count { count ≤ key_size }
@@ -157,7 +157,7 @@ fn groups_told(groups: &[Group], wanted: &[u64; 6]) -> usize
 }
 
 /// Whether the group's first path stands within the key.
-fn begins_within(group: &Group, symbols: &SymbolStack, count: usize) -> bool
+fn begins_within(group: &Group, symbols: &LentStack<'_>, count: usize) -> bool
     requires { count ≤ key_size }
     ensures { result
         ≡ first_passes (is_before_key (take count (texts symbols.now))) group.now }

@@ -5,7 +5,7 @@ use crate::looks::{RootLook, next_looked};
 use crate::offers::{RootOffers, next_slot};
 use crate::slot::Slot;
 use partial_path::{Spot, Start, StoredPath, count_before};
-use stacks_vars::{Symbol, SymbolStack};
+use stacks_vars::{LentStack, Symbol};
 use std::alloc::{AllocError, Global};
 use std::marker::Model;
 use version_tree::{Edit, Version, View};
@@ -146,7 +146,7 @@ impl RootIndex {
 
     /// A look-up of the paths from the root that can be met with this symbol stack, as far as the texts of
     /// the first six symbols tell, and that the user may see: before its first path.
-    pub fn offers(&self, view: &View, _symbols: &SymbolStack) -> RootOffers
+    pub fn offers(&self, view: &View, _symbols: &LentStack<'_>) -> RootOffers
         requires { IsIndexOfView self.now view.now }
         ensures { IsPermutation (roots_offered view.now _symbols.now)
             (offers_left result _symbols.now view.now self.now) }
@@ -163,7 +163,7 @@ impl RootIndex {
     pub fn next_offer(
         &self,
         view: &View,
-        symbols: &SymbolStack,
+        symbols: &LentStack<'_>,
         at: RootOffers,
     ) -> Option<(u32, StoredPath<'_>, RootOffers)>
         ensures { MatchOption result (offers_left at symbols.now view.now self.now ≡ [])

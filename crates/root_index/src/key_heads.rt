@@ -9,7 +9,7 @@ ghost use Rattle.partial_path.specs.Heads.{IsHeadAt};
 ghost use Rattle.root_index.specs.Heads.{AreHeads};
 
 use partial_path::{KEY_SIZE, StoredPath};
-use stacks_vars::SymbolStack;
+use stacks_vars::LentStack;
 use std::cmp::Ordering;
 
 /// The heads of the first six symbols that the path asks for; 0 where it asks for fewer.
@@ -38,7 +38,7 @@ fn head_at(path: &StoredPath<'_>, i: usize) -> u64
 }
 
 /// The heads of the stack's first symbols, so many of them; 0 where there are fewer.
-pub(crate) fn heads_wanted(symbols: &SymbolStack, count: usize) -> [u64; 6] {
+pub(crate) fn heads_wanted(symbols: &LentStack<'_>, count: usize) -> [u64; 6] {
     [
         wanted_head(symbols, count, 0),
         wanted_head(symbols, count, 1),
@@ -61,7 +61,7 @@ pub(crate) fn stand_before(heads: &[u64; 6], wanted: &[u64; 6]) -> bool {
 
 /// How a key with these heads stands to the texts of the stack's first symbols, so many of them; None where the
 /// heads don't tell.
-pub(crate) fn heads_side(heads: &[u64; 6], symbols: &SymbolStack, count: usize) -> Option<Ordering>
+pub(crate) fn heads_side(heads: &[u64; 6], symbols: &LentStack<'_>, count: usize) -> Option<Ordering>
     requires { count ≤ key_size }
     ensures { IfSome result (λ order. (asked : List (List ℕ)) → AreHeads heads.now asked
         → length asked ≤ 6 → order ≡ key_cmp asked (take count (texts symbols.now))) }
@@ -96,12 +96,12 @@ pub(crate) fn heads_order(a: &[u64; 6], b: &[u64; 6]) -> Option<Ordering>
 }
 
 /// The head of the symbol at that place, from the front on, of the first `count`; 0 where there are fewer.
-fn wanted_head(symbols: &SymbolStack, count: usize, i: usize) -> u64
+fn wanted_head(symbols: &LentStack<'_>, count: usize, i: usize) -> u64
     ensures { IsHeadAt result (slice_get (take count (texts symbols.now)) i) }
 {
     let items = symbols.reversed();
     if i < count && i < items.len() {
-        items[items.len() - 1 - i].symbol.head()
+        items[items.len() - 1 - i].symbol().head()
     } else {
         0
     }

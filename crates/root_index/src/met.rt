@@ -4,7 +4,7 @@ ghost use Rattle.partial_path.specs.Keys.{key, key_size, texts};
 ghost use Rattle.root_index.specs.Met.{IsMet};
 
 use partial_path::{KEY_SIZE, StoredPath};
-use stacks_vars::{Symbol, SymbolStack};
+use stacks_vars::{LentStack, Symbol};
 use std::cmp::Ordering;
 
 /// How a key stands to those that the texts of a stack's first symbols make: of none of them, of one, and so on.
@@ -19,7 +19,7 @@ pub(crate) enum Met {
 }
 
 /// How the path's key stands to those of at most so many of the stack's symbols. Each text is looked at once.
-pub(crate) fn meet(path: &StoredPath<'_>, symbols: &SymbolStack, most: usize) -> Met
+pub(crate) fn meet(path: &StoredPath<'_>, symbols: &LentStack<'_>, most: usize) -> Met
     requires few { most ≤ key_size }
     requires there { most ≤ length symbols.now }
     ensures { IsMet symbols.now most (key path.now) result }
@@ -56,10 +56,10 @@ fn text_at<'a>(path: &StoredPath<'a>, i: usize) -> Option<&'a Symbol>
 }
 
 /// The stack's symbol at that place, from the front on.
-fn wanted_at(symbols: &SymbolStack, i: usize) -> &Symbol
+fn wanted_at<'a>(symbols: &LentStack<'a>, i: usize) -> &'a Symbol
     requires { i < length symbols.now }
     ensures { slice_get (texts symbols.now) i ≡ Some result.now }
 {
     let items = symbols.reversed();
-    &items[items.len() - 1 - i].symbol
+    items[items.len() - 1 - i].symbol()
 }

@@ -13,7 +13,7 @@ use crate::met::{Met, meet};
 use crate::slot::Slot;
 use crate::slot_list::is_before_key;
 use partial_path::KEY_SIZE;
-use stacks_vars::SymbolStack;
+use stacks_vars::LentStack;
 
 /// Where a look-up in an index stands.
 #[derive(Clone, Copy, Debug)]
@@ -28,7 +28,7 @@ pub struct RootOffers {
 /// paths are in order: one that isn't offered tells by how it stands to the stack's symbols which may come next.
 pub(crate) fn next_slot<'a>(
     slots: &'a GroupList,
-    symbols: &SymbolStack,
+    symbols: &LentStack<'_>,
     at: RootOffers,
 ) -> Option<(&'a Slot, RootOffers)>
     requires { AreByRank slots.now }
@@ -58,7 +58,7 @@ pub(crate) fn next_slot<'a>(
 /// does where those tell too little.
 fn passed(
     slots: &GroupList,
-    symbols: &SymbolStack,
+    symbols: &LentStack<'_>,
     count: usize,
     place: usize,
     near: usize,
@@ -87,7 +87,7 @@ fn passed(
 /// Whether there is a path at the place, and it stands before the key of so many symbols.
 fn is_before(
     slots: &GroupList,
-    symbols: &SymbolStack,
+    symbols: &LentStack<'_>,
     count: usize,
     place: usize,
     near: usize,

@@ -1,7 +1,7 @@
 use crate::file_handle::FileHandle;
 use crate::key_heads::{heads_of, heads_order, heads_side, stand_before};
 use partial_path::{StoredPath, key_side, keys_cmp};
-use stacks_vars::SymbolStack;
+use stacks_vars::LentStack;
 use std::alloc::AllocError;
 use std::cmp::Ordering;
 use std::marker::Model;
@@ -83,7 +83,7 @@ impl Slot {
 
     /// How its key stands to the texts of the stack's first symbols, so many of them: as the heads of its symbols
     /// tell it, and by a look at the path where they don't.
-    pub(crate) fn key_side(&self, symbols: &SymbolStack, count: usize) -> Ordering
+    pub(crate) fn key_side(&self, symbols: &LentStack<'_>, count: usize) -> Ordering
         requires { count ≤ key_size }
         ensures { result ≡ key_order (take count (texts symbols.now)) self.now }
     {

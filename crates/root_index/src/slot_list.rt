@@ -8,7 +8,7 @@ ghost use Rattle.root_index.specs.Inside.{is_before_key};
 use crate::block::Block;
 use crate::blocks::Blocks;
 use crate::slot::Slot;
-use stacks_vars::SymbolStack;
+use stacks_vars::LentStack;
 use std::alloc::{AllocError, Global};
 use std::marker::Model;
 
@@ -107,7 +107,7 @@ impl SlotList {
 
     /// How many paths stand before the key that the texts of the stack's first symbols make, so many of
     /// them. They are found by halving.
-    pub(crate) fn end_of(&self, symbols: &SymbolStack, count: usize) -> usize
+    pub(crate) fn end_of(&self, symbols: &LentStack<'_>, count: usize) -> usize
         requires parted { IsPartitionedBy (is_before_key (take count (texts symbols.now))) self.now }
         requires count { count ≤ key_size }
         ensures value { result
@@ -162,7 +162,7 @@ fn blocks_begun(starts: &[usize], place: usize) -> usize
 }
 
 /// How many blocks begin within the key, by halving.
-fn blocks_within(blocks: &[Block], symbols: &SymbolStack, count: usize) -> usize
+fn blocks_within(blocks: &[Block], symbols: &LentStack<'_>, count: usize) -> usize
     requires parted { IsPartitionedBy (first_passes
         (is_before_key (take count (texts symbols.now)))) blocks.now }
     requires count { count ≤ key_size }
@@ -174,7 +174,7 @@ fn blocks_within(blocks: &[Block], symbols: &SymbolStack, count: usize) -> usize
 }
 
 /// How many of the paths stand within the key, by halving.
-fn paths_within(slots: &[Slot], symbols: &SymbolStack, count: usize) -> usize
+fn paths_within(slots: &[Slot], symbols: &LentStack<'_>, count: usize) -> usize
     requires parted { IsPartitionedBy (is_before_key (take count (texts symbols.now))) slots.now }
     requires count { count ≤ key_size }
     ensures value { result
@@ -197,7 +197,7 @@ fn paths_told(slots: &[Slot], wanted: &[u64; 6]) -> usize {
 }
 
 /// Whether the block's first path stands within the key.
-fn begins_within(block: &Block, symbols: &SymbolStack, count: usize) -> bool
+fn begins_within(block: &Block, symbols: &LentStack<'_>, count: usize) -> bool
     requires { count ≤ key_size }
     ensures { result
         ≡ first_passes (is_before_key (take count (texts symbols.now))) block.now }
@@ -206,7 +206,7 @@ fn begins_within(block: &Block, symbols: &SymbolStack, count: usize) -> bool
 }
 
 /// Whether the path stands before the key that the texts of the stack's first symbols make, so many of them.
-pub(crate) fn is_before_key(slot: &Slot, symbols: &SymbolStack, count: usize) -> bool
+pub(crate) fn is_before_key(slot: &Slot, symbols: &LentStack<'_>, count: usize) -> bool
     requires { count ≤ key_size }
     ensures { result ≡ is_before_key (take count (texts symbols.now)) slot.now }
 {

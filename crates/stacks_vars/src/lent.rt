@@ -1,4 +1,5 @@
 //! Symbols on the stacks of a search, lent by the files whose paths make them.
+use crate::items::{SymbolItem, SymbolStack};
 use crate::scopes::ScopeStack;
 use crate::symbol::Symbol;
 use std::alloc::{AllocError, Global};
@@ -100,6 +101,17 @@ impl<'a> LentStack<'a> {
         }
     }
 
+    /// The stack with its symbols lent; the one error is want of memory.
+    pub fn of(alloc: Global, stack: &'a SymbolStack) -> Result<LentStack<'a>, AllocError>
+        ensures { IfOk result (λ lent. lent ≡ stack.now) }
+    {
+        let mut items = Vec::with_capacity(alloc, stack.len())?;
+        for item in stack.reversed() {
+            items.push(lent(alloc, item)?)?;
+        }
+        Ok(LentStack { items })
+    }
+
     /// Its symbols from the last to the front, which they are kept in.
     pub fn reversed(&self) -> &[LentItem<'a>]
         ensures { result.now ≡ reverse self.now }
@@ -152,8 +164,19 @@ impl<'a> LentStack<'a> {
     }
 }
 
-ghost use Rattle.std.specs.Prelude.{◌≡◌, ◌↔◌, IsTrue};
+ghost use Rattle.std.specs.Prelude.{◌≡◌, ◌↔◌, IfOk, IsTrue};
 ghost use Rattle.stacks_vars.specs.Same.{attached_eq};
+
+/// The symbol lent, with a copy of its attached scopes; the one error is want of memory.
+fn lent<'a>(alloc: Global, item: &'a SymbolItem) -> Result<LentItem<'a>, AllocError>
+    ensures { IfOk result (λ lent. lent ≡ item.now) }
+{
+    let scopes = match &item.scopes {
+        Some(scopes) => Some(scopes.copy(alloc)?),
+        None => None,
+    };
+    Ok(LentItem::of(&item.symbol, scopes))
+}
 
 /// Whether both are plain, or both have the same scopes attached.
 fn same_scopes(left: &Option<ScopeStack>, right: &Option<ScopeStack>) -> bool

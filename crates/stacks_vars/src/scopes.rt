@@ -25,7 +25,7 @@ impl Model for ScopeStack {
 }
 
 impl ScopeStack {
-    ghost use Rattle.std.specs.Prelude.{◌≡◌, ◌↔◌, List, [], ◌∷◌, drop, reverse, take, IfOk, MatchOption, OnErr, IsTrue};
+    ghost use Rattle.std.specs.Prelude.{◌≡◌, ◌↔◌, List, [], ◌∷◌, drop, reverse, IfOk, MatchOption, OnErr, IsTrue};
     ghost use Rattle.stacks_vars.specs.Same.{scopes_eq};
 
     /// The empty stack. It takes no memory.
@@ -86,13 +86,6 @@ impl ScopeStack {
         self.items.pop()
     }
 
-    /// Takes scopes off the front until at most this many are left.
-    pub fn keep(&mut self, count: usize)
-        ensures { self.new ≡ reverse (take count (reverse self.old)) }
-    {
-        self.items.truncate(count);
-    }
-
     /// Takes all scopes off.
     pub fn clear(&mut self)
         ensures { self.new ≡ [] }
@@ -106,6 +99,16 @@ impl ScopeStack {
     {
         Ok(ScopeStack {
             items: Vec::from_slice(alloc, self.items.as_slice())?,
+        })
+    }
+
+    /// The stack without its first scopes, so many, once more, at the cost of what is left; the one error is want of memory.
+    pub fn rest(&self, alloc: Global, but: usize) -> Result<ScopeStack, AllocError>
+        ensures { IfOk result (λ rest. rest ≡ drop but self.now) }
+    {
+        let left = self.items.len().saturating_sub(but);
+        Ok(ScopeStack {
+            items: Vec::from_slice(alloc, &self.items[..left])?,
         })
     }
 

@@ -47,6 +47,6 @@ pub fn advance<'a, P: PathSource>(
     trail.truncate(depth);
     trail.push(from.level)?;
     let at = &trail[depth].at;
-    let begin = Start::After(at.spot);
+    let begin = Start::After(at.spot());
     extend(alloc, source, query, begin, trail, at, edges, work, tally)
 }

@@ -12,8 +12,8 @@ use crate::found::StitchFault;
 use crate::open::Open;
 use crate::query::Query;
 use crate::tally::Tally;
-use partial_path::{Config, PathSource, Spot, Start};
-use stacks_vars::Stacks;
+use partial_path::{LentConfig, PathSource, Spot, Start};
+use stacks_vars::{LentStack, ScopeStack};
 use std::alloc::Global;
 
 /// Joins each path that is offered before the reference, and notes what comes of them.
@@ -38,10 +38,8 @@ pub fn begin<'a, P: PathSource>(
         → IsOverfull (asked (P.files source.now) query)
         (none_joined (asked (P.files source.now) query)) tally.old.counted }
 {
-    let at = Config {
-        spot: Spot::At(query.node),
-        stacks: Stacks::new(alloc),
-    };
+    let spot = Spot::At(query.node);
+    let at = LentConfig::of(spot, LentStack::new(alloc), ScopeStack::new(alloc));
     let begin = Start::Before(query.node);
     extend(alloc, source, query, begin, &[], &at, 0, work, tally)
 }

@@ -14,7 +14,7 @@ use crate::open::Open;
 use crate::query::Query;
 use crate::tally::Tally;
 use crate::trail::Level;
-use partial_path::{Config, PathSource, Start};
+use partial_path::{LentConfig, PathSource, Start};
 use std::alloc::Global;
 
 /// Joins each path that is offered where the trail landed, and notes what comes of them.
@@ -24,7 +24,7 @@ pub fn extend<'a, P: PathSource>(
     query: Query,
     begin: Start,
     trail: &[Level],
-    at: &Config,
+    at: &LentConfig<'a>,
     edges: usize,
     work: &mut Vec<Open<'a>>,
     tally: &mut Tally,
@@ -50,8 +50,8 @@ pub fn extend<'a, P: PathSource>(
         → IsOverfull (asked (P.files source.now) query)
         (joined (paths_of trail.now) at.now) tally.old.counted }
 {
-    let mut next = source.offers(&begin, &at.stacks.symbols);
-    while let Some(found) = source.next_offer(&at.stacks.symbols, next) {
+    let mut next = source.offers(&begin, at.symbols());
+    while let Some(found) = source.next_offer(at.symbols(), next) {
         next = found.2;
         join(
             alloc, source, query, trail, at, edges, found.0, &found.1, work, tally,

@@ -26,7 +26,7 @@ use crate::query::Query;
 use crate::tally::Tally;
 use crate::trail::{Level, has_landed, is_back};
 use partial_path::{
-    Config, PathSource, StoredPath, file_zero_moves, joined_paths_are_runs, returns_are_starts,
+    LentConfig, PathSource, StoredPath, file_zero_moves, joined_paths_are_runs, returns_are_starts,
     runs_end_in_files,
 };
 use stacks_vars::NodeAt;
@@ -34,13 +34,13 @@ use std::alloc::{AllocError, Global};
 
 /// Where a stored path lands that is joined, and whether runs are cut there.
 #[derive(Drop)]
-pub struct Landing {
-    pub at: Config,
+pub struct Landing<'a> {
+    pub at: LentConfig<'a>,
     pub cut: bool,
 }
 
 /// Whether a run that lands there, at a cut, is where it was before: at its start, or where one of its paths landed.
-fn comes_back(node: NodeAt, trail: &[Level], cut: bool, next: &Config) -> bool
+fn comes_back(node: NodeAt, trail: &[Level], cut: bool, next: &LentConfig<'_>) -> bool
     ensures { IsTrue result
         ↔ (IsTrue cut
         × (IsAtStart node next.now ⊎ IsTrue (list_any (config_eq next.now)
@@ -52,16 +52,16 @@ fn comes_back(node: NodeAt, trail: &[Level], cut: bool, next: &Config) -> bool
 /// Where the path lands that is joined to the trail, which landed at `at`, where the path is met; None where it ends by
 /// the stack and no scope is there, or the run wouldn't be straight. It is told whether the path ends at a cut, where
 /// the path tells that.
-pub fn landing_of<P: PathSource>(
+pub fn landing_of<'a, P: PathSource>(
     alloc: Global,
     source: &P,
     query: Query,
     trail: &[Level],
-    at: &Config,
+    at: &LentConfig<'a>,
     file: u32,
-    path: &StoredPath<'_>,
+    path: &StoredPath<'a>,
     cut: Option<bool>,
-) -> Result<Option<Landing>, AllocError>
+) -> Result<Option<Landing<'a>>, AllocError>
     requires sources { All IsSourceFile (P.files source.now) }
     requires begins { start (graphs_of (P.files source.now)) query.node
         ≡ Some (asked (P.files source.now) query).start }
@@ -90,7 +90,7 @@ pub fn landing_of<P: PathSource>(
     let Some(next) = path.apply_met(alloc, file, at)? else {
         return Ok(None);
     };
-    let is_cut = is_at_cut(source, cut, next.spot);
+    let is_cut = is_at_cut(source, cut, &next);
     if comes_back(query.node, trail, is_cut, &next) {
         return Ok(None);
     }
@@ -108,7 +108,7 @@ pub fn join<'a, P: PathSource>(
     source: &P,
     query: Query,
     trail: &[Level],
-    at: &Config,
+    at: &LentConfig<'a>,
     edges: usize,
     file: u32,
     path: &StoredPath<'a>,
@@ -162,6 +162,7 @@ pub fn join<'a, P: PathSource>(
     let Some(landing) = landing_of(alloc, source, query, trail, at, file, path, cut)? else {
         return Ok(());
     };
+    let is_cut = landing.cut;
     let level = Level {
         file,
         path: path.again(),
@@ -174,7 +175,7 @@ pub fn join<'a, P: PathSource>(
         trail,
         edges + more,
         bounded,
-        landing.cut,
+        is_cut,
         level,
         work,
         tally,

@@ -53,7 +53,7 @@ pub fn keep_if(
     if !is_complete {
         return Ok(());
     }
-    let Spot::At(end) = level.at.spot else {
+    let Spot::At(end) = level.at.spot() else {
         return Ok(());
     };
     let edges = edges_with(alloc, trail, level, count)?;

@@ -8,12 +8,12 @@ ghost use Rattle.partial_path.specs.Laws.{IsSpotOf};
 ghost use Rattle.stitcher.specs.Ends.{IsEndOf, end_cut, may_land};
 ghost use Rattle.stitcher.specs.Joins.{is_none};
 
-use partial_path::{Bounds, Config, End, PathSource, Spot, StoredPath};
+use partial_path::{Bounds, End, LentConfig, PathSource, Spot, StoredPath};
 use stacks_vars::NodeAt;
 
 /// Whether runs are within the bounds with a path more, which meets the configuration where they stand: whether they
 /// have few enough edges with it, and it isn't too high there.
-pub fn is_within(bounds: Bounds, edges: usize, path: &StoredPath<'_>, at: &Config) -> bool
+pub fn is_within(bounds: Bounds, edges: usize, path: &StoredPath<'_>, at: &LentConfig<'_>) -> bool
     requires met { length path.now.pre.symbols ≤ length at.now.stacks.symbols }
     requires few { edges ≤ bounds.edges }
     ensures { (base : ℕ)
@@ -21,7 +21,7 @@ pub fn is_within(bounds: Bounds, edges: usize, path: &StoredPath<'_>, at: &Confi
         ≡ (nat_le (edges + length path.now.edges) bounds.edges && nat_le
         (height (moved base path.now) at.now) bounds.depth) }
 {
-    let left = at.stacks.symbols.len() - path.asked().len();
+    let left = at.symbols().len() - path.asked().len();
     path.edge_numbers().len() <= bounds.edges as usize - edges
         && path.peak() <= bounds.depth
         && left <= (bounds.depth - path.peak()) as usize
@@ -45,20 +45,20 @@ pub fn is_cut_end<P: PathSource>(source: &P, file: u32, path: &StoredPath<'_>) -
 
 /// Whether anything can come of a run with the path, told whether it ends at a cut, where that is known. It costs two
 /// comparisons.
-pub fn may_land(cut: Option<bool>, path: &StoredPath<'_>, at: &Config) -> bool
+pub fn may_land(cut: Option<bool>, path: &StoredPath<'_>, at: &LentConfig<'_>) -> bool
     ensures { result ≡ may_land cut path.now at.now }
 {
-    cut.unwrap_or(true) || (path.made().is_empty() && path.asked().len() == at.stacks.symbols.len())
+    cut.unwrap_or(true) || (path.made().is_empty() && path.asked().len() == at.symbols().len())
 }
 
 /// Whether a run that lands there is cut there; it may be known.
-pub fn is_at_cut<P: PathSource>(source: &P, known: Option<bool>, at: Spot) -> bool
+pub fn is_at_cut<P: PathSource>(source: &P, known: Option<bool>, at: &LentConfig<'_>) -> bool
     requires known { IfSome known
-        (λ cut. cut ≡ is_cut_spot_of (graphs_of (P.files source.now)) at) }
-    requires spot { IsSpotOf (graphs_of (P.files source.now)) at }
-    ensures { result ≡ is_cut_spot_of (graphs_of (P.files source.now)) at }
+        (λ cut. cut ≡ is_cut_spot_of (graphs_of (P.files source.now)) at.now.spot) }
+    requires spot { IsSpotOf (graphs_of (P.files source.now)) at.now.spot }
+    ensures { result ≡ is_cut_spot_of (graphs_of (P.files source.now)) at.now.spot }
 {
-    match (known, at) {
+    match (known, at.spot()) {
         (Some(cut), _) => cut,
         (None, Spot::Root) => true,
         (None, Spot::At(node)) => source.is_cut(&node),
@@ -66,14 +66,14 @@ pub fn is_at_cut<P: PathSource>(source: &P, known: Option<bool>, at: Spot) -> bo
 }
 
 /// Whether a run that lands there has its definition.
-pub fn is_at_result<P: PathSource>(source: &P, at: &Config) -> bool
+pub fn is_at_result<P: PathSource>(source: &P, at: &LentConfig<'_>) -> bool
     requires { IsSpotOf (graphs_of (P.files source.now)) at.now.spot }
     ensures { result
         ≡ (is_definition_spot
         (graphs_of (P.files source.now)) at.now.spot && is_none at.now.stacks.symbols) }
 {
-    match at.spot {
+    match at.spot() {
         Spot::Root => false,
-        Spot::At(node) => at.stacks.symbols.is_empty() && source.is_definition(&node),
+        Spot::At(node) => at.symbols().is_empty() && source.is_definition(&node),
     }
 }

@@ -10,12 +10,12 @@ ghost use Rattle.partial_path.specs.Same.{spot_eq};
 ghost use Rattle.partial_path.specs.Sources.{stand_first};
 ghost use Rattle.stitcher.specs.Plain.{asks_scopes, has_scopes};
 
-use partial_path::{Config, KEY_SIZE, StoredPath};
-use stacks_vars::{SymPat, SymbolStack};
+use partial_path::{KEY_SIZE, LentConfig, StoredPath};
+use stacks_vars::{LentStack, SymPat};
 
 /// Whether the configuration meets a path that begins there and asks first for the texts of the symbols there. Only where
 /// scopes are asked for or attached, or more texts are asked for than were compared, is it looked at again.
-pub fn is_met(file: u32, path: &StoredPath<'_>, at: &Config) -> bool
+pub fn is_met(file: u32, path: &StoredPath<'_>, at: &LentConfig<'_>) -> bool
     requires begins { spot_eq (start_spot (moved_start file path.now.start)) at.now.spot ≡ true }
     requires texts { stand_first (key path.now) at.now.stacks.symbols ≡ true }
     ensures { result
@@ -29,7 +29,7 @@ pub fn is_met(file: u32, path: &StoredPath<'_>, at: &Config) -> bool
 }
 
 /// Whether the path asks for no scopes and for at most so many symbols as a key has, and no symbol has any scopes.
-fn is_plain(path: &StoredPath<'_>, at: &Config) -> bool
+fn is_plain(path: &StoredPath<'_>, at: &LentConfig<'_>) -> bool
     ensures few { IsTrue result → length path.now.pre.symbols ≤ key_size }
     ensures fixed { IsTrue result → path.now.pre.scopes.fixed ≡ [] }
     ensures asked { IsTrue result → list_any asks_scopes path.now.pre.symbols ≡ false }
@@ -39,7 +39,7 @@ fn is_plain(path: &StoredPath<'_>, at: &Config) -> bool
     path.fixed().is_empty()
         && path.asked().len() <= KEY_SIZE
         && !any_asked(path.asked())
-        && !any_attached(&at.stacks.symbols)
+        && !any_attached(at.symbols())
 }
 
 /// Whether scopes are asked for with one of these symbols.
@@ -50,8 +50,11 @@ fn any_asked(asked: &[SymPat]) -> bool
 }
 
 /// Whether scopes are attached to one of the symbols.
-fn any_attached(symbols: &SymbolStack) -> bool
+fn any_attached(symbols: &LentStack<'_>) -> bool
     ensures { result ≡ list_any has_scopes (reverse symbols.now) }
 {
-    symbols.reversed().iter().any(|item| item.scopes.is_some())
+    symbols
+        .reversed()
+        .iter()
+        .any(|item| item.scopes().is_some())
 }

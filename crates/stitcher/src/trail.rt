@@ -6,7 +6,7 @@ ghost use Rattle.partial_path.specs.Laws.{IsAtStart};
 ghost use Rattle.partial_path.specs.Cutting.{path_edges, edges_in};
 ghost use Rattle.stitcher.specs.Trail.{Moves, paths_of, landed_at};
 
-use partial_path::{Config, EdgeAt, Spot, StoredPath};
+use partial_path::{EdgeAt, LentConfig, Spot, StoredPath};
 use stacks_vars::NodeAt;
 use std::alloc::{AllocError, Global};
 
@@ -16,18 +16,18 @@ pub struct Level<'a> {
     /// The number of the path's file.
     pub file: u32,
     pub path: StoredPath<'a>,
-    pub at: Config,
+    pub at: LentConfig<'a>,
 }
 
 /// Whether a configuration where a run lands is the start of the reference's runs.
-pub fn is_back(node: NodeAt, at: &Config) -> bool
+pub fn is_back(node: NodeAt, at: &LentConfig<'_>) -> bool
     ensures { IsTrue result ↔ IsAtStart node at.now }
 {
-    at.spot.same(Spot::At(node)) && at.stacks.symbols.len() == 1 && at.stacks.scopes.is_empty()
+    at.spot().same(Spot::At(node)) && at.symbols().len() == 1 && at.scopes().is_empty()
 }
 
 /// Whether one of the paths landed there.
-pub fn has_landed(levels: &[Level], at: &Config) -> bool
+pub fn has_landed(levels: &[Level], at: &LentConfig<'_>) -> bool
     ensures { result ≡ list_any (config_eq at.now) (map landed_at levels.now) }
 {
     for level in levels {

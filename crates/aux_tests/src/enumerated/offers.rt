@@ -2,7 +2,7 @@
 use crate::paths::paths_in;
 use aux_graph_text::{files_of, stacks_of};
 use partial_path::{FileList, PathSource, Spot, Start, StoredPath};
-use stacks_vars::{NodeAt, SymbolStack};
+use stacks_vars::{LentStack, NodeAt};
 use std::alloc::Global;
 use std::test::Fail;
 
@@ -32,7 +32,7 @@ fn offered<P: PathSource>(
     alloc: Global,
     source: &P,
     start: Start,
-    symbols: &SymbolStack,
+    symbols: &LentStack<'_>,
 ) -> Result<String, Fail> {
     let mut text = String::new(alloc);
     let mut at = source.offers(&start, symbols);
@@ -97,7 +97,8 @@ fn told(alloc: Global, files: &FileList, row: &str) -> Result<String, Fail> {
     let (asked, _) = row.split_once(" =>").unwrap_or((row, ""));
     let (start, stack) = asked.split_once(' ').unwrap_or((asked, ""));
     let stacks = stacks_of(alloc, stack)?;
-    let found = offered(alloc, files, start_of(start), &stacks.symbols)?;
+    let symbols = LentStack::of(alloc, &stacks.symbols)?;
+    let found = offered(alloc, files, start_of(start), &symbols)?;
     Ok(format!(in alloc; "{asked} =>{}", found.as_str())?)
 }
 

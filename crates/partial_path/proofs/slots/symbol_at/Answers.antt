@@ -1,10 +1,11 @@
-use Rattle.std.proofs.Common.{sym, inl, inr, arith}
+use Rattle.std.proofs.Common.{sym, ap, ◌∙◌, Some, inl, inr, arith}
 use Rattle.partial_path.proofs.KeyOrders.{front_text, no_text, turned_back, turned_length}
 use Rattle.partial_path.proofs.slots.symbol_at.Goals as goal
 
 pub returns-then-i-items : goal.returns-then-i-items
 returns-then-i-items c =
-    sym (front_text c.reversed-items.result.now c.args.symbols.now c.args.count c.args.i c.index-items-items.result (turned_back _ _ c.reversed-items.ensures) c.if-i-count.true c.if-i-items.true)
+    ap Some (c.symbol.ensures ∙ ap (λ i. i.symbol) c.index-items-items.is)
+    ∙ sym (front_text c.reversed-items.result.now c.args.symbols.now c.args.count c.args.i c.index-items-items.result (turned_back _ _ c.reversed-items.ensures) c.if-i-count.true c.if-i-items.true)
 
 pub returns-else-i-count : goal.returns-else-i-count
 returns-else-i-count c =

@@ -1,4 +1,4 @@
-use Rattle.std.proofs.Common.{sym, ◌∙◌, ◌<◌, ◌+◌, arith, length}
+use Rattle.std.proofs.Common.{sym, ap, Some, ◌∙◌, ◌<◌, ◌+◌, arith, length}
 use Rattle.partial_path.specs.Keys.{texts}
 use Rattle.partial_path.proofs.KeyOrders.{front_text, get_taken, turned_back, turned_length}
 use Rattle.root_index.proofs.met.wanted_at.Goals as goal

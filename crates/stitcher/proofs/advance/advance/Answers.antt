@@ -13,7 +13,8 @@ pub extend-requires-clause-begin : goal.extend-requires-clause-begin
 extend-requires-clause-begin g c =
     let levels : c.deref.result.now ≡ levels_of c.args.trail.now.items c.args.from =
     c.deref.ensures.value ∙ (c.in_ok-push.ensures.items ∙ ap (λ (ls : List Level). ls ++ c.args.from.level ∷ []) c.truncate.ensures.items) in
-    subst (λ (ls : List Level). After c.index.result.now.at.spot ≡ next_start (asked (g.P.PathSource.files c.args.source.now) c.args.query) (joined (paths_of ls) c.index.result.now.at)) (sym levels)
+    ap After c.spot.ensures
+    ∙ subst (λ (ls : List Level). After c.index.result.now.at.spot ≡ next_start (asked (g.P.PathSource.files c.args.source.now) c.args.query) (joined (paths_of ls) c.index.result.now.at)) (sym levels)
     (begins_behind (asked (g.P.PathSource.files c.args.source.now) c.args.query) c.args.trail.now.items c.args.from c.index.result.now.at)
 
 pub extend-requires-clause-few_edges : goal.extend-requires-clause-few_edges
