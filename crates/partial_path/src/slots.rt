@@ -184,7 +184,12 @@ fn is_met(asked: Option<&Symbol>, symbol: Option<&Symbol>) -> bool
 }
 
 /// How many of the paths, which are in the order of their keys, stand before that slot.
-fn count_before(paths: &StoredPaths<'_>, start: Start, symbols: &LentStack<'_>, count: usize) -> usize
+fn count_before(
+    paths: &StoredPaths<'_>,
+    start: Start,
+    symbols: &LentStack<'_>,
+    count: usize,
+) -> usize
     requires order { IsByKey paths.now }
     requires count { count ≤ key_size }
     ensures value { result

@@ -1,7 +1,8 @@
 -- Short texts with one head are the same, and six heads are those of a key.
-use Rattle.std.proofs.Common.{◌≡◌, refl, ℕ, zero, suc, ◌%◌, ◌≤◌, List, [], ◌∷◌, Option, Some, None, slice_get, arith}
+use Rattle.std.proofs.Common.{◌≡◌, refl, sym, ap, false, true, ℕ, zero, suc, ◌%◌, ◌≤◌, List, [], ◌∷◌, Option, Some, None, slice_get, arith}
 use Rattle.std.specs.Ordering.{nat_cmp}
-use Rattle.std.specs.Option.{option_cmp}
+use Rattle.std.specs.Option.{is_some, option_cmp, option_map}
+use Rattle.std.specs.declared.cmp.Ordering.{Ordering}
 use Rattle.std.specs.declared.cmp.Ordering.TheVariants.{Equal}
 use Rattle.std.specs.Cmp.Lexicographic.{slice_cmp}
 use Rattle.stacks_vars.proofs.HeadLaws.{whole_stands}
@@ -25,3 +26,26 @@ six_heads a b c d e f texts p q r s t u (suc (suc (suc zero))) low = s
 six_heads a b c d e f texts p q r s t u (suc (suc (suc (suc zero)))) low = t
 six_heads a b c d e f texts p q r s t u (suc (suc (suc (suc (suc zero))))) low = u
 six_heads a b c d e f texts p q r s t u (suc (suc (suc (suc (suc (suc i)))))) low = absurd (omega (arith, low))
+
+-- how the text stands to another, where there is one
+abbrev pub side_to : List ℕ → Option (List ℕ) → Option Ordering
+side_to w = option_map (λ (t : List ℕ). slice_cmp nat_cmp t w)
+
+-- no head: no text
+pub none_there : (n : ℕ) (o : Option (List ℕ)) (w : List ℕ) → IsHeadAt n o → n ≡ 0 → side_to w o ≡ None
+none_there n None w p none = refl
+none_there n (Some t) w p none = absurd (let some = some_head n t p in omega (arith, some, none))
+
+-- a head: the heads tell how the text stands, where they tell it
+pub side_told : (n : ℕ) (o : Option (List ℕ)) (w : List ℕ) (r : Ordering) → IsHeadAt n o → (n ≡ 0 → ⊥) → r ≡ option_cmp (slice_cmp nat_cmp) o (Some w)
+    → side_to w o ≡ Some r
+side_told n None w r p some is = absurd (some p)
+side_told n (Some t) w r p some is = ap Some (sym is)
+
+pub asks_told : (n : ℕ) (o : Option (List ℕ)) → IsHeadAt n o → (n ≡ 0 → ⊥) → true ≡ is_some o
+asks_told n None p some = absurd (some p)
+asks_told n (Some t) p some = refl
+
+pub asks_none : (n : ℕ) (o : Option (List ℕ)) → IsHeadAt n o → n ≡ 0 → false ≡ is_some o
+asks_none n None p none = refl
+asks_none n (Some t) p none = absurd (let some = some_head n t p in omega (arith, some, none))

@@ -1,12 +1,12 @@
 -- How a key stands to the keys that the first of some texts make, the one longer than the other.
-use Rattle.std.proofs.Common.{◌≡◌, refl, sym, ◌∙◌, ap, ℕ, zero, suc, ◌+◌, ◌-◌, ◌<◌, ◌≤◌, List, [], ◌∷◌, ◌++◌, length, take, drop, get_or, Bool, true, false, Some, arith, slice_get}
-use Rattle.std.specs.Option.{unwrap_or}
+use Rattle.std.proofs.Common.{◌≡◌, refl, sym, ◌∙◌, ap, ℕ, zero, suc, ◌+◌, ◌-◌, ◌<◌, ◌≤◌, List, [], ◌∷◌, ◌++◌, length, take, drop, get_or, Bool, true, false, Option, None, Some, arith, slice_get}
+use Rattle.std.specs.Option.{is_some, option_map, unwrap_or}
 use Rattle.std.specs.Ordering.{nat_cmp, is_eq, ordering_then}
 use Rattle.std.specs.declared.cmp.Ordering.{Ordering}
 use Rattle.std.specs.declared.cmp.Ordering.TheVariants.{Less, Equal, Greater}
 use Rattle.std.specs.Cmp.Lexicographic.{slice_cmp, texts_ties}
 use Rattle.std.proofs.lemmas.Bool.{false≢true}
-use Rattle.std.proofs.lemmas.Option.{none-some, slice_get_within, get_or_from_slice_get}
+use Rattle.std.proofs.lemmas.Option.{none-some, same_Some, slice_get_within, get_or_from_slice_get}
 use Rattle.std.proofs.Math.Seq.{take-suc}
 use Rattle.std.proofs.Math.ListN.{drop_of_length-le}
 use Rattle.std.proofs.lemmas.Slice.Eq.{bytes_eq-Decides}
@@ -139,3 +139,23 @@ met_alike k t i x y e f g o =
     ap (λ n. take n k) next ∙ take-suc k i x (slice_get_within k i x f)
     ∙ (λ j. e j ++ (get_or_from_slice_get k i x x f ∙ same ∙ sym (get_or_from_slice_get t i y x g)) j ∷ [])
     ∙ sym (take-suc t i x (slice_get_within t i y g)) ∙ sym (ap (λ n. take n t) next)
+
+-- a text that stands so to another is there
+pub record StandsAt (k : List (List ℕ)) (i : ℕ) (w : List ℕ) (r : Ordering) : Type 0 where
+  pub text : List ℕ
+  pub there : slice_get k i ≡ Some text
+  pub side : slice_cmp nat_cmp text w ≡ r
+
+pub text_there : (k : List (List ℕ)) (i : ℕ) (w : List ℕ) (r : Ordering) → option_map (λ (t : List ℕ). slice_cmp nat_cmp t w) (slice_get k i) ≡ Some r → StandsAt k i w r
+text_there k i w r e = by (slice_get k i) refl e
+  where
+    by : (o : Option (List ℕ)) → slice_get k i ≡ o → option_map (λ (t : List ℕ). slice_cmp nat_cmp t w) o ≡ Some r → StandsAt k i w r
+    by None is f = absurd (none-some r f)
+    by (Some t) is f = record { text = t; there = is; side = same_Some (slice_cmp nat_cmp t w) r f }
+
+pub some_text : (k : List (List ℕ)) (i : ℕ) → is_some (slice_get k i) ≡ true → (text : List ℕ) × (slice_get k i ≡ Some text)
+some_text k i e = by (slice_get k i) refl e
+  where
+    by : (o : Option (List ℕ)) → slice_get k i ≡ o → is_some o ≡ true → (text : List ℕ) × (slice_get k i ≡ Some text)
+    by None is f = absurd (false≢true f)
+    by (Some t) is f = (t, is)

@@ -61,7 +61,11 @@ pub(crate) fn stand_before(heads: &[u64; 6], wanted: &[u64; 6]) -> bool {
 
 /// How a key with these heads stands to the texts of the stack's first symbols, so many of them; None where the
 /// heads don't tell.
-pub(crate) fn heads_side(heads: &[u64; 6], symbols: &LentStack<'_>, count: usize) -> Option<Ordering>
+pub(crate) fn heads_side(
+    heads: &[u64; 6],
+    symbols: &LentStack<'_>,
+    count: usize,
+) -> Option<Ordering>
     requires { count ≤ key_size }
     ensures { IfSome result (λ order. (asked : List (List ℕ)) → AreHeads heads.now asked
         → length asked ≤ 6 → order ≡ key_cmp asked (take count (texts symbols.now))) }
@@ -108,7 +112,7 @@ fn wanted_head(symbols: &LentStack<'_>, count: usize, i: usize) -> u64
 }
 
 /// How two texts with these heads stand to one another, none before any; None where the heads don't tell.
-fn heads_cmp(a: u64, b: u64) -> Option<Ordering>
+pub(crate) fn heads_cmp(a: u64, b: u64) -> Option<Ordering>
     ensures { IfSome result (λ order. (x y : Option (List ℕ)) → IsHeadAt a x → IsHeadAt b y
         → order ≡ option_cmp (slice_cmp nat_cmp) x y) }
 {

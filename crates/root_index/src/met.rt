@@ -1,9 +1,11 @@
 //! How a path from the root stands to the keys that a stack of symbols makes.
-ghost use Rattle.std.specs.Prelude.{◌≡◌, ◌<◌, ◌≤◌, length, take, slice_get, option_copied, Some};
-ghost use Rattle.partial_path.specs.Keys.{key, key_size, texts};
+ghost use Rattle.std.specs.Prelude.{◌≡◌, ◌<◌, ◌≤◌, length, slice_get, Some};
+ghost use Rattle.partial_path.specs.Keys.{key_size, texts};
 ghost use Rattle.root_index.specs.Met.{IsMet};
+ghost use Rattle.root_index.specs.Roots.{root_key};
 
-use partial_path::{KEY_SIZE, StoredPath};
+use crate::slot::Slot;
+use partial_path::KEY_SIZE;
 use stacks_vars::{LentStack, Symbol};
 use std::cmp::Ordering;
 
@@ -18,41 +20,29 @@ pub(crate) enum Met {
     Behind,
 }
 
-/// How the path's key stands to those of at most so many of the stack's symbols. Each text is looked at once.
-pub(crate) fn meet(path: &StoredPath<'_>, symbols: &LentStack<'_>, most: usize) -> Met
+/// How the path's key stands to those of at most so many of the stack's symbols. Each text is looked at once, and most by
+/// their heads alone, with no look at the path.
+pub(crate) fn meet(slot: &Slot, symbols: &LentStack<'_>, most: usize) -> Met
     requires few { most ≤ key_size }
     requires there { most ≤ length symbols.now }
-    ensures { IsMet symbols.now most (key path.now) result }
+    ensures { IsMet symbols.now most (root_key slot.now) result }
 {
     for i in 0..most {
-        let Some(text) = text_at(path, i) else {
+        let wanted = wanted_at(symbols, i);
+        let Some(order) = slot.text_side(i, wanted) else {
             return Met::Asks;
         };
-        match text.order(wanted_at(symbols, i)) {
+        match order {
             Ordering::Less => return Met::Before(i),
             Ordering::Equal => {}
             Ordering::Greater => return Met::Behind,
         }
     }
     // A key has six texts at most.
-    if most == KEY_SIZE {
+    if most == KEY_SIZE || !slot.asks_at(most) {
         return Met::Asks;
     }
-    match text_at(path, most) {
-        Some(_) => Met::Behind,
-        None => Met::Asks,
-    }
-}
-
-/// The symbol that the path asks for at that place, from 0; None where it asks for fewer.
-fn text_at<'a>(path: &StoredPath<'a>, i: usize) -> Option<&'a Symbol>
-    requires { i < key_size }
-    ensures { option_copied result ≡ slice_get (key path.now) i }
-{
-    match path.asked().get(i) {
-        Some(pat) => Some(&pat.symbol),
-        None => None,
-    }
+    Met::Behind
 }
 
 /// The stack's symbol at that place, from the front on.

@@ -41,7 +41,7 @@ pub(crate) fn next_slot<'a>(
     let mut here = at;
     while here.place < all {
         let (slot, near) = slots.at(here.place, here.near);
-        match meet(&slot.rule(), symbols, most) {
+        match meet(slot, symbols, most) {
             Met::Asks => {
                 let place = here.place + 1;
                 return Some((slot, RootOffers { place, near }));

@@ -1,7 +1,7 @@
 use crate::file_handle::FileHandle;
-use crate::key_heads::{heads_of, heads_order, heads_side, stand_before};
+use crate::key_heads::{heads_cmp, heads_of, heads_order, heads_side, stand_before};
 use partial_path::{StoredPath, key_side, keys_cmp};
-use stacks_vars::LentStack;
+use stacks_vars::{LentStack, Symbol};
 use std::alloc::AllocError;
 use std::cmp::Ordering;
 use std::marker::Model;
@@ -31,6 +31,8 @@ impl Model for Slot {
 
 impl Slot {
     ghost use Rattle.std.specs.Prelude.{◌≡◌, ◌<◌, ◌≤◌, Some, IfOk, length, take, slice_get};
+    ghost use Rattle.std.specs.Cmp.Lexicographic.{slice_cmp};
+    ghost use Rattle.std.specs.Option.{is_some, option_map};
     ghost use Rattle.std.specs.Ordering.{nat_cmp, ordering_then};
     ghost use Rattle.version_tree.specs.Contents.{path_cmp};
     ghost use Rattle.partial_path.specs.Keys.{key_cmp, key_size, texts};
@@ -81,6 +83,31 @@ impl Slot {
         stand_before(&self.heads, wanted)
     }
 
+    /// How the symbol that it asks for at that place, from 0, stands to that one: as their heads tell it, and by a look at
+    /// the path where they don't. None where it asks for fewer.
+    pub(crate) fn text_side(&self, i: usize, wanted: &Symbol) -> Option<Ordering>
+        requires { i < key_size }
+        ensures { option_map (λ text. slice_cmp nat_cmp text wanted.now)
+            (slice_get (root_key self.now) i) ≡ result }
+    {
+        let head = self.heads[i];
+        if head == 0 {
+            return None;
+        }
+        match heads_cmp(head, wanted.head()) {
+            Some(order) => Some(order),
+            None => text_order(&self.rule(), i, wanted),
+        }
+    }
+
+    /// Whether it asks for a symbol at that place, from 0.
+    pub(crate) fn asks_at(&self, i: usize) -> bool
+        requires { i < key_size }
+        ensures { result ≡ is_some (slice_get (root_key self.now) i) }
+    {
+        self.heads[i] != 0
+    }
+
     /// How its key stands to the texts of the stack's first symbols, so many of them: as the heads of its symbols
     /// tell it, and by a look at the path where they don't.
     pub(crate) fn key_side(&self, symbols: &LentStack<'_>, count: usize) -> Ordering
@@ -126,5 +153,23 @@ impl Slot {
             Ordering::Equal => self.place.cmp(&other.place),
             Ordering::Greater => Ordering::Greater,
         }
+    }
+}
+
+ghost use Rattle.std.specs.Prelude.{◌≡◌, ◌<◌, slice_get};
+ghost use Rattle.std.specs.Cmp.Lexicographic.{slice_cmp};
+ghost use Rattle.std.specs.Option.{option_map};
+ghost use Rattle.std.specs.Ordering.{nat_cmp};
+ghost use Rattle.partial_path.specs.Keys.{key, key_size};
+
+/// How the symbol that the path asks for at that place, from 0, stands to that one; None where it asks for fewer.
+fn text_order(path: &StoredPath<'_>, i: usize, wanted: &Symbol) -> Option<Ordering>
+    requires { i < key_size }
+    ensures { option_map (λ text. slice_cmp nat_cmp text wanted.now)
+        (slice_get (key path.now) i) ≡ result }
+{
+    match path.asked().get(i) {
+        Some(pat) => Some(pat.symbol.order(wanted)),
+        None => None,
     }
 }

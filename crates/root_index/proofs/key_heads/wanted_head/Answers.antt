@@ -1,4 +1,4 @@
-use Rattle.std.proofs.Common.{refl, sym, subst, inl, inr, arith}
+use Rattle.std.proofs.Common.{refl, sym, ap, ◌∙◌, subst, Some, inl, inr, arith}
 use Rattle.partial_path.proofs.KeyOrders.{front_text, no_text, turned_back, turned_length}
 use Rattle.partial_path.specs.Heads.{IsHeadAt}
 use Rattle.root_index.proofs.key_heads.wanted_head.Goals as goal
@@ -6,7 +6,8 @@ use Rattle.root_index.proofs.key_heads.wanted_head.Goals as goal
 pub returns-then-i-items : goal.returns-then-i-items
 returns-then-i-items c =
     subst (IsHeadAt c.head.result)
-    (sym (front_text c.reversed-items.result.now c.args.symbols.now c.args.count c.args.i c.index-items-items.result (turned_back _ _ c.reversed-items.ensures) c.if-i-count.true c.if-i-items.true))
+    (ap Some (c.symbol.ensures ∙ ap (λ item. item.symbol) c.index-items-items.is)
+    ∙ sym (front_text c.reversed-items.result.now c.args.symbols.now c.args.count c.args.i c.index-items-items.result (turned_back _ _ c.reversed-items.ensures) c.if-i-count.true c.if-i-items.true))
     c.head.ensures
 
 pub returns-else-i-count : goal.returns-else-i-count

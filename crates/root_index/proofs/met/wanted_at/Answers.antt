@@ -9,3 +9,4 @@ returns c =
     let here : c.args.i < length c.reversed-items.result.now = omega (arith, len, c.requires) in
     sym (get_taken (texts c.args.symbols.now) (c.args.i + 1) c.args.i (omega arith))
     ∙ front_text c.reversed-items.result.now c.args.symbols.now (c.args.i + 1) c.args.i c.index-items-items.result (turned_back _ _ c.reversed-items.ensures) (omega arith) here
+    ∙ ap Some (sym (c.symbol.ensures ∙ ap (λ item. item.symbol) c.index-items-items.is))

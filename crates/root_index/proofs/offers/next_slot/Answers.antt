@@ -1,7 +1,4 @@
-use Rattle.std.proofs.Common.{◌∙◌, ap, [], take, arith}
-use Rattle.std.specs.Option.{option_map_or}
-use Rattle.partial_path.specs.Keys.{key, key_cmp, texts}
-use Rattle.partial_path.specs.Sources.{stand_first}
+use Rattle.std.proofs.Common.{◌∙◌, arith}
 use Rattle.root_index.proofs.PassedOver.{passed_over, none_behind, comes_next, none_left}
 use Rattle.root_index.proofs.offers.next_slot.Goals as goal
 
@@ -9,20 +6,20 @@ pub returns-in-Asks : goal.returns-in-Asks
 returns-in-Asks c =
     c.loop-here.invariant
     ∙ comes_next c.args.slots.now c.args.symbols.now c.loop-here.here.place c.at-near.result.0.now c.at-near.ensures
-    (ap (λ o. stand_first (option_map_or key o []) c.args.symbols.now) c.rule.ensures ∙ c.in-Asks.ensures)
+    c.in-Asks.ensures
 
 pub returns-in-Behind : goal.returns-in-Behind
 returns-in-Behind c =
     c.loop-here.invariant
     ∙ none_behind c.args.slots.now c.args.symbols.now c.loop-here.here.place c.min-most.result c.at-near.result.0.now c.requires c.at-near.ensures
-    (ap (λ o. key_cmp (option_map_or key o []) (take c.min-most.result (texts c.args.symbols.now))) c.rule.ensures ∙ c.in-Behind.ensures)
+    c.in-Behind.ensures
     (omega (arith, c.min-most.ensures, c.len.ensures))
 
 pub loop-here-preserved : goal.loop-here-preserved
 loop-here-preserved c =
     c.loop-here.invariant
     ∙ passed_over c.args.slots.now c.args.symbols.now c.in-Before.count c.loop-here.here.place c.passed-here.result.place c.at-near.result.0.now c.requires c.at-near.ensures
-    (ap (λ o. key_cmp (option_map_or key o []) (take c.in-Before.count (texts c.args.symbols.now))) c.rule.ensures ∙ c.in-Before.ensures.1)
+    c.in-Before.ensures.1
     c.passed-here.ensures.later c.passed-here.ensures.passed
 
 pub returns : goal.returns
