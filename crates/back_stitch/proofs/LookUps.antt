@@ -118,24 +118,14 @@ agrees_over (p ∷ pats) (m ∷ made) h = ap (λ (b : Bool). bytes_eq p.symbol m
 graph_at : (files : List FileRules) (k : ℕ) → slice_get (graphs_of files) k ≡ option_map (λ (f : FileRules). f.graph) (slice_get files k)
 graph_at files k = slice_get-map (λ (f : FileRules). f.graph) files k
 
-pub there_none : (files : List FileRules) (k n : ℕ) → slice_get files k ≡ None → node_of (graphs_of files) k n ≡ None
-there_none files k n none = ap (option_and_then (λ (g : Graph). slice_get g.nodes n)) (graph_at files k ∙ ap (option_map (λ (f : FileRules). f.graph)) none)
+pub told_nowhere : (p : NodeKind → Bool) (files : List FileRules) (k n : ℕ) → slice_get files k ≡ None
+    → option_map_or (λ (g : Graph). kind_at p g.nodes n) (slice_get (graphs_of files) k) false ≡ false
+told_nowhere p files k n none =
+    ap (λ (o : Option Graph). option_map_or (λ (g : Graph). kind_at p g.nodes n) o false)
+    (graph_at files k ∙ ap (option_map (λ (f : FileRules). f.graph)) none)
 
-pub there_is : (files : List FileRules) (k n : ℕ) (f : FileRules) → slice_get files k ≡ Some f → node_of (graphs_of files) k n ≡ slice_get f.graph.nodes n
-there_is files k n f found = ap (option_and_then (λ (g : Graph). slice_get g.nodes n)) (graph_at files k ∙ ap (option_map (λ (x : FileRules). x.graph)) found)
-
-pub there_past : (files : List FileRules) (k n : ℕ) (f : FileRules) → slice_get files k ≡ Some f → length f.graph.nodes ≤ n → node_of (graphs_of files) k n ≡ None
-there_past files k n f found past = there_is files k n f found ∙ slice_get_past f.graph.nodes n past
-
--- what its kind tells
-told_by : (p : NodeKind → Bool) (o : Option Graph) (n : ℕ)
-    → option_map_or (λ (g : Graph). kind_at p g.nodes n) o false ≡ option_map_or (λ (node : Node). p node.kind) (option_and_then (λ (g : Graph). slice_get g.nodes n) o) false
-told_by p None n = refl
-told_by p (Some g) n = refl
-
-pub told_some : (p : NodeKind → Bool) (graphs : List Graph) (k n : ℕ) (node : Node) → node_of graphs k n ≡ Some node
-    → option_map_or (λ (g : Graph). kind_at p g.nodes n) (slice_get graphs k) false ≡ p node.kind
-told_some p graphs k n node is = told_by p (slice_get graphs k) n ∙ ap (λ (o : Option Node). option_map_or (λ (x : Node). p x.kind) o false) is
-
-pub told_none : (p : NodeKind → Bool) (graphs : List Graph) (k n : ℕ) → node_of graphs k n ≡ None → option_map_or (λ (g : Graph). kind_at p g.nodes n) (slice_get graphs k) false ≡ false
-told_none p graphs k n is = told_by p (slice_get graphs k) n ∙ ap (λ (o : Option Node). option_map_or (λ (x : Node). p x.kind) o false) is
+pub told_there : (p : NodeKind → Bool) (files : List FileRules) (k n : ℕ) (f : FileRules) → slice_get files k ≡ Some f
+    → option_map_or (λ (g : Graph). kind_at p g.nodes n) (slice_get (graphs_of files) k) false ≡ kind_at p f.graph.nodes n
+told_there p files k n f found =
+    ap (λ (o : Option Graph). option_map_or (λ (g : Graph). kind_at p g.nodes n) o false)
+    (graph_at files k ∙ ap (option_map (λ (x : FileRules). x.graph)) found)

@@ -1,7 +1,6 @@
 //! Where the paths of a list of files may end, and what its nodes are.
-ghost use Rattle.std.specs.Prelude.{◌≡◌, option_copied};
-ghost use Rattle.graph_nodes.specs.Graph.{is_exported_kind};
-ghost use Rattle.graph_nodes.specs.Whole.{is_definition_of, node_of};
+ghost use Rattle.std.specs.Prelude.{◌≡◌};
+ghost use Rattle.graph_nodes.specs.Whole.{is_definition_of};
 ghost use Rattle.partial_path.specs.declared.config.Spot.TheVariants as spots;
 ghost use Rattle.partial_path.specs.Same.{spot_eq};
 ghost use Rattle.partial_path.specs.Moved.{moved, moved_node, moved_spot};
@@ -9,7 +8,6 @@ ghost use Rattle.partial_path.specs.Sources.{graphs_of};
 ghost use Rattle.back_stitch.specs.Cuts.{is_exported_of};
 ghost use Rattle.back_stitch.specs.Sources.{is_exported_spot, may_end_at};
 
-use graph_nodes::{Node, NodeKind};
 use partial_path::{End, FilePaths, Spot, StoredPath};
 use stacks_vars::NodeAt;
 
@@ -63,8 +61,8 @@ fn is_exported_at(files: &[FilePaths], spot: Spot) -> bool
 pub fn is_exported_in(files: &[FilePaths], at: NodeAt) -> bool
     ensures { result ≡ is_exported_of (graphs_of files.now) at.file at.node }
 {
-    match node_in(files, at) {
-        Some(node) => is_exported_kind(&node.kind),
+    match files.get(at.file as usize) {
+        Some(file) => file.is_exported(at.node),
         None => false,
     }
 }
@@ -73,35 +71,8 @@ pub fn is_exported_in(files: &[FilePaths], at: NodeAt) -> bool
 pub fn is_definition_in(files: &[FilePaths], at: NodeAt) -> bool
     ensures { result ≡ is_definition_of (graphs_of files.now) at.file at.node }
 {
-    match node_in(files, at) {
-        Some(node) => node.kind.is_definition(),
+    match files.get(at.file as usize) {
+        Some(file) => file.is_definition(at.node),
         None => false,
-    }
-}
-
-/// The node; None where there is no such file or node.
-fn node_in<'a>(files: &'a [FilePaths], at: NodeAt) -> Option<&'a Node>
-    ensures { option_copied result ≡ node_of (graphs_of files.now) at.file at.node }
-{
-    let Some(file) = files.get(at.file as usize) else {
-        return None;
-    };
-    if at.node >= file.node_count() {
-        return None;
-    }
-    Some(file.node(at.node))
-}
-
-/// Whether nodes of the kind are exported scopes.
-fn is_exported_kind(kind: &NodeKind) -> bool
-    ensures { result ≡ is_exported_kind kind.now }
-{
-    match kind {
-        NodeKind::Scope { exported } => *exported,
-        NodeKind::Push { .. }
-        | NodeKind::PushScoped { .. }
-        | NodeKind::Pop { .. }
-        | NodeKind::PopScoped { .. }
-        | NodeKind::Drops => false,
     }
 }

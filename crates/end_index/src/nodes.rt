@@ -1,12 +1,10 @@
 //! The nodes of the files that a user sees.
 ghost use Rattle.std.specs.Prelude.{◌≡◌, ◌<◌, ◌^◌, slice_get, option_copied, IfSome};
-ghost use Rattle.graph_nodes.specs.Graph.{is_exported_kind};
 ghost use Rattle.partial_path.specs.Sources.{graphs_of};
 ghost use Rattle.root_index.specs.Offers.{files_of};
 ghost use Rattle.back_stitch.specs.Cuts.{is_exported_of};
 ghost use Rattle.back_stitch.specs.Sources.{is_exported_spot};
 
-use graph_nodes::NodeKind;
 use partial_path::{FilePaths, Spot};
 use stacks_vars::NodeAt;
 use version_tree::View;
@@ -38,34 +36,7 @@ pub(crate) fn is_exported(view: &View, at: NodeAt) -> bool
     ensures { result ≡ is_exported_of (graphs_of (files_of view.now)) at.file at.node }
 {
     match file_in(view, at.file as usize) {
-        Some(file) => is_exported_in(file, at.node),
+        Some(file) => file.is_exported(at.node),
         None => false,
-    }
-}
-
-ghost use Rattle.graph_nodes.specs.Graph.{is_exported};
-
-/// Whether the node of the file is an exported scope; false where there is no such node.
-fn is_exported_in(file: &FilePaths, node: u32) -> bool
-    ensures { result ≡ is_exported file.now.graph.nodes node }
-{
-    if node < file.node_count() {
-        is_exported_kind(&file.node(node).kind)
-    } else {
-        false
-    }
-}
-
-/// Whether nodes of the kind are exported scopes.
-fn is_exported_kind(kind: &NodeKind) -> bool
-    ensures { result ≡ is_exported_kind kind.now }
-{
-    match kind {
-        NodeKind::Scope { exported } => *exported,
-        NodeKind::Push { .. }
-        | NodeKind::PushScoped { .. }
-        | NodeKind::Pop { .. }
-        | NodeKind::PopScoped { .. }
-        | NodeKind::Drops => false,
     }
 }

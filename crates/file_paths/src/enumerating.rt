@@ -217,6 +217,6 @@ fn is_definition(graph: &FileGraph, place: Place) -> bool
 {
     match place {
         Place::Root | Place::Jump => false,
-        Place::At(node) => graph.node(node).kind.is_definition(),
+        Place::At(node) => graph.is_definition(node),
     }
 }

@@ -82,7 +82,7 @@ fn push_before(
         (before_node node) first.old.items first.new.items) }
     ensures short { OnOk result (AllByRecursion (IsShort (MAX_WEIGHT + 1)) first.new.items) }
 {
-    if !is_reference(graph, node) {
+    if !graph.is_reference(node) {
         return Ok(());
     }
     let opened = opening(alloc, graph, node)?;
@@ -129,12 +129,4 @@ fn push_units(
         put(unit(alloc, graph, edge)?, first)?;
     }
     Ok(())
-}
-
-/// Whether the node at the position is a reference.
-fn is_reference(graph: &FileGraph, node: u32) -> bool
-    requires { node < length graph.now.nodes }
-    ensures { result ≡ is_reference graph.now.nodes node }
-{
-    graph.node(node).kind.is_reference()
 }

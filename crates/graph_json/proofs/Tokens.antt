@@ -8,13 +8,16 @@ use Rattle.json.specs.Tree.{json_tokens, items_tokens, members_tokens}
 use Rattle.json.specs.Written.{Written}
 use Rattle.std.specs.List.{AllByRecursion}
 use Rattle.std.proofs.lemmas.List.{take_more, take_all, length-take}
-use Rattle.std.proofs.lemmas.Option.{slice_get_within, get_or_from_slice_get}
+use Rattle.std.specs.Option.{option_and_then}
+use Rattle.std.proofs.lemmas.Option.{same_Some, slice_get_within, get_or_from_slice_get}
 use Rattle.graph_nodes.specs.declared.node.Edge.{Edge}
 use Rattle.graph_nodes.specs.declared.node.Node.{Node}
+use Rattle.graph_nodes.specs.declared.node.NodeKind.{NodeKind}
+use Rattle.graph_nodes.specs.declared.node.Span.{Span}
 use Rattle.graph_nodes.specs.Graph.{Graph, is_reference_kind}
 use Rattle.json_values.specs.Numbers.{only_if}
 use Rattle.graph_json.specs.Printed.{with_flag, with_value, position_json, span_json, symbol_of, scope_of, node_json, nodes_json, edge_json, edges_json, graph_json, number_json}
-use Rattle.graph_json.specs.PrintSteps.{flag_tokens, value_tokens, front_tokens, NodeFits, EdgeFits, Adds}
+use Rattle.graph_json.specs.PrintSteps.{flag_tokens, value_tokens, front_tokens, NodeFits, EdgeFits, Adds, node_with}
 
 members_tokens-with_flag : (name : List ℕ) (b : Bool) (rest : Members) → members_tokens (with_flag name b rest) ≡ flag_tokens name b ++ members_tokens rest
 members_tokens-with_flag name true rest = refl
@@ -89,6 +92,15 @@ no_nodes named w xs = record { tokens = sym (append-nil w.tokens); before_it = r
 pub no_edges : (named : Bool) (w : Written) (xs : List Edge) → WroteEdges named w w 0 xs
 unfolding edges_tokens
 no_edges named w xs = record { tokens = sym (append-nil w.tokens); before_it = refl; fits = tt }
+
+-- the node at a position by its kind and its span
+pub node_again : (xs : List Node) (n : ℕ) (kind : NodeKind) (span : Option Span) → option_map (λ (x : Node). x.kind) (slice_get xs n) ≡ Some kind
+    → span ≡ option_and_then (λ (x : Node). x.span) (slice_get xs n) → slice_get xs n ≡ Some (node_with kind span)
+node_again xs n kind span k s = by (slice_get xs n) k s
+  where
+    by : (o : Option Node) → option_map (λ (x : Node). x.kind) o ≡ Some kind → span ≡ option_and_then (λ (x : Node). x.span) o → o ≡ Some (node_with kind span)
+    by None k s = cc
+    by (Some x) k s = let same : x.kind ≡ kind = same_Some x.kind kind k in rw (s, ← same) refl
 
 pub one_node : (named : Bool) (a b c : Written) (n : ℕ) (xs : List Node) (x : Node) → slice_get xs n ≡ Some x → WroteNodes named a b n xs → c.tokens ≡ b.tokens ++ json_tokens (node_json named n x) → c.before ≡ b.before → NodeFits x → WroteNodes named a c (n + 1) xs
 one_node named a b c n xs x at w more same fits =

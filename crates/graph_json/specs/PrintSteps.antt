@@ -27,6 +27,10 @@ SpanFits s =
 abbrev pub NodeFits : Node → Type 0
 NodeFits node = IfSome (scope_of node.kind) (λ n. n < 2 ^ 32) × IfSome node.span SpanFits
 
+-- the node of the kind with the span
+abbrev pub node_with : NodeKind → Option Span → Node
+node_with kind span = record { kind = kind; span = span }
+
 -- a place's position, where it has one, is a number of 32 bits
 abbrev pub PlaceFits : Place → Type 0
 PlaceFits Root = Unit {0}

@@ -5,10 +5,10 @@ ghost use Rattle.json.specs.Token as token;
 ghost use Rattle.json.specs.Tree.{json_tokens, items_tokens};
 ghost use Rattle.json_values.specs.Numbers.{only_if};
 ghost use Rattle.graph_json.specs.Printed.{number_json, name_text, position_json, place_json, span_json, kind_text, symbol_of, scope_of, node_json, nodes_json, edge_json, edges_json, graph_json};
-ghost use Rattle.graph_json.specs.PrintSteps.{Adds, SpanFits, NodeFits, PlaceFits, EdgeFits, front_tokens, flag_tokens, value_tokens};
+ghost use Rattle.graph_json.specs.PrintSteps.{Adds, SpanFits, NodeFits, PlaceFits, EdgeFits, node_with, front_tokens, flag_tokens, value_tokens};
 
 use crate::kind::{symbol, word};
-use graph_nodes::{Edge, Node, NodeKind, Place, Span};
+use graph_nodes::{Edge, NodeKind, Place, Span};
 use json::Writer;
 use std::alloc::{AllocError, Global};
 
@@ -149,17 +149,19 @@ pub(crate) fn put_node(
     out: &mut Writer,
     named: bool,
     n: u32,
-    node: &Node,
+    kind: &NodeKind,
+    span: Option<Span>,
 ) -> Result<(), AllocError>
-    ensures adds { Adds result out.old out.new (json_tokens (node_json named n node.now)) }
-    ensures fits { OnOk result (NodeFits node.now) }
+    ensures adds { Adds result out.old out.new
+        (json_tokens (node_json named n (node_with kind.now span))) }
+    ensures fits { OnOk result (NodeFits (node_with kind.now span)) }
 {
     out.begin_object()?;
-    put_front(alloc, out, named, n, &node.kind)?;
-    put_flag(out, "reference", node.kind.is_reference())?;
-    put_scope(alloc, out, named, &node.kind)?;
-    put_optional_span(out, &node.span)?;
-    put_symbol(out, &node.kind)?;
+    put_front(alloc, out, named, n, kind)?;
+    put_flag(out, "reference", kind.is_reference())?;
+    put_scope(alloc, out, named, kind)?;
+    put_optional_span(out, &span)?;
+    put_symbol(out, kind)?;
     out.end_object()
 }
 

@@ -49,7 +49,7 @@ fn put_nodes(
     ensures checked { OnOk result (IsChecked graph.now) }
 {
     for n in 0..graph.node_count() {
-        put_node(alloc, out, named, n, graph.node(n))?;
+        put_node(alloc, out, named, n, graph.kind(n), graph.span(n))?;
     }
     out.end_array()
 }

@@ -3,6 +3,8 @@ pub mod Limits
 pub mod Checked
 pub mod Cut
 pub mod Out
+pub mod Marks
 pub mod Inside
 pub mod Packed
+pub mod Spans
 pub mod Whole

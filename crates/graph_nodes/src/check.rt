@@ -95,7 +95,7 @@ fn has_its_scope(nodes: &[Node], kind: &NodeKind) -> bool
 }
 
 /// Whether an exported scope stands at the position; false past the last node.
-pub fn is_exported_at(nodes: &[Node], n: usize) -> bool
+fn is_exported_at(nodes: &[Node], n: usize) -> bool
     ensures { result ≡ is_exported nodes.now n }
 {
     match nodes.get(n) {

@@ -1,9 +1,11 @@
-use crate::check::{first_fault, is_exported_at};
+use crate::check::first_fault;
 use crate::edges::EdgeIter;
 use crate::fault::GraphFault;
-use crate::index::{Rows, marks_of, row_of, rows_of};
-use crate::node::{Edge, Node, Place};
+use crate::index::{Rows, row_of, rows_of};
+use crate::marks::{Mark, is_definition_at, is_exported_at, is_reference_at, marks_of};
+use crate::node::{Edge, Node, NodeKind, Place, Span};
 use crate::packed::{EdgeRow, edge_in, packed};
+use crate::spans::{NodeSpan, kinds_of, span_in, spans_of};
 use std::alloc::{AllocError, Global};
 use std::marker::Model;
 
@@ -16,34 +18,45 @@ pub const MAX_EDGES: usize = 65_536;
 /// A checked graph of one file. A contract sees its nodes and its edges.
 #[derive(Debug, Drop)]
 pub struct FileGraph {
-    nodes: Vec<Node>,
+    kinds: Vec<NodeKind>,
+    /// The spans of the nodes that have one, in their order.
+    spans: Vec<NodeSpan>,
     edges: Vec<EdgeRow>,
     /// For each place the positions of the edges that leave it, rising.
     rows: Rows,
-    /// For each node whether it is a turning node.
-    marks: Vec<bool>,
+    /// For each node what a search asks of it.
+    marks: Vec<Mark>,
 }
 
 impl Model for FileGraph {
-    ghost use Rattle.std.specs.Prelude.{map};
+    ghost use Rattle.std.specs.Prelude.{◌≡◌, map};
     ghost use Rattle.graph_nodes.specs.Graph.{Graph};
     ghost use Rattle.graph_nodes.specs.Inside.{IsIndexed};
     ghost use Rattle.graph_nodes.specs.Packed.{edge_in};
+    ghost use Rattle.graph_nodes.specs.Spans.{nodes_from, spans_from};
 
     ghost Value = { Graph };
 
-    ghost view = { λ g. record { nodes = g.nodes.items; edges = map edge_in g.edges.items } };
+    ghost view = { λ g. record {
+      nodes = nodes_from 0 g.kinds.items g.spans.items;
+      edges = map edge_in g.edges.items;
+    } };
 
-    ghost invariant = { λ g. IsIndexed g.nodes.items (map edge_in g.edges.items)
+    ghost invariant = { λ g.
+        (g.spans.items ≡ spans_from 0 (nodes_from 0 g.kinds.items g.spans.items))
+        × IsIndexed (nodes_from 0 g.kinds.items g.spans.items) (map edge_in g.edges.items)
         g.rows.starts.items g.rows.order.items g.marks.items };
 }
 
 impl FileGraph {
     ghost use Rattle.std.specs.Prelude.{◌≡◌, ◌≢◌, ℕ, ◌<◌, ◌≤◌, ◌^◌, length, vec_len, slice_get, IfOk, IfErr, OnOk, Some, None, IsTrue};
-    ghost use Rattle.graph_nodes.specs.Graph.{Graph, has_place};
+    ghost use Rattle.std.specs.Option.{option_map, option_and_then};
+    ghost use Rattle.graph_nodes.specs.declared.node.Node.{Node};
+    ghost use Rattle.graph_nodes.specs.Graph.{Graph, has_place, is_exported, is_reference, is_definition};
     ghost use Rattle.graph_nodes.specs.Checked.{graph_fault, IsChecked};
     ghost use Rattle.graph_nodes.specs.Cut.{is_cut};
     ghost use Rattle.graph_nodes.specs.Out.{edges_from};
+    ghost use Rattle.graph_nodes.specs.Spans.{spans_from};
 
     /// The graph of these nodes and edges, or the first fault, in the order of the variants of
     /// `GraphFault`. It takes time and memory that follow the number of nodes and edges.
@@ -73,10 +86,13 @@ impl FileGraph {
     {
         let count = nodes.as_slice().len();
         let rows = rows_of(alloc, count, edges.as_slice())?;
-        let marks = marks_of(alloc, count, edges.as_slice())?;
+        let marks = marks_of(alloc, nodes.as_slice(), edges.as_slice())?;
         let edges = packed(alloc, edges.as_slice())?;
+        let spans = spans_of(alloc, nodes.as_slice())?;
+        let kinds = kinds_of(alloc, nodes)?;
         Ok(FileGraph {
-            nodes,
+            kinds,
+            spans,
             edges,
             rows,
             marks,
@@ -88,7 +104,7 @@ impl FileGraph {
         ensures value { result ≡ length self.now.nodes }
         ensures checked { IsChecked self.now }
     {
-        self.nodes.len() as u32
+        self.kinds.len() as u32
     }
 
     /// How many edges the graph has.
@@ -99,19 +115,56 @@ impl FileGraph {
         self.edges.len() as u32
     }
 
-    /// The nodes, by position.
-    pub fn nodes(&self) -> &[Node]
-        ensures { result.now ≡ self.now.nodes }
+    /// The kind of the node at the position.
+    pub fn kind(&self, n: u32) -> &NodeKind
+        requires { n < length self.now.nodes }
+        ensures { option_map (λ (node : Node). node.kind) (slice_get self.now.nodes n)
+            ≡ Some result.now }
     {
-        self.nodes.as_slice()
+        &self.kinds[n as usize]
     }
 
-    /// The node at the position.
-    pub fn node(&self, n: u32) -> &Node
-        requires { n < length self.now.nodes }
-        ensures { slice_get self.now.nodes n ≡ Some result.now }
+    /// The part of the file that the node at the position stands for; None where it has none, and past the last node.
+    /// It takes time that follows the logarithm of the number of spans.
+    pub fn span(&self, n: u32) -> Option<Span>
+        ensures { result ≡ option_and_then (λ (node : Node). node.span)
+            (slice_get self.now.nodes n) }
     {
-        &self.nodes[n as usize]
+        if n as usize >= self.kinds.len() {
+            return None;
+        }
+        span_in(self.spans.as_slice(), n)
+    }
+
+    /// The nodes that stand for a part of the file, each with it, in their order.
+    pub fn spans(&self) -> &[NodeSpan]
+        ensures { result.now ≡ spans_from 0 self.now.nodes }
+    {
+        self.spans.as_slice()
+    }
+
+    /// Whether there is an exported scope at the position; false past the last node. It takes constant time, and looks at one
+    /// byte.
+    pub fn is_exported(&self, n: u32) -> bool
+        ensures { result ≡ is_exported self.now.nodes n }
+    {
+        is_exported_at(self.marks.as_slice(), n)
+    }
+
+    /// Whether there is a reference at the position; false past the last node. It takes constant time, and looks at one
+    /// byte.
+    pub fn is_reference(&self, n: u32) -> bool
+        ensures { result ≡ is_reference self.now.nodes n }
+    {
+        is_reference_at(self.marks.as_slice(), n)
+    }
+
+    /// Whether there is a definition at the position; false past the last node. It takes constant time, and looks at one
+    /// byte.
+    pub fn is_definition(&self, n: u32) -> bool
+        ensures { result ≡ is_definition self.now.nodes n }
+    {
+        is_definition_at(self.marks.as_slice(), n)
     }
 
     /// The edge at the position.
@@ -123,15 +176,14 @@ impl FileGraph {
     }
 
     /// Whether a path is cut at the place: at the root, at jump, at exported scopes and at turning
-    /// nodes. It takes constant time.
+    /// nodes. It takes constant time, and looks at one byte.
     pub fn is_cut(&self, place: Place) -> bool
         requires { IsTrue (has_place (length self.now.nodes) place) }
         ensures { result ≡ is_cut self.now place }
     {
         match place {
             Place::Root | Place::Jump => true,
-            Place::At(n) => is_exported_at(self.nodes.as_slice(), n as usize)
-                || self.marks[n as usize],
+            Place::At(n) => self.marks[n as usize].is_cut(),
         }
     }
 
@@ -140,6 +192,6 @@ impl FileGraph {
         requires { IsTrue (has_place (length self.now.nodes) place) }
         ensures { result ≡ edges_from self.now place }
     {
-        EdgeIter::over(row_of(&self.rows, self.nodes.len(), place))
+        EdgeIter::over(row_of(&self.rows, self.kinds.len(), place))
     }
 }

@@ -6,7 +6,7 @@ use crate::sorting::sort_paths;
 use crate::start_table::StartTable;
 use crate::stored::StoredPath;
 use crate::stored_paths::{KeptPaths, StoredPaths};
-use graph_nodes::{FileGraph, Node, Place};
+use graph_nodes::{FileGraph, NodeKind, NodeSpan, Place, Span};
 use stacks_vars::LentStack;
 use std::alloc::AllocError;
 use std::marker::Model;
@@ -38,7 +38,10 @@ impl Model for FilePaths {
 
 impl FilePaths {
     ghost use Rattle.std.specs.Prelude.{◌≡◌, ◌≤◌, ◌<◌, [], ◌∷◌, length, take, slice_get, option_map, Some, IfOk, IfSome, MatchOption, IsPermutation};
-    ghost use Rattle.graph_nodes.specs.Graph.{is_definition, is_reference};
+    ghost use Rattle.std.specs.Option.{option_and_then};
+    ghost use Rattle.graph_nodes.specs.declared.node.Node.{Node};
+    ghost use Rattle.graph_nodes.specs.Graph.{is_definition, is_exported, is_reference};
+    ghost use Rattle.graph_nodes.specs.Spans.{spans_from};
     ghost use Rattle.graph_nodes.specs.Checked.{IsChecked};
     ghost use Rattle.graph_nodes.specs.Cut.{is_cut};
     ghost use Rattle.partial_path.specs.PathSets.{AreFileRules, IsPathSet};
@@ -150,12 +153,29 @@ impl FilePaths {
         self.graph.node_count()
     }
 
-    /// The node at the position.
-    pub fn node(&self, n: u32) -> &Node
+    /// The kind of the node at the position.
+    pub fn kind(&self, n: u32) -> &NodeKind
         requires { n < length self.now.graph.nodes }
-        ensures { slice_get self.now.graph.nodes n ≡ Some result.now }
+        ensures { option_map (λ (node : Node). node.kind) (slice_get self.now.graph.nodes n)
+            ≡ Some result.now }
     {
-        self.graph.node(n)
+        self.graph.kind(n)
+    }
+
+    /// The part of the file that the node at the position stands for; None where it has none, and past the last
+    /// node. It takes time that follows the logarithm of the number of spans.
+    pub fn span(&self, n: u32) -> Option<Span>
+        ensures { result ≡ option_and_then (λ (node : Node). node.span)
+            (slice_get self.now.graph.nodes n) }
+    {
+        self.graph.span(n)
+    }
+
+    /// The nodes that stand for a part of the file, each with it, in their order.
+    pub fn spans(&self) -> &[NodeSpan]
+        ensures { result.now ≡ spans_from 0 self.now.graph.nodes }
+    {
+        self.graph.spans()
     }
 
     /// Whether the node at the position is a cut node: an exported scope or a turning node. It takes
@@ -167,22 +187,25 @@ impl FilePaths {
         self.graph.is_cut(Place::At(n))
     }
 
-    /// Whether there is a reference at the position. It takes constant time.
+    /// Whether there is an exported scope at the position; false past the last node. It takes constant time.
+    pub fn is_exported(&self, n: u32) -> bool
+        ensures { result ≡ is_exported self.now.graph.nodes n }
+    {
+        self.graph.is_exported(n)
+    }
+
+    /// Whether there is a reference at the position; false past the last node. It takes constant time.
     pub fn is_reference(&self, n: u32) -> bool
         ensures { result ≡ is_reference self.now.graph.nodes n }
     {
-        match self.graph.nodes().get(n as usize) {
-            Some(node) => node.kind.is_reference(),
-            None => false,
-        }
+        self.graph.is_reference(n)
     }
 
-    /// Whether the node at the position is a definition. It takes constant time.
+    /// Whether there is a definition at the position; false past the last node. It takes constant time.
     pub fn is_definition(&self, n: u32) -> bool
-        requires { n < length self.now.graph.nodes }
         ensures { result ≡ is_definition self.now.graph.nodes n }
     {
-        self.graph.node(n).kind.is_definition()
+        self.graph.is_definition(n)
     }
 
     /// The precedence of the edge at the position. It takes constant time.

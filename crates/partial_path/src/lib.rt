@@ -46,7 +46,7 @@ pub use lent_config::LentConfig;
 pub use moving::file_zero_moves;
 pub use offers::FileOffers;
 pub use path::{PartialPath, PathParts};
-pub use places::{edge_at, is_at_definition, is_definition_spot, node_at};
+pub use places::{edge_at, is_at_definition, is_definition_spot, kind_at};
 pub use rule::{End, Start};
 pub use shared::SharedPaths;
 pub use slots::{KEY_SIZE, key_side, keys_cmp};

@@ -1,19 +1,22 @@
 ghost use Rattle.std.specs.Prelude.{◌≡◌, ◌↔◌, ◌&&◌, nat_eq, length, IsTrue, option_copied};
+ghost use Rattle.std.specs.Option.{option_map};
+ghost use Rattle.graph_nodes.specs.declared.node.Node.{Node};
 ghost use Rattle.graph_nodes.specs.Whole.{node_of, edge_of, is_definition_of};
 ghost use Rattle.partial_path.specs.Spots.{is_definition_spot};
 ghost use Rattle.partial_path.specs.Runs.{IsAtDefinition};
 
 use crate::config::{Config, EdgeAt, Spot};
-use graph_nodes::{Edge, FileGraph, Node};
+use graph_nodes::{Edge, FileGraph, NodeKind};
 use stacks_vars::NodeAt;
 
-/// The node of the files; None where there is none.
-pub fn node_at(files: &[FileGraph], at: NodeAt) -> Option<&Node>
-    ensures { option_copied result ≡ node_of files.now at.file at.node }
+/// The kind of the node of the files; None where there is none.
+pub fn kind_at(files: &[FileGraph], at: NodeAt) -> Option<&NodeKind>
+    ensures { option_copied result
+        ≡ option_map (λ (node : Node). node.kind) (node_of files.now at.file at.node) }
 {
     let graph = files.get(at.file as usize)?;
     if at.node < graph.node_count() {
-        Some(graph.node(at.node))
+        Some(graph.kind(at.node))
     } else {
         None
     }
@@ -38,8 +41,8 @@ pub fn is_definition_spot(files: &[FileGraph], spot: Spot) -> bool
     let Spot::At(at) = spot else {
         return false;
     };
-    match node_at(files, at) {
-        Some(node) => node.kind.is_definition(),
+    match files.get(at.file as usize) {
+        Some(graph) => graph.is_definition(at.node),
         None => false,
     }
 }

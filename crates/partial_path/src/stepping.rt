@@ -5,7 +5,7 @@ ghost use Rattle.partial_path.specs.Spots.{at_node};
 ghost use Rattle.partial_path.specs.Step.{action_of, enter_jump, enter_place, stands_at, follow, step, is_cut_edge, start};
 
 use crate::config::{Config, EdgeAt, Spot};
-use crate::places::{edge_at, node_at};
+use crate::places::{edge_at, kind_at};
 use graph_nodes::{Edge, FileGraph, Name, NodeKind, Place};
 use stacks_vars::{NodeAt, Stacks, Symbol, drop_scopes, jump, pop, pop_scoped, push, push_scoped};
 use std::alloc::{AllocError, Global};
@@ -32,13 +32,13 @@ pub fn step(
 pub fn start(alloc: Global, files: &[FileGraph], at: NodeAt) -> Result<Option<Config>, AllocError>
     ensures { IfOk result (λ c. c ≡ start files.now at) }
 {
-    let Some(node) = node_at(files, at) else {
+    let Some(kind) = kind_at(files, at) else {
         return Ok(None);
     };
-    if !node.kind.is_reference() {
+    if !kind.is_reference() {
         return Ok(None);
     }
-    let entered = enter_node(alloc, at.file, &node.kind, Stacks::new(alloc))?;
+    let entered = enter_node(alloc, at.file, kind, Stacks::new(alloc))?;
     Ok(stand_at(at, entered))
 }
 
@@ -125,8 +125,8 @@ fn enter_at(
 ) -> Result<Option<Config>, AllocError>
     ensures { IfOk result (λ next. next ≡ enter_place files.now at.file (Place.At at.node) stacks) }
 {
-    match node_at(files, at) {
-        Some(node) => Ok(stand_at(at, enter_node(alloc, at.file, &node.kind, stacks)?)),
+    match kind_at(files, at) {
+        Some(kind) => Ok(stand_at(at, enter_node(alloc, at.file, kind, stacks)?)),
         None => Ok(None),
     }
 }

@@ -198,7 +198,7 @@ fn place_entered(
 {
     match place {
         Place::Root | Place::Jump => Ok(true),
-        Place::At(node) => node_entered(alloc, &graph.node(node).kind, pre, post),
+        Place::At(node) => node_entered(alloc, graph.kind(node), pre, post),
     }
 }
 

@@ -77,7 +77,7 @@ fn place_entered(
         Place::Root => Ok(passing(alloc, start, End::At(Spot::Root), edges)),
         Place::Jump => Ok(passing(alloc, start, End::ByStack, edges)),
         Place::At(node) => {
-            let kind = &graph.node(node).kind;
+            let kind = graph.kind(node);
             let end = End::At(Spot::At(NodeAt { file: 0, node }));
             entering(alloc, kind, start, end, edges)
         }

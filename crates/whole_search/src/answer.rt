@@ -1,6 +1,5 @@
 ghost use Rattle.std.specs.Prelude.{◌≡◌, ◌<◌, ◌^◌, ◌↔◌, length, All, IsTrue, IsSomeAnd, IfOk, OnOk};
 ghost use Rattle.graph_nodes.specs.Checked.{IsChecked};
-ghost use Rattle.graph_nodes.specs.Graph.{is_reference};
 ghost use Rattle.graph_nodes.specs.Whole.{is_reference_of};
 ghost use Rattle.partial_path.specs.Spots.{node_at};
 ghost use Rattle.partial_path.specs.Step.{start};
@@ -12,7 +11,7 @@ use crate::leads::Leads;
 use crate::query::Query;
 use crate::rows::rows_of;
 use crate::walk::walk;
-use graph_nodes::{FileGraph, Node};
+use graph_nodes::FileGraph;
 use partial_path::{Bounds, Config, start};
 use stacks_vars::NodeAt;
 use std::alloc::Global;
@@ -90,16 +89,7 @@ pub fn is_reference(files: &[FileGraph], file: u32, node: u32) -> bool
     ensures { result ≡ is_reference_of files.now file node }
 {
     match files.get(file as usize) {
-        Some(graph) => is_reference_at(graph.nodes(), node as usize),
-        None => false,
-    }
-}
-
-fn is_reference_at(nodes: &[Node], n: usize) -> bool
-    ensures { result ≡ is_reference nodes.now n }
-{
-    match nodes.get(n) {
-        Some(node) => node.kind.is_reference(),
+        Some(graph) => graph.is_reference(node),
         None => false,
     }
 }

@@ -113,7 +113,7 @@ fn is_landing(graph: &FileGraph, n: u32) -> bool
     requires { n < length graph.now.nodes }
     ensures { result ≡ is_landing graph.now (Place.At n) }
 {
-    graph.is_cut(Place::At(n)) || graph.node(n).kind.is_definition()
+    graph.is_cut(Place::At(n)) || graph.is_definition(n)
 }
 
 /// The mark at the position; true past the last one.
