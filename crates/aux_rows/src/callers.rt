@@ -29,7 +29,7 @@ fn push_questions(
     graph: &FileGraph,
 ) -> Result<(), AllocError> {
     for node in 0..graph.node_count() {
-        if graph.node(node).kind.is_definition() {
+        if graph.is_definition(node) {
             let at = format!(in alloc; "\"path\":\"{path}\",\"node\":{node}}}\n")?;
             let line = format!(in alloc; "{{\"do\":\"references\",{at}{{\"do\":\"callers\",{at}")?;
             lines.extend_from_slice(line.as_bytes())?;

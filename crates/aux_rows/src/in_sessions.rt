@@ -48,7 +48,7 @@ fn answers(alloc: Global, files: &[FileGraph]) -> Result<Vec<(NodeAt, String)>, 
     for (file, graph) in (0u32..).zip(files) {
         for node in 0..graph.node_count() {
             let at = NodeAt { file, node };
-            if graph.node(node).kind.is_reference() {
+            if graph.is_reference(node) {
                 answers.push((at, searched(alloc, files, at, Bounds::usual())?))?;
             }
         }
@@ -90,7 +90,7 @@ fn ask_references(alloc: Global, asked: &mut Asked) -> Result<(), TextFault> {
 fn ask_definitions(alloc: Global, files: &[FileGraph], asked: &mut Asked) -> Result<(), TextFault> {
     for (file, graph) in (0u32..).zip(files) {
         for node in 0..graph.node_count() {
-            if graph.node(node).kind.is_definition() {
+            if graph.is_definition(node) {
                 let at = NodeAt { file, node };
                 let answer = referring(alloc, &asked.answers, at)?;
                 let reply = reply(alloc, answer.as_str(), false)?;

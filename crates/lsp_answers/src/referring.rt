@@ -72,11 +72,7 @@ fn span_seen(view: &View, file: u32, node: u32) -> Option<Span>
         (node_of (graphs_seen view.now) file node) }
 {
     let found = file_in(view, file)?;
-    if node < found.node_count() {
-        found.node(node).span
-    } else {
-        None
-    }
+    found.span(node)
 }
 
 /// The file with that number; None where there is none.

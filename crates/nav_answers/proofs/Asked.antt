@@ -1,9 +1,9 @@
 -- The references of files: which they are, in which order, and that the code lists them.
-use Rattle.std.proofs.Common.{◌≡◌, refl, sym, ◌∙◌, ap, subst, ℕ, zero, suc, ◌+◌, ◌≤◌, List, [], ◌∷◌, ◌++◌, length, drop, Bool, true, false, cond, if◌then◌else◌, Option, Some, None, IsSomeAnd, slice_get, inl, inr, ◌⊎◌, append_assoc, arith}
+use Rattle.std.proofs.Common.{◌≡◌, refl, sym, ◌∙◌, ap, subst, ℕ, zero, suc, ◌+◌, ◌<◌, ◌≤◌, List, [], ◌∷◌, ◌++◌, length, drop, Bool, true, false, cond, if◌then◌else◌, Option, Some, None, IsSomeAnd, slice_get, inl, inr, ◌⊎◌, append_assoc, arith}
 use Rattle.std.specs.List.{AllByRecursion}
 use Rattle.std.specs.Option.{option_and_then, option_map_or}
 use Rattle.std.proofs.lemmas.List.{drop_more, append-nil}
-use Rattle.std.proofs.lemmas.Option.{none-some, same_Some, slice_get_within, get_or_from_slice_get}
+use Rattle.std.proofs.lemmas.Option.{none-some, same_Some, slice_get_within, slice_get_cases, get_or_from_slice_get}
 use Rattle.std.proofs.Math.ListN.{drop_of_length-le}
 use Rattle.graph_nodes.specs.declared.node.Node.{Node}
 use Rattle.graph_nodes.specs.Graph.{Graph, is_reference, is_reference_kind}
@@ -28,16 +28,34 @@ one_node file n nodes node e =
     ∙ ap (λ (d : Node). (if is_reference_kind d.kind then node_at file n ∷ [] else []) ++ references_in file (n + 1) (drop (n + 1) nodes)) (get_or_from_slice_get nodes n node node e)
 
 -- a node that is a reference, and one that is none
-pub node_listed : (file n : ℕ) (nodes : List Node) (node : Node) (xs : List NodeAt) → slice_get nodes n ≡ Some node → is_reference_kind node.kind ≡ true
+node_listed : (file n : ℕ) (nodes : List Node) (node : Node) (xs : List NodeAt) → slice_get nodes n ≡ Some node → is_reference_kind node.kind ≡ true
     → xs ++ references_in file n (drop n nodes) ≡ (xs ++ node_at file n ∷ []) ++ references_in file (n + 1) (drop (n + 1) nodes)
 node_listed file n nodes node xs e is =
     ap (λ ys. xs ++ ys) (one_node file n nodes node e ∙ ap (λ b. cond b (node_at file n ∷ []) [] ++ references_in file (n + 1) (drop (n + 1) nodes)) is)
     ∙ sym (append_assoc xs (node_at file n ∷ []) (references_in file (n + 1) (drop (n + 1) nodes)))
 
-pub node_passed : (file n : ℕ) (nodes : List Node) (node : Node) (xs : List NodeAt) → slice_get nodes n ≡ Some node → is_reference_kind node.kind ≡ false
+node_passed : (file n : ℕ) (nodes : List Node) (node : Node) (xs : List NodeAt) → slice_get nodes n ≡ Some node → is_reference_kind node.kind ≡ false
     → xs ++ references_in file n (drop n nodes) ≡ xs ++ references_in file (n + 1) (drop (n + 1) nodes)
 node_passed file n nodes node xs e is =
     ap (λ ys. xs ++ ys) (one_node file n nodes node e ∙ ap (λ b. cond b (node_at file n ∷ []) [] ++ references_in file (n + 1) (drop (n + 1) nodes)) is)
+
+-- the same by what stands at the position
+as_kind : (nodes : List Node) (n : ℕ) (node : Node) (b : Bool) → slice_get nodes n ≡ Some node → is_reference nodes n ≡ b → is_reference_kind node.kind ≡ b
+as_kind nodes n node b e is = sym (ap (λ (o : Option Node). option_map_or (λ (x : Node). is_reference_kind x.kind) o false) e) ∙ is
+
+pub place_listed : (file n : ℕ) (nodes : List Node) (xs : List NodeAt) → n < length nodes → is_reference nodes n ≡ true
+    → xs ++ references_in file n (drop n nodes) ≡ (xs ++ node_at file n ∷ []) ++ references_in file (n + 1) (drop (n + 1) nodes)
+place_listed file n nodes xs lt is = elim (slice_get_cases nodes n).1 [
+  | inl found ↦ node_listed file n nodes found.0 xs found.2 (as_kind nodes n found.0 true found.2 is)
+  | inr past ↦ absurd (omega (arith, past.0, lt))
+]
+
+pub place_passed : (file n : ℕ) (nodes : List Node) (xs : List NodeAt) → n < length nodes → is_reference nodes n ≡ false
+    → xs ++ references_in file n (drop n nodes) ≡ xs ++ references_in file (n + 1) (drop (n + 1) nodes)
+place_passed file n nodes xs lt is = elim (slice_get_cases nodes n).1 [
+  | inl found ↦ node_passed file n nodes found.0 xs found.2 (as_kind nodes n found.0 false found.2 is)
+  | inr past ↦ absurd (omega (arith, past.0, lt))
+]
 
 pub nodes_over : (file n : ℕ) (nodes : List Node) (xs : List NodeAt) → length nodes ≤ n → xs ++ references_in file n (drop n nodes) ≡ xs
 nodes_over file n nodes xs h = ap (λ ns. xs ++ references_in file n ns) (drop_of_length-le nodes h) ∙ append-nil xs

@@ -4,10 +4,10 @@
 -- `references_of_any`: on United too, which Referred serves.
 -- `callers`: on Called, which has what leads to a definition and what was found of that.
 -- All of these: on Own, what the files of a view offer to a search, on Numbers, which number a file has, and on
--- Pointed, which node is meant; `definition_at` on the last two. The laws on OneReply. Numbers is
+-- Spanned, which node is meant; `definition_at` on the last two. The laws on OneReply. Numbers is
 -- also for `lsp_answers`.
 pub mod Numbers
-pub mod Pointed
+pub mod Spanned
 pub mod Own
 pub mod Kept
 pub mod Alone

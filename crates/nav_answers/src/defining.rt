@@ -147,9 +147,5 @@ fn span_of(view: &View, hit: Hit) -> Option<Span>
         (λ node. node.span) (node_of (graphs_seen view.now) hit.file hit.node) }
 {
     let file = file_in(view, hit.file as usize)?;
-    if hit.node < file.node_count() {
-        file.node(hit.node).span
-    } else {
-        None
-    }
+    file.span(hit.node)
 }

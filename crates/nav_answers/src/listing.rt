@@ -24,7 +24,7 @@ fn add_references(file: &FilePaths, number: u32, all: &mut Vec<NodeAt>) -> Resul
         ++ references_in number 0 file.now.graph.nodes) }
 {
     for node in 0..file.node_count() {
-        if file.node(node).kind.is_reference() {
+        if file.is_reference(node) {
             all.push(NodeAt { file: number, node })?;
         }
     }

@@ -1,17 +1,16 @@
-ghost use Rattle.std.specs.Prelude.{◌≡◌, ◌<◌, length, false, IfSome};
+ghost use Rattle.std.specs.Prelude.{◌≡◌, ◌<◌, length, IfSome};
 ghost use Rattle.std.specs.List.{position_from};
-ghost use Rattle.std.specs.Option.{option_map_or};
 ghost use Rattle.std.specs.Result.{result_map_both};
-ghost use Rattle.graph_nodes.specs.Graph.{is_definition_kind};
+ghost use Rattle.graph_nodes.specs.Graph.{is_definition_kind, kind_at};
 ghost use Rattle.stacks_vars.specs.declared.scopes.NodeAt.{NodeAt};
 ghost use Rattle.version_tree.specs.Graphs.{graph_rows};
 ghost use Rattle.nav_answers.specs.declared.found.AskFault.TheVariants.{NoDefinition};
-ghost use Rattle.nav_answers.specs.Kinds.{is_of, missing};
+ghost use Rattle.nav_answers.specs.Kinds.{is_of, is_meant, missing};
 ghost use Rattle.nav_answers.specs.Points.{has_point, is_earlier, is_there, node_meant};
 ghost use Rattle.nav_answers.specs.Replies.{meant, meant_in, number_of};
 
 use crate::found::{AskFault, At};
-use graph_nodes::{Node, NodeKind, Span};
+use graph_nodes::{NodeSpan, Span};
 use partial_path::FilePaths;
 use stacks_vars::NodeAt;
 use version_tree::View;
@@ -24,13 +23,13 @@ pub enum Asked {
 }
 
 impl Asked {
-    /// Whether a node of the kind is asked about.
-    fn is_of(self, kind: &NodeKind) -> bool
-        ensures { result ≡ is_of self kind.now }
+    /// Whether the node at the position of the file is asked about; false past the last node.
+    fn is_at(self, file: &FilePaths, n: u32) -> bool
+        ensures { result ≡ kind_at (is_of self) file.now.graph.nodes n }
     {
         match self {
-            Asked::Reference => kind.is_reference(),
-            Asked::Definition => kind.is_definition(),
+            Asked::Reference => file.is_reference(n),
+            Asked::Definition => file.is_definition(n),
         }
     }
 
@@ -48,7 +47,7 @@ impl Asked {
 /// The position of the definition that is meant in the file with the path: the one at the position, or the first
 /// whose span has the point. It is `NoFile` where the user sees no file with the path, and else `NoDefinition` where
 /// there is no such definition. It takes no memory. The file is found by halving; a point is looked for among all
-/// nodes of the file.
+/// spans of the file.
 pub fn definition_at(view: &View, path: &str, at: At) -> Result<u32, AskFault>
     ensures { result ≡ result_map_both (λ (node : NodeAt). node.node)
         (λ fault. fault) (meant is_definition_kind NoDefinition (graph_rows view.now) path.now at) }
@@ -103,44 +102,36 @@ fn node_meant(file: &FilePaths, asked: Asked, at: At) -> Option<u32>
 fn node_named(file: &FilePaths, asked: Asked, n: u32) -> Option<u32>
     ensures { result ≡ node_meant (is_of asked) file.now.graph.nodes (At.Node n) }
 {
-    if n < file.node_count() && asked.is_of(&file.node(n).kind) {
-        Some(n)
-    } else {
-        None
-    }
+    if asked.is_at(file, n) { Some(n) } else { None }
 }
 
 /// The position of the first node of those that are asked about whose span has the point.
 fn node_around(file: &FilePaths, asked: Asked, line: u32, column: u32) -> Option<u32>
     ensures { result ≡ position_from (is_there (is_of asked) line column) 0 file.now.graph.nodes }
 {
-    for n in 0..file.node_count() {
-        if is_there(file.node(n), asked, line, column) {
-            return Some(n);
+    let spans = file.spans();
+    for found in spans {
+        if is_meant(file, asked, found, line, column) {
+            return Some(found.node);
         }
     }
     None
 }
 
-/// Whether the node is of those that are asked about and has a span with the point.
-fn is_there(node: &Node, asked: Asked, line: u32, column: u32) -> bool
-    ensures { result ≡ is_there (is_of asked) line column node.now }
+/// Whether the span has the point and its node is of those that are asked about.
+fn is_meant(file: &FilePaths, asked: Asked, found: &NodeSpan, line: u32, column: u32) -> bool
+    ensures { result ≡ is_meant (is_of asked) file.now.graph.nodes line column found.now }
 {
-    asked.is_of(&node.kind) && has_point(node.span, line, column)
+    has_point(found.span, line, column) && asked.is_at(file, found.node)
 }
 
-/// Whether there is a span and it has the point.
-fn has_point(span: Option<Span>, line: u32, column: u32) -> bool
-    ensures { result ≡ option_map_or (has_point line column) span false }
+/// Whether the span has the point.
+fn has_point(span: Span, line: u32, column: u32) -> bool
+    ensures { result ≡ has_point line column span }
 {
-    match span {
-        Some(span) => {
-            let before = is_earlier(line, column, span.from_line, span.from_column);
-            let past = is_earlier(span.to_line, span.to_column, line, column);
-            !before && !past
-        }
-        None => false,
-    }
+    let before = is_earlier(line, column, span.from_line, span.from_column);
+    let past = is_earlier(span.to_line, span.to_column, line, column);
+    !before && !past
 }
 
 /// Whether a point, by its line and column, comes before another.

@@ -65,8 +65,5 @@ fn answer_of(alloc: Global, graph: &FileGraph, found: Found) -> Result<Answer, A
 fn span_at(graph: &FileGraph, n: u32) -> Option<Span>
     ensures { result ≡ span_at graph.now n }
 {
-    match graph.nodes().get(n as usize) {
-        Some(node) => node.span,
-        None => None,
-    }
+    graph.span(n)
 }

@@ -1,11 +1,10 @@
 use Rattle.std.proofs.Common.{◌≡◌, drop}
-use Rattle.std.specs.List.{position_from}
-use Rattle.nav_answers.specs.Kinds.{is_of}
-use Rattle.nav_answers.specs.Points.{is_there}
+use Rattle.nav_answers.specs.Kinds.{is_of, is_meant}
+use Rattle.nav_answers.proofs.Spanned.{first_node}
 use Rattle.nav_answers.proofs.meaning.node_around.Given as goal
 
 -- none of those passed is the one
-abbrev pub invariant-loop-n : goal.invariant-loop-n
-invariant-loop-n l =
-    position_from (is_there (is_of l.asked) l.line l.column) 0 l.file.graph.nodes
-    ≡ position_from (is_there (is_of l.asked) l.line l.column) l.n (drop l.n l.file.graph.nodes)
+abbrev pub invariant-loop-found : goal.invariant-loop-found
+invariant-loop-found l =
+    first_node (is_meant (is_of l.asked) l.file.graph.nodes l.line l.column) l.spans
+    ≡ first_node (is_meant (is_of l.asked) l.file.graph.nodes l.line l.column) (drop l.found-index l.spans)
