@@ -19,7 +19,7 @@ use std::alloc::{AllocError, Global};
 /// where there was no memory for it.
 #[derive(Debug, Drop)]
 pub struct StartTable {
-    pub before: Vec<u32>,
+    pub before: Vec<u16>,
     pub nodes: u32,
     pub heads: Vec<u64>,
 }
@@ -62,7 +62,7 @@ impl StartTable {
 }
 
 /// Where the table tells that the paths of the start stand; None where it doesn't tell.
-fn told(before: &[u32], nodes: u32, start: Start) -> Option<(usize, usize)>
+fn told(before: &[u16], nodes: u32, start: Start) -> Option<(usize, usize)>
     ensures { IfSome result (λ run. IsTold before.now nodes start run.0 run.1) }
 {
     if !has_place(start, nodes) {
@@ -78,7 +78,7 @@ fn told(before: &[u32], nodes: u32, start: Start) -> Option<(usize, usize)>
 }
 
 /// How many of the paths stand before those of each start, by the start's place; nothing where memory is refused.
-fn counts_or_none(alloc: Global, paths: &StoredPaths<'_>, nodes: u32) -> Vec<u32>
+fn counts_or_none(alloc: Global, paths: &StoredPaths<'_>, nodes: u32) -> Vec<u16>
     ensures { IsTable result.items nodes paths.now }
 {
     match counts_of(alloc, paths, nodes) {
@@ -87,13 +87,13 @@ fn counts_or_none(alloc: Global, paths: &StoredPaths<'_>, nodes: u32) -> Vec<u32
     }
 }
 
-/// The same. It has nothing where the paths are too many for numbers of 32 bits, or aren't those of a file with so
+/// The same. It has nothing where the paths are too many for numbers of 16 bits, or aren't those of a file with so
 /// many nodes in their order. The one error is want of memory.
-fn counts_of(alloc: Global, paths: &StoredPaths<'_>, nodes: u32) -> Result<Vec<u32>, AllocError>
+fn counts_of(alloc: Global, paths: &StoredPaths<'_>, nodes: u32) -> Result<Vec<u16>, AllocError>
     ensures { IfOk result (λ before. IsTable before.items nodes paths.now) }
 {
     let size = paths.len();
-    let most = u32::MAX as usize;
+    let most = u16::MAX as usize;
     if size > most {
         return Ok(Vec::new(alloc));
     }
@@ -109,8 +109,8 @@ fn counts_begun(
     alloc: Global,
     paths: &StoredPaths<'_>,
     nodes: u32,
-) -> Result<Option<Vec<u32>>, AllocError>
-    requires { length paths.now < 2 ^ 32 }
+) -> Result<Option<Vec<u16>>, AllocError>
+    requires { length paths.now < 2 ^ 16 }
     ensures { IfOk result (λ begun. IfSome begun (λ before.
         AreTold before.items nodes (length paths.now) paths.now)) }
 {
@@ -126,7 +126,7 @@ fn counts_begun(
         if next < count {
             return Ok(None);
         }
-        before.resize(next, i as u32)?;
+        before.resize(next, i as u16)?;
     }
     Ok(Some(before))
 }
@@ -136,9 +136,9 @@ fn counts_filled(
     alloc: Global,
     paths: &StoredPaths<'_>,
     nodes: u32,
-    before: Vec<u32>,
-) -> Result<Vec<u32>, AllocError>
-    requires few { length paths.now < 2 ^ 32 }
+    before: Vec<u16>,
+) -> Result<Vec<u16>, AllocError>
+    requires few { length paths.now < 2 ^ 16 }
     requires told { AreTold before.items nodes (length paths.now) paths.now }
     ensures { IfOk result (λ filled. IsTable filled.items nodes paths.now) }
 {
@@ -149,7 +149,7 @@ fn counts_filled(
     }
     let size = paths.len();
     let mut filled = before;
-    filled.resize(places, size as u32)?;
+    filled.resize(places, size as u16)?;
     Ok(filled)
 }
 
