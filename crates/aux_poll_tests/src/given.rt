@@ -5,9 +5,9 @@ use futures::task::Poll;
 use futures::test::MockTask;
 use graph_nodes::Steps;
 use nav_io::{MemSink, MemSource, Unguarded};
-use nav_poll::{MemLink, Polled};
+use nav_poll::{MemLink, NotStarted, Polled};
 use nav_session::{Desk, serve_session};
-use std::alloc::{AllocGlobal, Global};
+use std::alloc::{AllocError, AllocGlobal, Global};
 use std::marker::Brand;
 use std::random::RandomSource;
 use std::sync::ledger::{Blank, Ledger};
@@ -28,7 +28,11 @@ fn started(alloc: Global, link: MemLink) -> Result<Polled<PlainBoard, MemLink>, 
     let board = PlainBoard::new(alloc)?;
     match Polled::start(alloc, Desk::new(alloc), board, link) {
         Ok(polled) => Ok(polled),
-        Err(_) => Err(Fail::new("memory was refused")),
+        Err(parts) => {
+            let NotStarted { desk, board, .. } = parts;
+            let_go(desk, board);
+            Err(Fail::new("memory was refused"))
+        }
     }
 }
 
@@ -64,13 +68,24 @@ pub fn polled<R: Threads + Sync + RandomSource + AllocGlobal>(
     most: u32,
 ) -> Result<Given, Fail> {
     let mut session = started(alloc, link)?;
-    let (status, pending) = polls_on::<R, Brand>(rt, &mut session, most, Blank::new(1))?;
-    let (_desk, _board, link) = session.close();
+    let ended = polls_on::<R, Brand>(rt, &mut session, most, Blank::new(1));
+    let (desk, board, link) = session.close();
+    let_go(desk, board);
+    let (status, pending) = ended?;
     Ok(Given {
         status,
-        written: link.held().to_vec(alloc)?,
+        written: taken(alloc, link)?,
         pending,
     })
+}
+
+/// Drops what a session stood on. It is a function of its own since the drop of each of its parts is proved anew wherever it
+/// is dropped.
+fn let_go(_desk: Desk, _board: PlainBoard) {}
+
+/// What the link took; the link goes.
+fn taken(alloc: Global, link: MemLink) -> Result<Vec<u8>, AllocError> {
+    link.held().to_vec(alloc)
 }
 
 /// Serves the session at once, and tells its status.
@@ -88,9 +103,11 @@ fn serves_on<R: Threads + Sync, L: Ledger>(
     let mut board = PlainBoard::new(alloc)?;
     let mut desk = Desk::new(alloc);
     let mut steps = Steps::<L>::new(blank);
-    Ok(serve_session(
+    let status = serve_session(
         rt, alloc, &mut desk, &mut board, &Unguarded, source, sink, &mut steps,
-    ))
+    );
+    let_go(desk, board);
+    Ok(status)
 }
 
 /// Serves the session at once on a ledger that nobody reads, and tells what its sink took.
@@ -104,7 +121,12 @@ pub fn served<R: Threads + Sync>(
     let status = serves_on::<R, Brand>(rt, alloc, &mut source, &mut sink, Blank::new(1))?;
     Ok(Given {
         status,
-        written: sink.held().to_vec(alloc)?,
+        written: sunk(alloc, source, sink)?,
         pending: 0,
     })
+}
+
+/// What the sink took; the sink and the source go.
+fn sunk(alloc: Global, _source: MemSource, sink: MemSink) -> Result<Vec<u8>, AllocError> {
+    sink.held().to_vec(alloc)
 }

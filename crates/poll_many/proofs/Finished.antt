@@ -1,8 +1,8 @@
 -- How the sessions end: all connections were served, no seat is left, or the port failed.
-use Rattle.std.proofs.Common.{◌≡◌, ◌≢◌, ◌⊎◌, inl, inr, ℕ, ◌<◌, ◌≤◌, Bool, true, false, IsTrue, List, [], ◌∷◌, length, slice_get, Some, if◌then◌else◌, refl, ap, sym, subst, ◌∙◌, arith}
+use Rattle.std.proofs.Common.{◌≡◌, ◌⊎◌, inl, inr, ℕ, ◌<◌, Bool, true, false, List, length, if◌then◌else◌, refl, sym, subst, arith}
 use Rattle.std.specs.List.{list_any}
 use Rattle.nav_io.specs.Faults.{HasRisen}
-use Rattle.poll_many.specs.Connections.{Outside, ends_port}
+use Rattle.poll_many.specs.Connections.{Outside}
 use Rattle.poll_many.specs.Places.{IsStanding, is_lost, is_free, is_busy}
 use Rattle.poll_many.specs.Rounds.{IsUnderWay, AreOver, AreFinished, NoneBusy, NoneFree, NoneLost}
 use Rattle.poll_many.specs.declared.call.Call.{Call}

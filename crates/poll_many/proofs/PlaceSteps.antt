@@ -1,5 +1,5 @@
 -- What a step makes of the session at a place.
-use Rattle.std.proofs.Common.{◌≡◌, ◌≢◌, ◌⊎◌, inl, inr, ℕ, ◌+◌, ◌<◌, ◌≤◌, ◌==◌, ◌||◌, Bool, true, false, IsTrue, if◌then◌else◌, List, [], ◌∷◌, Option, None, Some, IfSome, refl, ap, sym, subst, ◌∙◌, arith}
+use Rattle.std.proofs.Common.{◌≡◌, ◌≢◌, inl, inr, ℕ, ◌≤◌, ◌==◌, ◌||◌, Bool, true, false, IsTrue, if◌then◌else◌, [], ◌∷◌, Option, None, Some, IfSome, refl, ap, sym, subst, ◌∙◌, arith}
 use Rattle.nav_io.specs.Faults.{HasRisen}
 use Rattle.nav_io.specs.Told.{append_told, HasOut}
 use Rattle.nav_session.specs.Desks.{OnDesk}
@@ -8,13 +8,13 @@ use Rattle.nav_session.proofs.CallerLemmas.{served_nothing}
 use Rattle.nav_poll.specs.Links.{NoneFell}
 use Rattle.nav_poll.specs.Polling.{Polling, KeepsStarts, seen}
 use Rattle.poll_many.specs.Connections.{Outside, Connection, HasNoFault, IsServed}
-use Rattle.poll_many.specs.Places.{IsOpen, IsStanding, IsOver, Ends, BeginsWith, TakesLink, TakesTurn, Closes, seat_at, log_at, open_at, is_lost}
+use Rattle.poll_many.specs.Places.{IsOpen, IsStanding, Ends, BeginsWith, TakesLink, TakesTurn, Closes, seat_at, log_at, open_at, is_lost}
 use Rattle.poll_many.specs.declared.place.Asked.TheVariants.{Given}
 use Rattle.poll_many.specs.declared.place.Turn.TheVariants.{Ended}
 use Rattle.nav_poll.specs.declared.link.Counts.{Counts}
 use Rattle.poll_many.specs.declared.place.Open.{Open}
 use Rattle.poll_many.specs.declared.place.Place.{Place}
-use Rattle.poll_many.specs.declared.place.Place.TheVariants.{Free, Busy, Lost, Away}
+use Rattle.poll_many.specs.declared.place.Place.TheVariants.{Free, Busy, Lost}
 
 pub risen_before : (a b c : ℕ) → a ≤ b → HasRisen b c → HasRisen a c
 risen_before a b c le risen = omega (arith, le, risen)

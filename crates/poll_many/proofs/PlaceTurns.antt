@@ -1,15 +1,14 @@
 -- What is known of all places while a step is made at one of them.
-use Rattle.std.proofs.Common.{◌≡◌, ◌≢◌, ◌⊎◌, inl, inr, ℕ, ◌+◌, ◌-◌, ◌<◌, ◌≤◌, ◌==◌, Bool, true, false, List, [], ◌∷◌, ◌++◌, length, map, slice_get, set, Option, None, Some, is_none, refl, ap, sym, subst, ◌∙◌, arith, append-nil, length-append}
-use Rattle.std.specs.List.{AllByRecursion, filter, flat_map}
+use Rattle.std.proofs.Common.{◌≡◌, ◌≢◌, ◌⊎◌, inl, inr, ℕ, ◌+◌, ◌-◌, ◌<◌, ◌≤◌, ◌==◌, Bool, true, false, List, [], ◌∷◌, ◌++◌, length, slice_get, set, Option, None, Some, is_none, refl, ap, sym, subst, ◌∙◌, arith, append-nil, length-append}
+use Rattle.std.specs.List.{flat_map}
 use Rattle.std.specs.List.Sorted.{IsPermutation}
 use Rattle.std.proofs.lemmas.Option.{same_Some, slice_get_within}
 use Rattle.std.proofs.lemmas.List.{length-set}
 use Rattle.std.proofs.lemmas.List.Elements.{filter-append}
 use Rattle.std.proofs.lemmas.List.Sorted.{length_permutation}
-use Rattle.std.proofs.Math.ListN.{length-map}
 use Rattle.version_tree.specs.declared.entry.Entry.{Entry}
 use Rattle.nav_io.specs.Told.{append_told, HasOut}
-use Rattle.poll_many.specs.Connections.{Outside, Connection, IsServed, FollowEachOther, HaveMemory, of_seat, links_given, links_back, broken_off}
+use Rattle.poll_many.specs.Connections.{Outside, Connection, IsServed, FollowEachOther, of_seat, links_given, links_back, broken_off}
 use Rattle.poll_many.specs.Places.{KeepsSeat, Stays, Begins, IsOver, Ends, Starves, TakesLink, TakesTurn, Closes, IsStanding, seat_at, log_at, open_at, open_links, is_lost, is_busy}
 use Rattle.poll_many.specs.Rounds.{IsUnderWay, NoneLost, RestBefore, still_wanted}
 use Rattle.poll_many.specs.declared.call.Call.{Call}
@@ -19,7 +18,7 @@ use Rattle.poll_many.specs.declared.place.Place.{Place}
 use Rattle.poll_many.specs.declared.place.Place.TheVariants.{Free, Busy, Lost, Away}
 use Rattle.poll_many.specs.declared.place.Turn.{Turn}
 use Rattle.poll_many.specs.declared.place.Turn.TheVariants.{Waits, Ended}
-use Rattle.poll_many.proofs.PlaceLists.{IsCut, cut_at, got, put_here, put_there, same_or, links_at, links_put, permuted_in, permuted_over, has_out, had_room, told_one, told_one_more, all_last, map_last}
+use Rattle.poll_many.proofs.PlaceLists.{cut_at, got, put_here, put_there, same_or, links_at, links_put, permuted_in, permuted_over, has_out, had_room, told_one, told_one_more, all_last, map_last}
 
 module _ {P B K : Type 0} (o : Outside P B K) (places : List (Place B K)) (n : ℕ) (p p' : Place B K) (is : slice_get places n ≡ Some p) (keeps : KeepsSeat o p p') where
   -- each place stands

@@ -1,20 +1,19 @@
 -- The seats of a board before and after the rounds, and what the rounds came to.
-use Rattle.std.proofs.Common.{◌≡◌, ◌≢◌, ◌⊎◌, inl, inr, ℕ, zero, suc, ◌+◌, ◌<◌, ◌≤◌, ◌==◌, Bool, true, false, IsTrue, List, [], ◌∷◌, ◌++◌, length, take, drop, slice_get, Option, None, Some, refl, ap, sym, subst, ◌∙◌, arith, append-nil}
-use Rattle.std.specs.List.{AllByRecursion}
+use Rattle.std.proofs.Common.{◌≡◌, inl, ℕ, zero, suc, ◌<◌, ◌≤◌, ◌==◌, true, false, List, [], ◌∷◌, ◌++◌, length, take, drop, get_or, slice_get, Some, refl, ap, sym, subst, ◌∙◌, arith, append_assoc, append-nil}
+use Rattle.std.proofs.lemmas.List.Concat.{flat_map-append}
+use Rattle.nav_session.specs.Desks.{OnDesk}
 use Rattle.std.specs.List.Sorted.{IsPermutation}
 use Rattle.std.proofs.lemmas.Bool.{eqb-true}
 use Rattle.std.proofs.lemmas.Option.{same_Some, slice_get_within}
 use Rattle.std.proofs.lemmas.List.{drop_all, take_all}
 use Rattle.std.proofs.lemmas.List.Sorted.{IsPermutation-refl}
-use Rattle.version_tree.specs.declared.entry.Entry.{Entry}
-use Rattle.nav_io.specs.Told.{append_told}
-use Rattle.poll_many.specs.Connections.{Outside, Connection, FollowEachOther, of_seat, links_given, broken_off}
+use Rattle.poll_many.specs.Connections.{Outside}
 use Rattle.poll_many.specs.Places.{IsStanding, AllFree, seat_at, log_at, open_at, open_links, board_at, boards_of, is_free, is_busy}
-use Rattle.poll_many.specs.Rounds.{IsUnderWay, NoneBusy}
+use Rattle.poll_many.specs.Rounds.{IsUnderWay}
 use Rattle.poll_many.specs.declared.call.Call.{Call}
 use Rattle.poll_many.specs.declared.place.Place.{Place}
 use Rattle.poll_many.specs.declared.place.Place.TheVariants.{Free, Busy, Lost, Away}
-use Rattle.poll_many.proofs.PlaceLists.{told_nothing}
+use Rattle.poll_many.proofs.PlaceLists.{told_nothing, all_last}
 
 -- a seat rests at the place
 pub record RestsAt {P B K : Type 0} (o : Outside P B K) (p : Place B K) : Type 0 where
@@ -142,3 +141,17 @@ nothing_left (x ∷ rest) n long e = absurd (let zero_is = eqb-true n 0 e in ome
 pub all_put : {B K : Type 0} (boards whole : List B) (rest : List (Place B K)) → rest ≡ [] → boards ++ boards_of rest ≡ whole → boards ≡ whole
 all_put {B} {K} boards whole rest none e =
     sym (append-nil boards) ∙ subst (λ (places : List (Place B K)). boards ++ boards_of places ≡ whole) none e
+
+front_is : {X : Type 0} (xs rest : List X) (x : X) → 0 < length xs → x ≡ get_or xs 0 x → rest ≡ drop 1 xs → xs ≡ x ∷ rest
+front_is [] rest x some first behind = absurd (omega (arith, some))
+front_is (y ∷ xs) rest x some first behind = ap (λ z. z ∷ xs) (sym first) ∙ ap (λ zs. x ∷ zs) (sym behind)
+
+-- a seat more has a place
+pub seated_more : {B K : Type 0} (places : List (Place B K)) (desk : OnDesk) (board : B) (seats rest whole : List B) → 0 < length seats → board ≡ get_or seats 0 board → rest ≡ drop 1 seats
+    → boards_of places ++ seats ≡ whole → boards_of (places ++ Free desk board ∷ []) ++ rest ≡ whole
+seated_more {B} {K} places desk board seats rest whole some first behind e =
+    ap (λ (bs : List B). bs ++ rest) (flat_map-append board_at places (Free desk board ∷ []))
+    ∙ (append_assoc (boards_of places) (board ∷ []) rest ∙ (ap (λ (bs : List B). boards_of places ++ bs) (sym (front_is seats rest board some first behind)) ∙ e))
+
+pub free_more : {B K : Type 0} (places : List (Place B K)) (desk : OnDesk) (board : B) → AllFree places → AllFree (places ++ Free desk board ∷ [])
+free_more {B} {K} places desk board free = all_last (λ (p : Place B K). is_free p ≡ true) places (Free desk board) free refl

@@ -1,20 +1,19 @@
 -- What serving a port came to for all seats of a board.
-use Rattle.std.proofs.Common.{◌≡◌, ◌≢◌, ◌⊎◌, inl, inr, ℕ, ◌+◌, ◌<◌, ◌≤◌, ◌==◌, ◌||◌, Bool, true, false, IsTrue, IfSome, List, [], ◌∷◌, ◌++◌, length, slice_get, Option, None, Some, refl, ap, sym, subst, ◌∙◌, arith, append-nil}
+use Rattle.std.proofs.Common.{◌≡◌, ◌≢◌, ◌⊎◌, inl, inr, ℕ, ◌==◌, ◌||◌, Bool, true, false, IsTrue, IfSome, List, [], ◌∷◌, ◌++◌, length, slice_get, Option, None, Some, refl, ap, sym, subst, ◌∙◌, arith, append-nil}
 use Rattle.std.specs.List.{AllByRecursion}
 use Rattle.std.specs.List.Sorted.{IsPermutation}
 use Rattle.std.specs.Io.KnownBytes.{append_known}
 use Rattle.std.proofs.lemmas.Option.{same_Some, slice_get_within}
 use Rattle.std.proofs.lemmas.List.Sorted.{IsPermutation-refl}
 use Rattle.version_tree.specs.declared.entry.Entry.{Entry}
-use Rattle.nav_io.specs.Faults.{HasRisen}
 use Rattle.shared_board.specs.Seats.{Holder, AreSeats, IsLogOfAll}
 use Rattle.nav_poll.specs.declared.link.Counts.{Counts}
 use Rattle.nav_session.specs.Serving.{Serves, ends_unhindered, answers_all}
 use Rattle.nav_poll.specs.Polling.{status_so_far}
 use Rattle.poll_many.specs.Connections.{Outside, Connection, HasNoFault, IsServed, IsAnswered, HaveMemory, FollowEachOther, of_seat, links_given, broken_off, ends_port, outside}
-use Rattle.poll_many.specs.Places.{board_at, boards_of, open_links, seat_at, log_at}
+use Rattle.poll_many.specs.Places.{boards_of, log_at}
 use Rattle.poll_many.specs.Ports.{ServesPort}
-use Rattle.poll_many.specs.Rounds.{IsUnderWay, AreFinished, AreServed, IsRefused, ServesAll}
+use Rattle.poll_many.specs.Rounds.{AreFinished, AreServed, IsRefused, ServesAll}
 use Rattle.poll_many.specs.declared.call.Call.{Call}
 use Rattle.poll_many.specs.declared.place.Place.{Place}
 use Rattle.poll_many.proofs.PlaceLists.{told_nothing}

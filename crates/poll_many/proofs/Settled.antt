@@ -5,7 +5,7 @@ use Rattle.std.proofs.lemmas.Option.{same_Some, slice_get_within}
 use Rattle.nav_io.specs.Faults.{counted}
 use Rattle.nav_poll.specs.declared.link.Counts.{Counts}
 use Rattle.poll_many.specs.Connections.{Outside, links_back}
-use Rattle.poll_many.specs.Settling.{HasWaited, Round, CameToNothing, SettledBehind, SettlesBehindRounds}
+use Rattle.poll_many.specs.Settling.{HasWaited, CameToNothing, SettledBehind, SettlesBehindRounds}
 use Rattle.poll_many.specs.Places.{Stays, TakesLink, TakesTurn, open_at, open_links, is_busy}
 use Rattle.poll_many.specs.Waiting.{GaveNone, WaitedAt, WaitsAt, HaveWaited, OneMoreWaits, AllHaveWaited, SettlesOn}
 use Rattle.poll_many.specs.Rounds.{IsUnderWay}

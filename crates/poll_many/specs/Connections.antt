@@ -1,5 +1,5 @@
 -- What a port did in a call: the links that it gave out, each of which was served for a seat and came back.
-use Rattle.std.specs.Prelude.{◌≡◌, ◌≢◌, ℕ, ◌<◌, ◌≤◌, Bool, true, false, ◌||◌, ◌==◌, IsTrue, List, [], ◌∷◌, length, map, slice_get, Option, None, Some, IfSome, is_none}
+use Rattle.std.specs.Prelude.{◌≡◌, ◌≢◌, ℕ, Bool, ◌||◌, ◌==◌, IsTrue, List, [], ◌∷◌, length, map, Option, Some, IfSome, is_none}
 use Rattle.std.specs.List.{AllByRecursion, filter}
 use Rattle.version_tree.specs.declared.entry.Entry.{Entry}
 use Rattle.std.specs.Io.KnownBytes.{append_known}

@@ -1,5 +1,5 @@
 -- What is seen of the ports and yards in memory.
-use Rattle.std.specs.Prelude.{ℕ, ◌+◌, Bool, true, false, ◌||◌, ◌&&◌, not, List, [], ◌∷◌, Option, None, Some, if◌then◌else◌}
+use Rattle.std.specs.Prelude.{ℕ, Bool, ◌&&◌, not, List, [], ◌∷◌, Option, None, Some}
 use Rattle.nav_io.specs.Faults.{counted}
 use Rattle.nav_io.specs.Lending.{Lending, lend}
 use Rattle.nav_io.specs.Mem.{fails_now}

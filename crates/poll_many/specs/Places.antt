@@ -1,12 +1,11 @@
 -- What is known of places for sessions, and what a step makes of one; no public clause cites this.
-use Rattle.std.specs.Prelude.{◌≡◌, ◌≢◌, ◌⊎◌, ℕ, ◌+◌, ◌<◌, ◌≤◌, Bool, true, false, List, [], ◌∷◌, ◌++◌, length, slice_get, Option, None, Some}
-use Rattle.std.specs.List.{AllByRecursion, list_any, flat_map}
-use Rattle.std.specs.List.Sorted.{IsPermutation}
+use Rattle.std.specs.Prelude.{◌≡◌, ◌≢◌, ◌⊎◌, ℕ, Bool, true, false, List, [], ◌∷◌, None, Some}
+use Rattle.std.specs.List.{AllByRecursion, flat_map}
 use Rattle.version_tree.specs.declared.entry.Entry.{Entry}
 use Rattle.nav_io.specs.Told.{append_told, HasOut}
 use Rattle.nav_poll.specs.Links.{NoneFell}
 use Rattle.nav_poll.specs.Polling.{StandsFor, seen, start_at}
-use Rattle.poll_many.specs.Connections.{Outside, Connection, IsServed, FollowEachOther, HaveMemory, of_seat, links_given, links_back, broken_off}
+use Rattle.poll_many.specs.Connections.{Outside, Connection, IsServed}
 use Rattle.poll_many.specs.declared.place.Asked.{Asked}
 use Rattle.poll_many.specs.declared.place.Asked.TheVariants.{Unasked, Given, NotYet, Failed}
 use Rattle.poll_many.specs.declared.place.Open.{Open}

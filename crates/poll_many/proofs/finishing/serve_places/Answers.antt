@@ -1,5 +1,5 @@
 -- The rounds came to their end, or the port failed.
-use Rattle.std.proofs.Common.{◌∙◌, refl, ap, sym, subst, ℕ, if◌then◌else◌}
+use Rattle.std.proofs.Common.{◌∙◌, refl, ap, if◌then◌else◌}
 use Rattle.std.specs.List.{list_any}
 use Rattle.poll_many.specs.Connections.{outside}
 use Rattle.poll_many.specs.Places.{is_lost}

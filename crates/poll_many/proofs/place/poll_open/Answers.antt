@@ -1,5 +1,5 @@
 -- The session ended, and its link came back.
-use Rattle.std.proofs.Common.{◌≡◌, ◌∙◌, ap}
+use Rattle.std.proofs.Common.{◌∙◌, ap}
 use Rattle.futures.specs.declared.task.Poll.TheVariants.{Ready}
 use Rattle.poll_many.specs.Connections.{outside}
 use Rattle.poll_many.proofs.PlaceSteps.{ended_now}

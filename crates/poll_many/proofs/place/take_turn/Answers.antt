@@ -1,5 +1,5 @@
 -- The session was at the place.
-use Rattle.std.proofs.Common.{◌≡◌, ◌∙◌, sym, subst}
+use Rattle.std.proofs.Common.{◌∙◌, sym, subst}
 use Rattle.poll_many.specs.Connections.{outside}
 use Rattle.poll_many.specs.Places.{TakesTurn}
 use Rattle.poll_many.proofs.place.take_turn.Goals as goal

@@ -1,5 +1,5 @@
 -- What no place has, none has.
-use Rattle.std.proofs.Common.{◌≡◌, inl, inr, ◌∙◌, sym, true, false, not, Bool}
+use Rattle.std.proofs.Common.{inl, inr, ◌∙◌, sym}
 use Rattle.std.proofs.lemmas.Bool.{eqb-true}
 use Rattle.poll_many.specs.Places.{is_busy, is_free}
 use Rattle.poll_many.proofs.PlaceLists.{none_passes, not_true}

@@ -1,5 +1,5 @@
 -- Settling changes neither list, and what rounds keep is kept by one more.
-use Rattle.std.proofs.Common.{arith, ◌∙◌, sym, subst, ap, Ok, ◌≡◌}
+use Rattle.std.proofs.Common.{arith, ◌∙◌, ap, Ok}
 use Rattle.poll_many.specs.Connections.{outside}
 use Rattle.poll_many.proofs.PlaceTurns.{settled}
 use Rattle.poll_many.proofs.Settled.{settled_on, unsettled_on}

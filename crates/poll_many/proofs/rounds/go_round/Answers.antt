@@ -1,5 +1,5 @@
 -- Nothing was given out, and all had to wait.
-use Rattle.std.proofs.Common.{◌≡◌, true, Ok, ap, sym, ◌∙◌}
+use Rattle.std.proofs.Common.{true, Ok, ap, sym, ◌∙◌}
 use Rattle.poll_many.specs.Connections.{outside}
 use Rattle.poll_many.proofs.Settled.{neither, ok_same, quiet_round}
 use Rattle.poll_many.proofs.rounds.go_round.Goals as goal

@@ -1,5 +1,6 @@
 -- The other places stay as they are.
-use Rattle.std.proofs.Common.{rules, slice_index_or}
+use Rattle.std.proofs.Common.{slice_index_or}
+use Rattle.std.proofs.lemmas.List.{length-set}
 use Rattle.std.proofs.lemmas.Option.{slice_get-get_or}
 use Rattle.poll_many.specs.Connections.{outside}
 use Rattle.poll_many.proofs.PlaceTurns.{took}
@@ -19,7 +20,7 @@ returns-clause-goes g c = record {
       (slice_index_or c.args.places.now c.args.n c.index-places-n.result) c.take_link-asked.new.place c.take_link-asked.result
       (slice_get-get_or c.args.places.now c.args.n c.index-places-n.result c.requires.inside) c.take_link-asked.ensures.count c.requires.some
       c.take_link-asked.ensures.takes c.requires.under_way);
-  len = search rules;
+  len = length-set c.args.places.now c.args.n c.take_link-asked.new.place;
   count = c.take_link-asked.ensures.count;
 }
 

@@ -1,5 +1,5 @@
 -- The count rose in the last call, and fell in none before. Where no link was given out, none was in any call.
-use Rattle.std.proofs.Common.{◌≡◌, false, sym, ◌∙◌, arith}
+use Rattle.std.proofs.Common.{false, sym, ◌∙◌, arith}
 use Rattle.poll_many.specs.Connections.{outside}
 use Rattle.poll_many.proofs.PlaceSteps.{risen_before}
 use Rattle.poll_many.proofs.Settled.{none_more, ok_same}

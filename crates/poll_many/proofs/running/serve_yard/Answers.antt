@@ -1,5 +1,5 @@
 -- The yard gave out a port, whose links were served, or none.
-use Rattle.std.proofs.Common.{ℕ, List, [], ◌∷◌, Err, inl, inr, refl, ap, sym, subst, ◌∙◌, arith}
+use Rattle.std.proofs.Common.{ℕ, [], ◌∷◌, Err, inl, inr, refl, ap, subst, ◌∙◌, arith}
 use Rattle.nav_io.specs.Told.{append_told}
 use Rattle.shared_board.specs.Seats.{Holder, AreNewcomers}
 use Rattle.poll_many.specs.Connections.{outside}

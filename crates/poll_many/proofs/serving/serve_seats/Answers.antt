@@ -1,5 +1,5 @@
 -- The seats are all seats still, and one log is that of them all.
-use Rattle.std.proofs.Common.{◌≡◌, ◌≢◌, List, refl, sym, subst}
+use Rattle.std.proofs.Common.{List, refl, sym, subst}
 use Rattle.shared_board.specs.Seats.{Holder, AreSeats, IsLogOfAll, last_log}
 use Rattle.poll_many.proofs.Seated.{still_all, all_served}
 use Rattle.poll_many.proofs.serving.serve_seats.Goals as goal
