@@ -100,23 +100,19 @@ fn as_commit(made: Result<Version, EditFault>) -> Result<Version, CommitFault>
     }
 }
 
-impl PlainBoard {
-    /// The version that the edits make of the head.
-    fn amended(&self, alloc: Global, edits: &[Edit]) -> Result<Version, CommitFault>
-        ensures fit { IfOk result (λ _. refusal self.now edits.now ≡ None) }
-        ensures version { IfOk result (λ version. version
-            ≡ record {
-              number = length self.now + 1;
-              content = edited_all edits.now
-                  (version_of self.now).content;
-            }) }
-        ensures refused { (e : Faults) → result ≡ Err (why.Edit e)
-            → (refusal self.now edits.now ≡ Some e) × (e ≢ faults.NoMemory) }
-        ensures stale { (n : ℕ) → result ≢ Err (why.Stale n) }
-    {
-        as_commit(self.pinned.version.amend(alloc, edits))
-    }
+/// The version that the edits make of the head.
+fn amended(alloc: Global, head: &Version, edits: &[Edit]) -> Result<Version, CommitFault>
+    ensures fit { IfOk result (λ _. edit_fault head.now.number head.now.content edits.now ≡ None) }
+    ensures version { IfOk result (λ version. version
+        ≡ record { number = head.now.number + 1; content = edited_all edits.now head.now.content }) }
+    ensures refused { (e : Faults) → result ≡ Err (why.Edit e)
+        → (edit_fault head.now.number head.now.content edits.now ≡ Some e) × (e ≢ faults.NoMemory) }
+    ensures stale { (n : ℕ) → result ≢ Err (why.Stale n) }
+{
+    as_commit(head.amend(alloc, edits))
+}
 
+impl PlainBoard {
     /// Makes what the commit pins. Want of memory is told only where the base fits, as it is looked at first.
     fn prepared(
         &self,
@@ -141,7 +137,7 @@ impl PlainBoard {
     {
         rows_have_one_index();
         fitting(base, self.pinned.version.number())?;
-        let next = self.amended(alloc, edits)?;
+        let next = amended(alloc, &self.pinned.version, edits)?;
         let index = self.index_after(alloc, &next, edits)?;
         let version = Arc::new(alloc, next)?;
         let index = Arc::new(alloc, index)?;
