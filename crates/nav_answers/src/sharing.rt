@@ -18,8 +18,8 @@ use stitcher::StitchFault;
 /// The most threads that ask.
 const MOST_THREADS: usize = 8;
 
-/// The most references that follow one another and are one thread's: about those of a module. Threads that asked
-/// references of one file at once would count the holders of the same symbols, and wait for each other's counts.
+/// The most references that follow one another and are one thread's: about those of a module, whose paths then stay in one
+/// processor's cache.
 const MOST_IN_RUN: usize = 128;
 
 /// What one thread finds of its references, or why it stopped.
