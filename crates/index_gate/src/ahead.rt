@@ -254,11 +254,15 @@ fn ask_for(alloc: Global, documents: usize) {
 }
 
 /// On how many threads so many documents are worked on: one for each processor, at most eight and no more than there are
-/// documents, but one at least; one too where the processors can't be counted.
+/// documents, but one at least; one too where the processors can't be counted. They aren't counted for one document, since
+/// that takes some calls of the system.
 fn threads_for<R: Threads>(rt: &R, documents: usize) -> usize
     ensures some { 0 < result }
     ensures few { result ≤ 8 }
 {
+    if documents < 2 {
+        return 1;
+    }
     match thread::available_parallelism(rt) {
         Ok(count) => count.get().min(MOST_THREADS).min(documents).max(1),
         Err(_) => 1,
