@@ -73,5 +73,5 @@ stops_second mid new (Some input) left1 left2 next1 g LongLine first is h =
       (parts g, ap (graph_line once_path) (sym first.line) ∙ is),
       subst (λ (o : Option (List ℕ)). IfSome o (λ text. line_max < line_len text)) first.after.rest h,
     )
-stops_second mid new left left1 left2 next1 g NoMemory first is h = h
+stops_second mid new left left1 left2 next1 g NoMemory first is h = tt
 stops_second mid new left left1 left2 next1 g SinkFailed first is h = h

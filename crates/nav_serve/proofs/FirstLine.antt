@@ -46,7 +46,7 @@ stops_first new left left' SourceFailed h =
     (new.front, sym (h.kept ∙ prepend_known-nothing left), inl (h.fault refl).0)
 stops_first new None left' LongLine h = tt
 stops_first new (Some input) left' LongLine h = inl h
-stops_first new left left' NoMemory h = h
+stops_first new left left' NoMemory h = tt
 stops_first new left left' SinkFailed h = h
 
 not_both : {reply : Reply} (parts : List Node × List Edge) → (Err reply ≡ Ok parts) → ⊥

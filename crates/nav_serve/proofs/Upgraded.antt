@@ -43,7 +43,7 @@ stopped : (mid : Reading) (left left' : Option (List ℕ)) (reason : Halt) → S
 stopped mid left left' SourceFailed h = (mid.front, sym (h.kept ∙ prepend_known-nothing left), (h.fault refl).0)
 stopped mid None left' LongLine h = tt
 stopped mid (Some input) left' LongLine h = h
-stopped mid left left' NoMemory h = h
+stopped mid left left' NoMemory h = tt
 stopped mid left left' SinkFailed h = h
 
 -- the line was refused with a reply, whose text was made

@@ -1,6 +1,6 @@
 -- What reading a line by which a command goes on does to the reader and the source, and what it gives.
-use Rattle.std.specs.Prelude.{◌≡◌, ℕ, ◌<◌, ◌≤◌, List, length, Option, IfSome, Result, Ok, Err, ⊤}
-use Rattle.nav_io.specs.declared.lines.LineError.TheVariants.{ReadFault}
+use Rattle.std.specs.Prelude.{◌≡◌, ◌⊎◌, ℕ, ◌<◌, ◌≤◌, List, length, Option, IfSome, Result, Ok, Err}
+use Rattle.nav_io.specs.declared.lines.LineError.TheVariants as line_error
 use Rattle.nav_io.specs.Lines.{line_max, line_at_front, line_len, HasNoNewline}
 use Rattle.nav_io.specs.Reading.{Reading, ahead, AfterLine, AfterError}
 use Rattle.nav_proto.specs.declared.reply.Reply.{Reply}
@@ -16,11 +16,14 @@ pub record ReadsLine (old new : Reading) (left left' next : Option (List ℕ)) :
   pub no_newline : IfSome next HasNoNewline
   pub after : AfterLine old new left left' next
 
--- the reader and the source stopped for this reason
+-- The reader and the source stopped for this reason. Memory was wanting for the next read, or for what is made of the
+-- line that was read.
 abbrev pub StopsAt : Reading → Reading → Option (List ℕ) → Option (List ℕ) → Halt → Type 0
-StopsAt old new left left' SourceFailed = AfterError old new left left' ReadFault
+StopsAt old new left left' SourceFailed = AfterError old new left left' line_error.ReadFault
 StopsAt old new left left' LongLine = IfSome (ahead old left) (λ text. line_max < line_len text)
-StopsAt old new left left' NoMemory = ⊤
+StopsAt old new left left' NoMemory =
+    AfterError old new left left' line_error.NoMemory
+    ⊎ ((next : Option (List ℕ)) × ReadsLine old new left left' next)
 StopsAt old new left left' SinkFailed = ⊥
 
 -- a line was read and gave what is defined of it, its value seen by the view, or the reader stopped
