@@ -9,7 +9,7 @@ mod held;
 mod search;
 
 use crate::Source;
-use crate::taking::{CHUNK, TakeError};
+use crate::taking::{CHUNK, TakeError, is_large, let_go};
 use held::{find_bytes, find_line, put_behind, take_bytes, take_line};
 use search::find_whole;
 use std::alloc::Global;
@@ -252,7 +252,13 @@ impl LineReader {
                 self.searched = 0;
                 Ok(take_line(&self.held, &mut self.start, len))
             }
-            None => Ok(None),
+            None => {
+                // More is waited for now, and whoever sent a very long line may send nothing for long.
+                if is_large(self.start) {
+                    let_go(&mut self.held, &mut self.start);
+                }
+                Ok(None)
+            }
         }
     }
 }

@@ -37,9 +37,31 @@ impl From<Failed> for TakeError {
     }
 }
 
+/// Behind so many bytes that were answered room is given back.
+const LARGE: usize = 1_048_576;
+
 /// Lets go of the bytes before `start`. Where they are more than those behind, as after a long line, it takes time that
-/// follows the number of those behind: std's `drain` turns all that is held round.
+/// follows the number of those behind: std's `drain` turns all that is held round. After a very long line its room is
+/// given back, and what its answer took with it.
 pub fn let_go(held: &mut Vec<u8>, start: &mut usize)
+    requires { start.old ≤ vec_len held.old }
+    ensures items { held.new.items ≡ drop start.old held.old.items }
+    ensures start { start.new ≡ 0 }
+{
+    let is_large = *start > LARGE;
+    cut_front(held, start);
+    if is_large {
+        give_back(held);
+    }
+}
+
+/// Whether what was answered of what is held is so long that its room is given back before more is waited for.
+pub(crate) fn is_large(start: usize) -> bool {
+    start > LARGE
+}
+
+/// Lets go of the bytes before `start`, and keeps their room.
+fn cut_front(held: &mut Vec<u8>, start: &mut usize)
     requires { start.old ≤ vec_len held.old }
     ensures items { held.new.items ≡ drop start.old held.old.items }
     ensures start { start.new ≡ 0 }
@@ -53,6 +75,27 @@ pub fn let_go(held: &mut Vec<u8>, start: &mut usize)
         held.drain(..*start);
     }
     *start = 0;
+}
+
+/// Gives back the room that no held byte needs; where memory is refused that stays. The bytes move to a block of at least
+/// `CHUNK` bytes, of which then only theirs are kept: the C library puts small blocks that were freed together, and gives
+/// them back, only where so large a block is freed behind them, and a line of small objects leaves millions.
+fn give_back(held: &mut Vec<u8>)
+    ensures { held.new.items ≡ held.old.items }
+{
+    if let Ok(rest) = moved(held) {
+        *held = rest;
+        held.shrink_to_fit();
+    }
+}
+
+/// The bytes in a block of their own, with room for `CHUNK` more. The one error is want of memory.
+fn moved(held: &Vec<u8>) -> Result<Vec<u8>, AllocError>
+    ensures { IfOk result (λ moved. moved.items ≡ held.now.items) }
+{
+    let mut moved = Vec::with_capacity(*held.allocator(), held.len().saturating_add(CHUNK))?;
+    moved.extend_from_slice(held.as_slice())?;
+    Ok(moved)
 }
 
 /// Takes one chunk of the source behind what is held, and answers its length, which is 0 at the end of input alone.
