@@ -12,12 +12,19 @@ use std::alloc::{AllocError, Global};
 /// What a search asks of a node, in one byte, so that it needn't look at the node itself.
 #[derive(Clone, Copy, Debug)]
 pub enum Mark {
+    /// None of the below.
     Plain,
+    /// A node at which walks turn, which is none of the below besides.
     Turning,
+    /// An exported scope. It is a cut, so whether it is a turning node isn't told.
     Exported,
+    /// A reference that is no turning node.
     Reference,
+    /// A reference that is a turning node.
     TurningReference,
+    /// A definition that is no turning node.
     Definition,
+    /// A definition that is a turning node.
     TurningDefinition,
 }
 
@@ -118,6 +125,7 @@ fn mark_of(kind: &NodeKind, turning: bool) -> Mark
     }
 }
 
+/// The mark of a scope.
 fn scope_mark(exported: bool, turning: bool) -> Mark
     ensures { Marks result (exported || turning) exported false false }
 {
@@ -128,6 +136,7 @@ fn scope_mark(exported: bool, turning: bool) -> Mark
     }
 }
 
+/// The mark of a node that pushes a symbol.
 fn reference_mark(reference: bool, turning: bool) -> Mark
     ensures { Marks result turning false reference false }
 {
@@ -140,6 +149,7 @@ fn reference_mark(reference: bool, turning: bool) -> Mark
     }
 }
 
+/// The mark of a node that pops a symbol.
 fn definition_mark(definition: bool, turning: bool) -> Mark
     ensures { Marks result turning false false definition }
 {
@@ -152,6 +162,7 @@ fn definition_mark(definition: bool, turning: bool) -> Mark
     }
 }
 
+/// The mark of a node that is none of these.
 fn plain_mark(turning: bool) -> Mark
     ensures { Marks result turning false false false }
 {

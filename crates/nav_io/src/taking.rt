@@ -48,9 +48,9 @@ pub fn let_go(held: &mut Vec<u8>, start: &mut usize)
     ensures items { held.new.items ≡ drop start.old held.old.items }
     ensures start { start.new ≡ 0 }
 {
-    let is_large = *start > LARGE;
+    let was_large = is_large(*start);
     cut_front(held, start);
-    if is_large {
+    if was_large {
         give_back(held);
     }
 }
