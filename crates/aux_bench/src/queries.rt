@@ -5,7 +5,7 @@ use graph_nodes::FileGraph;
 use partial_path::{Bounds, FileList, PathSource};
 use stacks_vars::NodeAt;
 use std::alloc::Global;
-use stitcher::{StitchFault, stitch};
+use stitcher::{Room, StitchFault, stitch};
 use whole_search::{SearchFault, is_reference, search};
 
 /// The widest bounds that a query may have.
@@ -61,7 +61,7 @@ fn stitched_once(alloc: Global, list: &FileList) -> Option<Asked> {
     if !list.is_reference(&NodeAt { file: 0, node: 0 }) {
         return Some(Asked::NoReference);
     }
-    match stitch(alloc, list, 0, 0, BOUNDS) {
+    match stitch(&mut Room::new(alloc), list, 0, 0, BOUNDS) {
         Ok(found) => Some(Asked::Found(found.complete.len())),
         Err(StitchFault::Crowded) => Some(Asked::Crowded),
         Err(StitchFault::NoMemory) => None,

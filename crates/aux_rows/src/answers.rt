@@ -10,7 +10,7 @@ use stacks_vars::NodeAt;
 use std::alloc::{AllocError, Global};
 use std::marker::Brand;
 use std::sync::ledger::{Blank, Ledger};
-use stitcher::{EdgePath, StitchFault, Stitched, stitch};
+use stitcher::{EdgePath, Room, StitchFault, Stitched, stitch};
 use whole_search::{Hit, SearchFault, is_reference, search};
 
 /// Rows, each as its file and its node, and a flag, as a text.
@@ -151,7 +151,7 @@ pub fn stitched(
     if !list.is_reference(&at) {
         return String::from_str(alloc, "no reference");
     }
-    match stitch(alloc, list, at.file, at.node, bounds) {
+    match stitch(&mut Room::new(alloc), list, at.file, at.node, bounds) {
         Ok(found) => {
             if !end_there(alloc, files, &found)? {
                 return String::from_str(alloc, "another end");

@@ -9,7 +9,7 @@ use back_stitch::{BackFault, PlainSource, back};
 use partial_path::{Bounds, FileList, PathSource};
 use stacks_vars::NodeAt;
 use std::alloc::{AllocError, Global};
-use stitcher::{StitchFault, stitch};
+use stitcher::{Room, StitchFault, stitch};
 
 /// The path sets of the graphs that a text stands for, to be joined backward.
 fn source_of(alloc: Global, text: &str) -> Result<PlainSource, TextFault> {
@@ -51,7 +51,13 @@ fn leads(alloc: Global, list: &FileList, from: NodeAt, to: NodeAt) -> Result<boo
     if !list.is_reference(&from) {
         return Ok(false);
     }
-    match stitch(alloc, list, from.file, from.node, Bounds::usual()) {
+    match stitch(
+        &mut Room::new(alloc),
+        list,
+        from.file,
+        from.node,
+        Bounds::usual(),
+    ) {
         Ok(found) => Ok(found.complete.iter().any(|path| path.end == to)),
         Err(StitchFault::Crowded) => Ok(false),
         Err(StitchFault::NoMemory) => Err(AllocError),

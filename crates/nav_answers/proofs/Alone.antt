@@ -12,7 +12,7 @@ use Rattle.list_facts.proofs.Members.{passing_member}
 use Rattle.nav_answers.specs.Kept.{run_path, stays, end_of, ends_of}
 
 -- no path shadows itself
-same_itself : (step : EdgeStep) → same_step step step ≡ true
+pub same_itself : (step : EdgeStep) → same_step step step ≡ true
 same_itself step = λ i. eq-eqb step.edge.file step.edge.file refl i && eq-eqb step.edge.edge step.edge.edge refl i && eq-eqb step.precedence step.precedence refl i
 
 not_itself : (path : List EdgeStep) → shadows path path ≡ false

@@ -25,6 +25,11 @@ there_in (a ∷ all) (suc k) at e = inr (there_in all k at e)
 pub job_among : (all : List NodeAt) (job : ℕ) (d : NodeAt) → job < length all → IsIn (get_or all job d) all
 job_among all job d inside = there_in all job (get_or all job d) (slice_get-get_or all job d inside)
 
+-- which does not rest on what would stand past the end
+pub same_place : (all : List NodeAt) (job : ℕ) (d e : NodeAt) → job < length all → get_or all job d ≡ get_or all job e
+same_place all job d e inside =
+    same_Some (get_or all job d) (get_or all job e) (sym (slice_get-get_or all job d inside) ∙ slice_get-get_or all job e inside)
+
 in_there : (all : List NodeAt) (at : NodeAt) → IsIn at all → (k : ℕ) × (k < length all) × (slice_get all k ≡ Some at)
 in_there [] at m = absurd m
 in_there (a ∷ all) at (inl same) = (0, omega arith, ap Some (sym same))

@@ -8,3 +8,4 @@ pub mod Links
 pub mod Asking
 pub mod Callers
 pub mod Faults
+pub mod Twins

@@ -2,40 +2,38 @@ ghost use Rattle.std.specs.Prelude.{◌≡◌, Err, IfOk, IsSomeAnd, IsTrue};
 ghost use Rattle.graph_nodes.specs.Whole.{is_reference_of};
 ghost use Rattle.partial_path.specs.Step.{start};
 ghost use Rattle.partial_path.specs.Counted.{IsCrowded};
-ghost use Rattle.root_index.specs.Roots.{IsIndexOfView};
 ghost use Rattle.nav_answers.specs.Asking.{IsFound};
 ghost use Rattle.nav_answers.specs.Sources.{graphs_seen};
 
-use crate::defining::definitions_of;
+use crate::defining::definitions_by;
+use crate::source::ViewSource;
 use nav_io::Gate;
 use partial_path::Bounds;
-use root_index::RootIndex;
 use stacks_vars::NodeAt;
-use std::alloc::Global;
-use stitcher::StitchFault;
+use stitcher::{Room, StitchFault};
 use version_tree::View;
 use whole_search::{Found, Hit};
 
-/// What is asked of each reference of the files that are seen: its definitions within these bounds. Those that are
-/// asked about are told in any case, and all where there are no more links than there is room for.
+/// What is asked of each reference of the files that are seen, by their stored paths: its definitions within these bounds.
+/// Those that are asked about are told in any case, and all where there are at most so many links.
 #[derive(Drop)]
 pub struct Query<'a> {
     pub view: &'a View,
-    pub index: &'a RootIndex,
+    pub source: &'a ViewSource<'a>,
     pub definitions: &'a [Hit],
     pub bounds: Bounds,
-    pub room: usize,
+    pub most: usize,
 }
 
 /// What is found of the reference, as the job of that number.
-pub fn ask<G: Gate>(
-    alloc: Global,
-    query: &Query,
+pub fn ask<'a, G: Gate>(
+    room: &mut Room<'a>,
+    query: &Query<'a>,
     gate: &G,
     job: usize,
     reference: NodeAt,
 ) -> Result<Found, StitchFault>
-    requires index { IsIndexOfView query.now.index.now query.now.view.now }
+    requires source { query.now.source.now.rows ≡ query.now.view.now }
     requires reference { IsTrue
         (is_reference_of (graphs_seen query.now.view.now) reference.file reference.node) }
     ensures found { IfOk result
@@ -46,7 +44,7 @@ pub fn ask<G: Gate>(
         (IsCrowded query.now.bounds (graphs_seen query.now.view.now)) }
 {
     gate.enter(job);
-    let found = definitions_of(alloc, query.view, query.index, reference, query.bounds);
+    let found = definitions_by(room, query.source, reference, query.bounds);
     gate.leave(job);
     found
 }

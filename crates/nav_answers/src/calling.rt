@@ -18,6 +18,7 @@ use crate::meaning::{Asked, meant};
 use crate::referring::{MOST_LINKS, references_to};
 use crate::rows::{hit_of, in_order};
 use crate::sharing::ask_all;
+use crate::source::ViewSource;
 use back_stitch::BackFault;
 use nav_io::Gate;
 use partial_path::Bounds;
@@ -121,12 +122,13 @@ fn callers_among<R: Threads + Sync, G: Gate + Sync>(
         → TellsUnless (LeadsCrowded (graphs_in (graph_rows view.now)) node)
         (graph_rows view.now) node result }
 {
+    let source = ViewSource::of(view, index);
     let query = Query {
         view,
-        index,
+        source: &source,
         definitions: &[hit_of(node)],
         bounds: Bounds::usual(),
-        room: MOST_LINKS,
+        most: MOST_LINKS,
     };
     match ask_all(rt, alloc, &query, gate, leading) {
         Ok(links) => {

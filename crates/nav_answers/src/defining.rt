@@ -18,7 +18,7 @@ use partial_path::Bounds;
 use root_index::RootIndex;
 use stacks_vars::NodeAt;
 use std::alloc::{AllocError, Global};
-use stitcher::{StitchFault, stitch};
+use stitcher::{Room, StitchFault, stitch};
 use version_tree::{Answer, PathText, Row, Rows, View};
 use whole_search::{Found, Hit, Hits};
 
@@ -68,10 +68,10 @@ fn define_node(
 }
 
 /// The definitions of a reference of the files that are seen.
-pub fn definitions_of(
+pub fn definitions_of<'x>(
     alloc: Global,
-    view: &View,
-    index: &RootIndex,
+    view: &'x View,
+    index: &'x RootIndex,
     node: NodeAt,
     bounds: Bounds,
 ) -> Result<Found, StitchFault>
@@ -87,8 +87,32 @@ pub fn definitions_of(
         (λ c. ¬ IsCrowded bounds (graphs_seen view.now) c)) }
 {
     let source = ViewSource::of(view, index);
-    let found = stitch(alloc, &source, node.file, node.node, bounds)?;
-    let rows = rows_of(alloc, view, &found.complete)?;
+    let mut room = Room::new(alloc);
+    definitions_by(&mut room, &source, node, bounds)
+}
+
+/// The same by a source that serves many references, in room that serves them all.
+pub fn definitions_by<'a>(
+    room: &mut Room<'a>,
+    source: &'a ViewSource<'_>,
+    node: NodeAt,
+    bounds: Bounds,
+) -> Result<Found, StitchFault>
+    requires reference { IsTrue
+        (is_reference_of (graphs_seen source.now.rows) node.file node.node) }
+    ensures rows { IfOk result (λ found. IsSomeAnd (start (graphs_seen source.now.rows) node)
+        (λ c. AreDefinitions bounds (graphs_seen source.now.rows) c found.rows)) }
+    ensures limit { IfOk result (λ found. IsSomeAnd (start (graphs_seen source.now.rows) node)
+        (λ c. IsTrue found.limit ↔ HasLimit bounds (graphs_seen source.now.rows) c)) }
+    ensures crowded { result ≡ Err StitchFault.Crowded
+        → IsSomeAnd (start (graphs_seen source.now.rows) node)
+        (IsCrowded bounds (graphs_seen source.now.rows)) }
+    ensures not_crowded { OnOk result (IsSomeAnd (start (graphs_seen source.now.rows) node)
+        (λ c. ¬ IsCrowded bounds (graphs_seen source.now.rows) c)) }
+{
+    let found = stitch(room, source, node.file, node.node, bounds)?;
+    let rows = rows_of(room.alloc(), source.view(), &found.complete)?;
+    room.give_back(found.complete);
     Ok(Found {
         rows: Hits::of(rows),
         limit: found.limit,

@@ -15,13 +15,14 @@ mod referring;
 mod rows;
 mod sharing;
 mod source;
+mod twins;
 mod uniting;
 
 pub use asked_view::AskedView;
 pub use calling::callers;
 pub use defining::define;
 pub use found::{AskFault, At};
-pub use laws::{callers_have_one_reply, queries_have_one_reply};
+pub use laws::{callers_have_one_reply, queries_have_one_reply, twins_are_found_alike};
 pub use meaning::definition_at;
 pub use referring::references;
 pub use uniting::references_of_any;

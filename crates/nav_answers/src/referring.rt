@@ -16,6 +16,7 @@ use crate::listing::all_references;
 use crate::meaning::{Asked, meant};
 use crate::rows::{hit_of, in_order};
 use crate::sharing::ask_all;
+use crate::source::ViewSource;
 use nav_io::Gate;
 use partial_path::Bounds;
 use root_index::RootIndex;
@@ -40,11 +41,12 @@ pub const MOST_LINKS: usize = 2_097_152;
 /// The first time each reference of the files is asked once, as a job between `enter` and `leave` of the gate, with its
 /// place among them as its number. They are asked on as many threads as the machine has processors, at most eight and
 /// no more than there are references; where a thread can't be made, the caller does its work. Which thread is the first
-/// to end decides nothing. What was found is kept beside the view. The next time, of whatever definition, nothing is
-/// asked where the bounds are the same ones: the definition's references are found by halving, and the time follows
-/// their number. Where the bounds are others, all are asked again, and only the last is kept. Where memory is refused
-/// while they are asked, nothing is kept. Where the references have more than some 2,097,152 definitions in all, those
-/// that aren't meant are let go meanwhile, and nothing is kept either.
+/// to end decides nothing. Before, the number of its file in the view is found for each path from the root, which takes
+/// four bytes a path until all are asked. What was found is kept beside the view. The next time, of whatever definition,
+/// nothing is asked where the bounds are the same ones: the definition's references are found by halving, and the time
+/// follows their number. Where the bounds are others, all are asked again, and only the last is kept. Where memory is
+/// refused while they are asked, nothing is kept. Where the references have more than some 2,097,152 definitions in all,
+/// those that aren't meant are let go meanwhile, and nothing is kept either.
 pub fn references<R: Threads + Sync, G: Gate + Sync>(
     rt: &R,
     alloc: Global,
@@ -126,12 +128,14 @@ fn known_of<R: Threads + Sync, G: Gate + Sync>(
     match seen.take_known(bounds) {
         Some(known) => Ok(known),
         None => {
+            let files = index.seen_files(alloc, seen.view())?;
+            let source = ViewSource::with(seen.view(), index, Some(&files));
             let query = Query {
                 view: seen.view(),
-                index,
+                source: &source,
                 definitions,
                 bounds,
-                room: MOST_LINKS,
+                most: MOST_LINKS,
             };
             find_all(rt, alloc, &query, gate)
         }
@@ -145,7 +149,7 @@ fn find_all<R: Threads + Sync, G: Gate + Sync>(
     query: &Query,
     gate: &G,
 ) -> Result<Known, AllocError>
-    requires { IsIndexOfView query.now.index.now query.now.view.now }
+    requires { query.now.source.now.rows ≡ query.now.view.now }
     ensures known { IfOk result
         (IsKnownOf (graphs_seen query.now.view.now) query.now.definitions.now) }
     ensures bounds { IfOk result (λ known. known.bounds ≡ query.now.bounds) }
@@ -182,7 +186,7 @@ fn links_of_all<R: Threads + Sync, G: Gate + Sync>(
     query: &Query,
     gate: &G,
 ) -> Result<Links, StitchFault>
-    requires { IsIndexOfView query.now.index.now query.now.view.now }
+    requires { query.now.source.now.rows ≡ query.now.view.now }
     ensures found { IfOk result
         (λ links. AreLinksOf query.now.bounds
         (graphs_seen query.now.view.now) query.now.definitions.now

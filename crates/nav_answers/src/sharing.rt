@@ -1,19 +1,22 @@
-ghost use Rattle.std.specs.Prelude.{◌≡◌, ℕ, ◌+◌, ◌/◌, ◌%◌, ◌<◌, ◌≤◌, length, nat_eq, All, Err, IfOk, OnOk, slice_index_or, vec_len, IsTrue};
+ghost use Rattle.std.specs.Prelude.{◌≡◌, ◌≢◌, ℕ, ◌+◌, ◌/◌, ◌%◌, ◌<◌, ◌≤◌, length, nat_eq, All, Err, IfOk, OnOk, slice_index_or, vec_len, IsTrue};
 ghost use Rattle.graph_nodes.specs.Whole.{is_reference_of};
 ghost use Rattle.list_facts.specs.Members.{IsIn};
-ghost use Rattle.root_index.specs.Roots.{IsIndexOfView};
-ghost use Rattle.nav_answers.specs.Asking.{AddsLinks, AreFound, AreLinksOf, IsCrowdedAmong, IsDone, IsInShares, IsReferenceIn, run_of};
+ghost use Rattle.nav_answers.specs.Asking.{AddsLinks, AreFound, AreLinksOf, IsCrowdedAmong, IsDone, IsFound, IsInShares, IsReferenceIn, run_of};
 ghost use Rattle.nav_answers.specs.Sources.{graphs_seen};
+ghost use Rattle.nav_answers.specs.Twins.{AreKept};
+ghost use Rattle.stacks_vars.specs.declared.scopes.NodeAt.{NodeAt};
 
 use crate::asking::{Query, ask};
 use crate::links::Links;
 use crate::rows::hit_of;
+use crate::twins::{Kept, Searched, lead_of};
 use nav_io::Gate;
 use stacks_vars::NodeAt;
 use std::alloc::{AllocError, Global};
 use std::thread;
 use std::thread::Threads;
-use stitcher::StitchFault;
+use stitcher::{Room, StitchFault};
+use whole_search::Found;
 
 /// The most threads that ask.
 const MOST_THREADS: usize = 8;
@@ -36,7 +39,7 @@ pub fn ask_all<R: Threads + Sync, G: Gate + Sync>(
     gate: &G,
     all: &[NodeAt],
 ) -> Result<Links, StitchFault>
-    requires index { IsIndexOfView query.now.index.now query.now.view.now }
+    requires source { query.now.source.now.rows ≡ query.now.view.now }
     requires references { All (IsReferenceIn (graphs_seen query.now.view.now)) all.now }
     ensures found { IfOk result
         (λ links. AreLinksOf query.now.bounds
@@ -80,7 +83,7 @@ fn ask_shares<R: Threads + Sync, G: Gate + Sync>(
     all: &[NodeAt],
     shares: &mut [Share],
 )
-    requires index { IsIndexOfView query.now.index.now query.now.view.now }
+    requires source { query.now.source.now.rows ≡ query.now.view.now }
     requires references { All (IsReferenceIn (graphs_seen query.now.view.now)) all.now }
     requires some { 0 < length shares.old }
     ensures len { length shares.new ≡ length shares.old }
@@ -107,19 +110,21 @@ fn ask_share<G: Gate>(
     first: usize,
     step: usize,
 ) -> Share
-    requires index { IsIndexOfView query.now.index.now query.now.view.now }
+    requires source { query.now.source.now.rows ≡ query.now.view.now }
     requires references { All (IsReferenceIn (graphs_seen query.now.view.now)) all.now }
     requires step { 0 < step }
     ensures { IsDone query.now.bounds
         (graphs_seen query.now.view.now) query.now.definitions.now all.now step first result }
 {
-    let mut links = Links::new(alloc, query.room / step);
+    let mut room = Room::new(alloc);
+    let mut links = Links::new(alloc, query.most / step);
+    let mut searched = Searched::new(alloc);
     let run = run_of(all.len(), step);
     for job in 0..all.len() {
         if !is_in_share(job, run, first, step) {
             continue;
         }
-        ask_into(alloc, query, gate, all, job, all[job], &mut links)?;
+        add_found(&mut room, query, gate, all, job, &mut searched, &mut links)?;
         links.hold(alloc, query.definitions)?;
     }
     // Each thread puts its own in order, so that what is left to do for all of them is to merge.
@@ -145,28 +150,91 @@ fn is_in_share(place: usize, run: usize, first: usize, step: usize) -> bool
     place / run % step == first
 }
 
-/// Asks the reference, one of all these, as the job of that number, and adds what is found of it.
-fn ask_into<G: Gate>(
-    alloc: Global,
-    query: &Query,
+/// Adds what is found of the reference at the place among all, as the job of that number. Where one was searched lately
+/// that begins like it, what was found of that is so of this one, and there is no search.
+fn add_found<'a, G: Gate>(
+    room: &mut Room<'a>,
+    query: &Query<'a>,
+    gate: &G,
+    all: &[NodeAt],
+    job: usize,
+    searched: &mut Searched<'a>,
+    links: &mut Links,
+) -> Result<(), StitchFault>
+    requires source { query.now.source.now.rows ≡ query.now.view.now }
+    requires references { All (IsReferenceIn (graphs_seen query.now.view.now)) all.now }
+    requires inside { job < length all.now }
+    requires kept { AreKept query.now.bounds
+        (graphs_seen query.now.view.now) searched.old.list.items }
+    ensures found { (d : NodeAt) → OnOk result (AddsLinks query.now.bounds
+        (graphs_seen query.now.view.now) (slice_index_or all.now job d) links.old links.new) }
+    ensures kept { OnOk result (AreKept query.now.bounds
+        (graphs_seen query.now.view.now) searched.new.list.items) }
+    ensures crowded { result ≡ Err StitchFault.Crowded
+        → IsCrowdedAmong query.now.bounds (graphs_seen query.now.view.now) all.now }
+{
+    let reference = all[job];
+    let Some(lead) = lead_of(query.view, reference) else {
+        ask_into(room, query, gate, all, job, reference, links)?;
+        return Ok(());
+    };
+    if let Some(found) = searched.known(query, reference, &lead) {
+        return add_known(query, gate, job, reference, found, links);
+    }
+    let found = ask_into(room, query, gate, all, job, reference, links)?;
+    let kept = Kept {
+        reference,
+        lead,
+        found,
+    };
+    Ok(searched.put(query, kept)?)
+}
+
+/// Adds what is known of the reference, as the job of that number; the one error is want of memory.
+fn add_known<G: Gate>(
+    _query: &Query,
+    gate: &G,
+    job: usize,
+    reference: NodeAt,
+    found: &Found,
+    links: &mut Links,
+) -> Result<(), StitchFault>
+    requires found { IsFound _query.now.bounds
+        (graphs_seen _query.now.view.now) reference found.now.rows found.now.limit }
+    ensures found { OnOk result (AddsLinks _query.now.bounds
+        (graphs_seen _query.now.view.now) reference links.old links.new) }
+    ensures memory { result ≢ Err StitchFault.Crowded }
+{
+    gate.enter(job);
+    let added = links.add(hit_of(reference), found);
+    gate.leave(job);
+    Ok(added?)
+}
+
+/// Asks the reference, one of all these, as the job of that number, and adds what is found of it, which it tells.
+fn ask_into<'a, G: Gate>(
+    room: &mut Room<'a>,
+    query: &Query<'a>,
     gate: &G,
     _all: &[NodeAt],
     job: usize,
     reference: NodeAt,
     links: &mut Links,
-) -> Result<(), StitchFault>
-    requires index { IsIndexOfView query.now.index.now query.now.view.now }
+) -> Result<Found, StitchFault>
+    requires source { query.now.source.now.rows ≡ query.now.view.now }
     requires reference { IsTrue
         (is_reference_of (graphs_seen query.now.view.now) reference.file reference.node) }
     requires among { IsIn reference _all.now }
     ensures found { OnOk result (AddsLinks query.now.bounds
         (graphs_seen query.now.view.now) reference links.old links.new) }
+    ensures told { IfOk result (λ found. IsFound query.now.bounds
+        (graphs_seen query.now.view.now) reference found.rows found.limit) }
     ensures crowded { result ≡ Err StitchFault.Crowded
         → IsCrowdedAmong query.now.bounds (graphs_seen query.now.view.now) _all.now }
 {
-    let found = ask(alloc, query, gate, job, reference)?;
+    let found = ask(room, query, gate, job, reference)?;
     links.add(hit_of(reference), &found)?;
-    Ok(())
+    Ok(found)
 }
 
 /// What the shares tell together.
@@ -188,7 +256,7 @@ fn together(
         → IsCrowdedAmong query.now.bounds (graphs_seen query.now.view.now) all.now }
 {
     let count = shares.len();
-    let mut links = Links::new(alloc, query.room);
+    let mut links = Links::new(alloc, query.most);
     for place in 0..count {
         add_share(query, all, count, place, &shares[place], &mut links)?;
     }

@@ -4,13 +4,15 @@ ghost use Rattle.partial_path.specs.Offers.{offers_here, is_shared};
 ghost use Rattle.partial_path.specs.Sources.{IsSourceFile, asks_rule, rules_from, rules_offered};
 ghost use Rattle.partial_path.specs.Spots.{node_at};
 ghost use Rattle.root_index.specs.Offers.{files_of};
+ghost use Rattle.root_index.specs.Offers as roots;
 ghost use Rattle.root_index.specs.Roots.{IsIndexOfView, root};
+ghost use Rattle.root_index.specs.SeenFiles.{AreSeenFiles};
 ghost use Rattle.nav_answers.specs.Sources.{offers_left, seen_of};
 
 use partial_path::{
     FileOffers, FilePaths, ListOffers, PathSource, Spot, Start, StoredPath, StoredPaths, asks,
 };
-use root_index::{RootIndex, RootOffers};
+use root_index::{RootIndex, RootOffers, SeenFiles};
 use stacks_vars::{LentStack, NodeAt, Symbol};
 use std::marker::Model;
 use version_tree::View;
@@ -23,27 +25,32 @@ pub enum ViewOffers {
 }
 
 /// The stored paths of the files that a user sees: those of a file are found in the file's own order, those from the
-/// root by the index of the version.
+/// root by the index of the version, and the numbers of their files by a table where there is one.
 #[derive(Drop)]
 pub struct ViewSource<'a> {
     view: &'a View,
     index: &'a RootIndex,
+    files: Option<&'a SeenFiles>,
 }
 
 impl<'a> Model for ViewSource<'a> {
+    ghost use Rattle.std.specs.Prelude.{IfSome};
     ghost use Rattle.root_index.specs.Roots.{IsIndexOfView};
+    ghost use Rattle.root_index.specs.SeenFiles.{AreSeenFiles};
     ghost use Rattle.nav_answers.specs.Sources.{Seen, seen_of};
 
     ghost Value = { Seen };
 
     ghost view = { λ s. seen_of s.view.now s.index.now };
 
-    ghost invariant = { λ s. IsIndexOfView s.index.now s.view.now };
+    ghost invariant = { λ s. IsIndexOfView s.index.now s.view.now
+        × IfSome s.files (λ files. AreSeenFiles s.index.now s.view.now files.now) };
 }
 
 impl<'a> ViewSource<'a> {
-    ghost use Rattle.std.specs.Prelude.{◌≡◌};
+    ghost use Rattle.std.specs.Prelude.{◌≡◌, IfSome};
     ghost use Rattle.root_index.specs.Roots.{IsIndexOfView};
+    ghost use Rattle.root_index.specs.SeenFiles.{AreSeenFiles};
     ghost use Rattle.nav_answers.specs.Sources.{seen_of};
 
     /// What is seen, with the index of its version.
@@ -51,7 +58,27 @@ impl<'a> ViewSource<'a> {
         requires { IsIndexOfView index.now view.now }
         ensures { result ≡ seen_of view.now index.now }
     {
-        ViewSource { view, index }
+        ViewSource::with(view, index, None)
+    }
+
+    /// The same, with the numbers of the index's files in the view where they were found once for many look-ups.
+    pub fn with(
+        view: &'a View,
+        index: &'a RootIndex,
+        files: Option<&'a SeenFiles>,
+    ) -> ViewSource<'a>
+        requires index { IsIndexOfView index.now view.now }
+        requires files { IfSome files (λ files. AreSeenFiles index.now view.now files.now) }
+        ensures { result ≡ seen_of view.now index.now }
+    {
+        ViewSource { view, index, files }
+    }
+
+    /// The files that are seen.
+    pub fn view(&self) -> &'a View
+        ensures { result.now ≡ self.now.rows }
+    {
+        self.view
     }
 }
 
@@ -93,7 +120,9 @@ impl<'a> PathSource for ViewSource<'a> {
                 Some((file, path, after)) => Some((file, path, ViewOffers::Inside(after))),
                 None => None,
             },
-            ViewOffers::Roots(at) => match self.index.next_offer(self.view, symbols, at) {
+            ViewOffers::Roots(at) => match next_root(
+                self.view, self.index, self.files, symbols, at,
+            ) {
                 Some((file, path, after)) => Some((file, path, ViewOffers::Roots(after))),
                 None => None,
             },
@@ -290,5 +319,24 @@ fn next_inside<'a>(
             Some((at.file as u32, path, after))
         }
         None => None,
+    }
+}
+
+/// The same among the paths from the root, by the numbers of their files where these were found.
+fn next_root<'a>(
+    view: &View,
+    index: &'a RootIndex,
+    files: Option<&SeenFiles>,
+    symbols: &LentStack<'_>,
+    at: RootOffers,
+) -> Option<(u32, StoredPath<'a>, RootOffers)>
+    requires { IfSome files (λ files. AreSeenFiles index.now view.now files.now) }
+    ensures { MatchOption result (roots.offers_left at symbols.now view.now index.now ≡ [])
+        (λ found. roots.offers_left at symbols.now view.now index.now
+        ≡ (found.0, found.1) ∷ roots.offers_left found.2 symbols.now view.now index.now) }
+{
+    match files {
+        Some(files) => index.next_offer_by(files, view, symbols, at),
+        None => index.next_offer(view, symbols, at),
     }
 }

@@ -31,15 +31,17 @@ impl<'a> StoredPath<'a> {
         if !self.meets(base, at) {
             return Ok(None);
         }
-        self.apply_met(alloc, base, at)
+        self.apply_met(alloc, LentStack::new(alloc), base, at)
     }
 
     /// As `apply`, to a configuration that is met, which isn't looked at again: None only where it has no scope
     /// by which the path ends. It costs what the postcondition and copies of what is left cost: of the symbols
-    /// behind those that are asked for, and of those scopes alone that are used.
+    /// behind those that are asked for, and of those scopes alone that are used. The symbols stand in the room of
+    /// a spare stack, and memory is taken for them where it has less.
     pub fn apply_met(
         &self,
         alloc: Global,
+        spare: LentStack<'a>,
         base: u32,
         at: &LentConfig<'a>,
     ) -> Result<Option<LentConfig<'a>>, AllocError>
@@ -54,7 +56,7 @@ impl<'a> StoredPath<'a> {
             fixed: self.fixed(),
             at,
         };
-        let symbols = filled_symbols(alloc, base, &met, self.made())?;
+        let symbols = filled_symbols(alloc, spare, base, &met, self.made())?;
         let scopes = filled_scopes(alloc, base, &met, self.scopes(), self.tail())?;
         Ok(end_at(base, self.end(), symbols, scopes))
     }

@@ -6,14 +6,14 @@ use crate::sorting::sort_paths;
 use crate::start_table::StartTable;
 use crate::stored::StoredPath;
 use crate::stored_paths::{KeptPaths, StoredPaths};
-use graph_nodes::{FileGraph, NodeKind, NodeSpan, Place, Span};
+use graph_nodes::{EdgeIter, FileGraph, NodeKind, NodeSpan, Place, Span};
 use stacks_vars::LentStack;
 use std::alloc::AllocError;
 use std::marker::Model;
 
 /// The partial paths of one file, one for each landing walk of its graph, with the graph and its weight:
-/// how many edges all its walks have together. What stands here searches by these paths alone: no call
-/// tells where an edge leads.
+/// how many edges all its walks have together. What stands here searches by these paths alone; where an
+/// edge leads is told to see which references begin alike.
 #[derive(Debug, Drop)]
 pub struct FilePaths {
     graph: FileGraph,
@@ -44,6 +44,7 @@ impl FilePaths {
     ghost use Rattle.graph_nodes.specs.Spans.{spans_from};
     ghost use Rattle.graph_nodes.specs.Checked.{IsChecked};
     ghost use Rattle.graph_nodes.specs.Cut.{is_cut};
+    ghost use Rattle.graph_nodes.specs.Out.{edges_from};
     ghost use Rattle.partial_path.specs.PathSets.{AreFileRules, IsPathSet};
     ghost use Rattle.partial_path.specs.Walks.{IsWeight};
     ghost use Rattle.partial_path.specs.Starts.{IsByStart, rules_at};
@@ -206,6 +207,24 @@ impl FilePaths {
         ensures { result ≡ is_definition self.now.graph.nodes n }
     {
         self.graph.is_definition(n)
+    }
+
+    /// The positions of the edges that leave the node, rising. The first ones take constant time, and all of them time
+    /// that follows their number.
+    pub fn edges_from(&self, n: u32) -> EdgeIter<'_>
+        requires { n < length self.now.graph.nodes }
+        ensures { result ≡ edges_from self.now.graph (Place.At n) }
+    {
+        self.graph.edges_from(Place::At(n))
+    }
+
+    /// Where the edge at the position leads. It takes constant time.
+    pub fn sink(&self, e: u32) -> Place
+        requires { e < length self.now.graph.edges }
+        ensures { option_map (λ edge. edge.sink) (slice_get self.now.graph.edges e)
+            ≡ Some result }
+    {
+        self.graph.edge(e).sink
     }
 
     /// The precedence of the edge at the position. It takes constant time.

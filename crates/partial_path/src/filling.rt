@@ -18,10 +18,11 @@ pub struct Met<'r, 'a> {
     pub at: &'r LentConfig<'a>,
 }
 
-/// The symbols that a rule makes, moved by `base`, and those that it leaves, of which alone there are copies. The one
-/// error is want of memory.
+/// The symbols that a rule makes, moved by `base`, and those that it leaves, of which alone there are copies, in the room
+/// of a spare stack. The one error is want of memory.
 pub fn filled_symbols<'a>(
     alloc: Global,
+    spare: LentStack<'a>,
     base: u32,
     met: &Met<'_, 'a>,
     outs: &'a [SymOut],
@@ -33,7 +34,10 @@ pub fn filled_symbols<'a>(
         (map (moved_symbol_out base) outs.now) ++ drop
         (length met.now.asked.now) met.now.at.now.stacks.symbols) }
 {
-    let mut symbols = met.at.symbols().rest(alloc, met.asked.len(), outs.len())?;
+    let mut symbols = met
+        .at
+        .symbols()
+        .rest(alloc, spare, met.asked.len(), outs.len())?;
     put_made(alloc, base, met, outs, &mut symbols)?;
     Ok(symbols)
 }
@@ -96,6 +100,7 @@ fn filled_held(
 }
 
 /// The scopes that a rule makes, with a copy of what its variable stands for.
+#[inline(always)]
 pub fn filled_scopes(
     alloc: Global,
     base: u32,

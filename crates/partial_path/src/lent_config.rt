@@ -59,6 +59,11 @@ impl<'a> LentConfig<'a> {
         &self.scopes
     }
 
+    /// Its stack of symbols, whose room may serve again.
+    pub fn into_symbols(self) -> LentStack<'a> {
+        self.symbols
+    }
+
     /// Whether both have the same spot and the same stacks.
     pub fn same(&self, other: &LentConfig<'_>) -> bool
         ensures eq { result ≡ config_eq self.now other.now }

@@ -47,6 +47,7 @@ impl StartTable {
 
     /// Where the paths stand that begin there: from which place on, and before which. It takes constant time
     /// where the table tells it, and halves over all paths where it doesn't.
+    #[inline(always)]
     pub fn run(&self, paths: &StoredPaths<'_>, start: &Start) -> (usize, usize)
         requires order { IsByStart paths.now }
         requires table { IsTable self.now.before.items self.now.nodes paths.now }
@@ -62,6 +63,7 @@ impl StartTable {
 }
 
 /// Where the table tells that the paths of the start stand; None where it doesn't tell.
+#[inline(always)]
 fn told(before: &[u16], nodes: u32, start: Start) -> Option<(usize, usize)>
     ensures { IfSome result (λ run. IsTold before.now nodes start run.0 run.1) }
 {

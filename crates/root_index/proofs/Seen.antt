@@ -1,6 +1,6 @@
 -- What a look-up in an index offers to a user is what the files that the user sees offer, in another order.
-use Rattle.std.proofs.Common.{◌≡◌, refl, sym, ◌∙◌, ap, subst, ℕ, zero, suc, ◌+◌, ◌<◌, List, [], ◌∷◌, ◌++◌, length, map, get_or, Bool, true, false, cond, Option, Some, None, arith}
-use Rattle.std.specs.Prelude.{filter, ◌&&◌, ◌||◌, MatchOption}
+use Rattle.std.proofs.Common.{◌≡◌, refl, sym, ◌∙◌, ap, subst, ℕ, zero, suc, ◌+◌, ◌<◌, List, [], ◌∷◌, ◌++◌, ◌≤◌, length, map, take, get_or, slice_get, Bool, true, false, cond, Option, Some, None, arith}
+use Rattle.std.specs.Prelude.{filter, ◌&&◌, ◌||◌, IfSome, MatchOption}
 use Rattle.std.specs.List.{AllByRecursion, flat_map, swap}
 use Rattle.std.specs.List.Sorted.{IsPermutation}
 use Rattle.std.specs.Option.{option_map_or, unwrap_or}
@@ -13,10 +13,10 @@ use Rattle.std.proofs.lemmas.Cmp.{nat_list_cmp_total, tied_itself}
 use Rattle.std.proofs.lemmas.Map.Text.{is_eq-slice_cmp}
 use Rattle.std.proofs.lemmas.Slice.Eq.{bytes_eq-Decides}
 use Rattle.std.proofs.lemmas.Grind.{flat_map-append}
-use Rattle.std.proofs.lemmas.List.{append_assoc, length-append}
+use Rattle.std.proofs.lemmas.List.{append_assoc, length-append, map_more}
 use Rattle.std.proofs.lemmas.List.Edits.{swap_is}
 use Rattle.std.proofs.lemmas.List.Sorted.{IsPermutation-refl, IsPermutation-sym, IsPermutation-trans, IsPermutation-append_left, IsPermutation-append_right, IsPermutation-append_comm, IsPermutation-keeps}
-use Rattle.std.proofs.lemmas.Option.{none-some}
+use Rattle.std.proofs.lemmas.Option.{get_or_from_slice_get, none-some, slice_get_within}
 use Rattle.stacks_vars.specs.declared.items.SymbolItem.{SymbolItem}
 use Rattle.partial_path.specs.declared.config.Spot.TheVariants as spot
 use Rattle.partial_path.specs.declared.rule.Start.{Start}
@@ -28,9 +28,11 @@ use Rattle.partial_path.specs.Keys.{key}
 use Rattle.partial_path.specs.Sources.{numbered, stand_first, is_offered_in, rules_offered_after}
 use Rattle.grants.specs.Covers.{covers}
 use Rattle.version_tree.specs.Contents.{FileRow, path_cmp, IsInOrder, has_path}
+use Rattle.version_tree.specs.Limits.{max_files}
 use Rattle.version_tree.specs.Views.{path_at}
 use Rattle.root_index.specs.Roots.{RootPath, root, root_path, roots_from, roots_of, all_roots, IsIndexOfView}
 use Rattle.root_index.specs.Offers.{number_from, number_in, seen, asks, files_of, roots_offered}
+use Rattle.root_index.specs.SeenFiles.{AreSeenFiles}
 
 -- lists that are joined, in another order
 fronts : {Y : Type 0} (xs ys zs : List Y) → IsPermutation (xs ++ (ys ++ zs)) (ys ++ (xs ++ zs))
@@ -125,6 +127,27 @@ number_is view path None order e = sym (no_number view 0 path e)
 number_is view path (Some n) order e =
     let from_none : 0 + n ≡ n = omega arith in
     sym (number_of_place view 0 n path order e ∙ ap Some from_none)
+
+-- it is below the number of rows
+path_within : (rows : List FileRow) (k : ℕ) (path : List ℕ) → path_at rows k ≡ Some path → k < length rows
+path_within [] zero path e = absurd (none-some path e)
+path_within [] (suc k) path e = absurd (none-some path e)
+path_within (row ∷ rows) zero path e = omega arith
+path_within (row ∷ rows) (suc k) path e = let inside : k < length rows = path_within rows k path e in omega (arith, inside)
+
+pub number_few : (view : List FileRow) (path : List ℕ) (found : Option ℕ) → length view ≤ max_files
+    → MatchOption found (has_path path view ≡ false) (λ n. path_at view n ≡ Some path) → IfSome found (λ (n : ℕ). n < max_files)
+number_few view path None few e = tt
+number_few view path (Some n) few e = let inside : n < length view = path_within view n path e in omega (arith, inside, few)
+
+-- a table of the paths so far, with the number of one more
+pub table_more : (files : List (Option ℕ)) (paths : List RootPath) (view : List FileRow) (k : ℕ) (p : RootPath) (found : Option ℕ)
+    → AreSeenFiles (take k paths) view files → slice_get paths k ≡ Some p → found ≡ number_in view p.path
+    → AreSeenFiles (take (k + 1) paths) view (files ++ found ∷ [])
+table_more files paths view k p found are here is =
+    let number = λ (q : RootPath). number_in view q.path in
+    (λ i. are i ++ (is ∙ ap number (sym (get_or_from_slice_get paths k p p here))) i ∷ [])
+    ∙ sym (map_more number paths k p (slice_get_within paths k p here))
 
 -- what a path gives to a look-up
 abbrev given : List FileRow → List SymbolItem → RootPath → List (ℕ × Rule)

@@ -7,3 +7,4 @@ pub mod Looks
 pub mod Met
 pub mod Offers
 pub mod Roots
+pub mod SeenFiles

@@ -3,6 +3,7 @@ use crate::group_list::GroupList;
 use crate::groups::Groups;
 use crate::looks::{RootLook, next_looked};
 use crate::offers::{RootOffers, next_slot};
+use crate::seen_files::SeenFiles;
 use crate::slot::Slot;
 use partial_path::{Spot, Start, StoredPath, count_before};
 use stacks_vars::{LentStack, Symbol};
@@ -40,6 +41,7 @@ impl RootIndex {
     ghost use Rattle.root_index.specs.Roots.{IsIndexOf, IsIndexOfView};
     ghost use Rattle.root_index.specs.Offers.{files_of, offers_left, roots_offered};
     ghost use Rattle.root_index.specs.Looks.{look_left, roots_looked};
+    ghost use Rattle.root_index.specs.SeenFiles.{AreSeenFiles};
 
     /// The index of a version without files. It takes no memory.
     pub fn empty(alloc: Global) -> RootIndex
@@ -179,9 +181,52 @@ impl RootIndex {
         }
         None
     }
+
+    /// The numbers of all paths' files in the view, for many look-ups by `next_offer_by`. The one error is want
+    /// of memory: it takes four bytes for each path. Its time follows the number of paths: for each its file's
+    /// number is found as `next_offer` finds it.
+    pub fn seen_files(&self, alloc: Global, view: &View) -> Result<SeenFiles, AllocError>
+        ensures { IfOk result (AreSeenFiles self.now view.now) }
+    {
+        let count = self.slots.len();
+        let mut files = SeenFiles::with_room(alloc, count)?;
+        let mut near = 0;
+        for place in 0..count {
+            let (slot, group) = self.slots.at(place, near);
+            near = group;
+            files.push(number_in(view, slot.path(), slot.row()))?;
+        }
+        Ok(files)
+    }
+
+    /// What `next_offer` answers, by the numbers that `seen_files` found for this index and the view. It takes no
+    /// memory. The index is halved for each of at most seven runs of equal keys; within a run a step takes
+    /// constant time, whatever the view is. A path whose file isn't seen is passed over.
+    pub fn next_offer_by(
+        &self,
+        files: &SeenFiles,
+        _view: &View,
+        symbols: &LentStack<'_>,
+        at: RootOffers,
+    ) -> Option<(u32, StoredPath<'_>, RootOffers)>
+        requires { AreSeenFiles self.now _view.now files.now }
+        ensures { MatchOption result (offers_left at symbols.now _view.now self.now ≡ [])
+            (λ found. offers_left at symbols.now _view.now self.now
+            ≡ (found.0, found.1) ∷ offers_left found.2 symbols.now _view.now self.now) }
+    {
+        let mut at = at;
+        while let Some((slot, after)) = next_slot(&self.slots, symbols, at) {
+            at = after;
+            if let Some(file) = files.at(after.place - 1) {
+                return Some((file, slot.rule(), after));
+            }
+        }
+        None
+    }
 }
 
-ghost use Rattle.std.specs.Prelude.{◌≡◌, ◌++◌, Some, IfOk, OnOk, IsTrue, IsPermutation, option_copied};
+ghost use Rattle.std.specs.Prelude.{◌≡◌, ◌<◌, ◌++◌, Some, IfOk, IfSome, OnOk, IsTrue, IsPermutation, option_copied};
+ghost use Rattle.version_tree.specs.Limits.{max_files};
 ghost use Rattle.version_tree.specs.Views.{path_at};
 ghost use Rattle.root_index.specs.Roots.{AreByRank, IsIndexOf, all_roots, roots_of, root};
 ghost use Rattle.root_index.specs.Offers.{number_in};
@@ -192,7 +237,8 @@ ghost use Rattle.partial_path.specs.Starts.{begins_at};
 /// The number of the file at the path in the view: the one told where the file stands there, as in a view of all
 /// files, else found by halving; None where it isn't seen.
 fn number_in(view: &View, path: &str, near: u32) -> Option<u32>
-    ensures { result ≡ number_in view.now path.now }
+    ensures value { result ≡ number_in view.now path.now }
+    ensures few { IfSome result (λ n. n < max_files) }
 {
     let _count = view.row_count();
     if is_row(view, path, near) {

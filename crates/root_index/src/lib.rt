@@ -13,6 +13,7 @@ mod laws;
 mod looks;
 mod met;
 mod offers;
+mod seen_files;
 mod slot;
 mod slot_list;
 
@@ -20,3 +21,4 @@ pub use index::RootIndex;
 pub use laws::rows_have_one_index;
 pub use looks::RootLook;
 pub use offers::RootOffers;
+pub use seen_files::SeenFiles;

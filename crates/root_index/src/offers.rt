@@ -1,5 +1,5 @@
 //! Taking from an index what it offers to a stack of symbols, path by path.
-ghost use Rattle.std.specs.Prelude.{◌≡◌, ◌≤◌, ◌<◌, [], ◌∷◌, take, slice_get, true, false, MatchOption};
+ghost use Rattle.std.specs.Prelude.{◌≡◌, ◌≤◌, ◌<◌, ◌-◌, [], ◌∷◌, take, slice_get, true, false, Some, IfSome, MatchOption};
 ghost use Rattle.std.specs.List.{prefix_len};
 ghost use Rattle.std.specs.Option.{option_map_or};
 ghost use Rattle.partial_path.specs.Keys.{key_size, texts};
@@ -24,17 +24,20 @@ pub struct RootOffers {
     pub near: usize,
 }
 
-/// The path that comes next, whoever may see it, and where the look-up stands after it; None where there is no more. The
-/// paths are in order: one that isn't offered tells by how it stands to the stack's symbols which may come next.
+/// The path that comes next, whoever may see it, and where the look-up stands after it, which is right behind its place;
+/// None where there is no more. The paths are in order: one that isn't offered tells by how it stands to the stack's symbols which may come next.
 pub(crate) fn next_slot<'a>(
     slots: &'a GroupList,
     symbols: &LentStack<'_>,
     at: RootOffers,
 ) -> Option<(&'a Slot, RootOffers)>
     requires { AreByRank slots.now }
-    ensures { MatchOption result (paths_left at symbols.now slots.now ≡ [])
+    ensures next { MatchOption result (paths_left at symbols.now slots.now ≡ [])
         (λ found. paths_left at symbols.now slots.now
         ≡ found.0.now ∷ paths_left found.1 symbols.now slots.now) }
+    ensures behind { IfSome result (λ found. 0 < found.1.place) }
+    ensures there { IfSome result
+        (λ found. slice_get slots.now (found.1.place - 1) ≡ Some found.0.now) }
 {
     let most = KEY_SIZE.min(symbols.len());
     let all = slots.len();

@@ -141,13 +141,22 @@ impl<'a> LentStack<'a> {
         Ok(())
     }
 
-    /// The stack without its first symbols, so many, once more, with room for `room` symbols to be put in front. It costs
-    /// what is left; the one error is want of memory.
-    pub fn rest(&self, alloc: Global, but: usize, room: usize) -> Result<LentStack<'a>, AllocError>
+    /// The stack without its first symbols, so many, once more, in the room of a spare stack, whose symbols go, and with
+    /// room for `room` symbols to be put in front. It costs what is left, and takes memory where the spare one has less;
+    /// the one error is want of memory.
+    pub fn rest(
+        &self,
+        alloc: Global,
+        spare: LentStack<'a>,
+        but: usize,
+        room: usize,
+    ) -> Result<LentStack<'a>, AllocError>
         ensures { IfOk result (λ rest. rest ≡ drop but self.now) }
     {
         let left = self.items.len().saturating_sub(but);
-        let mut items = Vec::with_capacity(alloc, left.saturating_add(room))?;
+        let mut items = spare.items;
+        items.clear();
+        items.reserve(left.saturating_add(room))?;
         for item in &self.items[..left] {
             items.push(item.copy(alloc)?)?;
         }

@@ -107,6 +107,10 @@ impl ScopeStack {
         ensures { IfOk result (λ rest. rest ≡ drop but self.now) }
     {
         let left = self.items.len().saturating_sub(but);
+        // Mostly there are none.
+        if left == 0 {
+            return Ok(ScopeStack::new(alloc));
+        }
         Ok(ScopeStack {
             items: Vec::from_slice(alloc, &self.items[..left])?,
         })

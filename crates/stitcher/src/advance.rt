@@ -10,15 +10,15 @@ use crate::extend::extend;
 use crate::found::StitchFault;
 use crate::open::Open;
 use crate::query::Query;
+use crate::room::{Room, cut_back};
 use crate::tally::Tally;
 use crate::trail::Level;
 use partial_path::{PathSource, Start};
-use std::alloc::Global;
 
 /// Goes on from an open run: the trail is cut back to where the run left it and gets its last path, and each path that
 /// is offered where that one landed is joined.
 pub fn advance<'a, P: PathSource>(
-    alloc: Global,
+    room: &mut Room<'a>,
     source: &'a P,
     query: Query,
     from: Open<'a>,
@@ -44,9 +44,9 @@ pub fn advance<'a, P: PathSource>(
 {
     let depth = from.depth;
     let edges = from.edges;
-    trail.truncate(depth);
+    cut_back(room, trail, depth);
     trail.push(from.level)?;
     let at = &trail[depth].at;
     let begin = Start::After(at.spot());
-    extend(alloc, source, query, begin, trail, at, edges, work, tally)
+    extend(room, source, query, begin, trail, at, edges, work, tally)
 }

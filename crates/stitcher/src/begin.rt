@@ -11,14 +11,14 @@ use crate::extend::extend;
 use crate::found::StitchFault;
 use crate::open::Open;
 use crate::query::Query;
+use crate::room::Room;
 use crate::tally::Tally;
 use partial_path::{LentConfig, PathSource, Spot, Start};
 use stacks_vars::{LentStack, ScopeStack};
-use std::alloc::Global;
 
 /// Joins each path that is offered before the reference, and notes what comes of them.
 pub fn begin<'a, P: PathSource>(
-    alloc: Global,
+    room: &mut Room<'a>,
     source: &'a P,
     query: Query,
     work: &mut Vec<Open<'a>>,
@@ -39,7 +39,8 @@ pub fn begin<'a, P: PathSource>(
         (none_joined (asked (P.files source.now) query)) tally.old.counted }
 {
     let spot = Spot::At(query.node);
+    let alloc = room.alloc();
     let at = LentConfig::of(spot, LentStack::new(alloc), ScopeStack::new(alloc));
     let begin = Start::Before(query.node);
-    extend(alloc, source, query, begin, &[], &at, 0, work, tally)
+    extend(room, source, query, begin, &[], &at, 0, work, tally)
 }

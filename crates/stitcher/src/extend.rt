@@ -12,14 +12,14 @@ use crate::found::StitchFault;
 use crate::join::join;
 use crate::open::Open;
 use crate::query::Query;
+use crate::room::Room;
 use crate::tally::Tally;
 use crate::trail::Level;
 use partial_path::{LentConfig, PathSource, Start};
-use std::alloc::Global;
 
 /// Joins each path that is offered where the trail landed, and notes what comes of them.
 pub fn extend<'a, P: PathSource>(
-    alloc: Global,
+    room: &mut Room<'a>,
     source: &'a P,
     query: Query,
     begin: Start,
@@ -54,7 +54,7 @@ pub fn extend<'a, P: PathSource>(
     while let Some(found) = source.next_offer(at.symbols(), next) {
         next = found.2;
         join(
-            alloc, source, query, trail, at, edges, found.0, &found.1, work, tally,
+            room, source, query, trail, at, edges, found.0, &found.1, work, tally,
         )?;
     }
     Ok(())

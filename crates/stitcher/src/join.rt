@@ -23,6 +23,7 @@ use crate::matching::is_met;
 use crate::note::note;
 use crate::open::Open;
 use crate::query::Query;
+use crate::room::Room;
 use crate::tally::Tally;
 use crate::trail::{Level, has_landed, is_back};
 use partial_path::{
@@ -30,7 +31,7 @@ use partial_path::{
     runs_end_in_files,
 };
 use stacks_vars::NodeAt;
-use std::alloc::{AllocError, Global};
+use std::alloc::AllocError;
 
 /// Where a stored path lands that is joined, and whether runs are cut there.
 #[derive(Drop)]
@@ -53,7 +54,7 @@ fn comes_back(node: NodeAt, trail: &[Level], cut: bool, next: &LentConfig<'_>) -
 /// the stack and no scope is there, or the run wouldn't be straight. It is told whether the path ends at a cut, where
 /// the path tells that.
 pub fn landing_of<'a, P: PathSource>(
-    alloc: Global,
+    room: &mut Room<'a>,
     source: &P,
     query: Query,
     trail: &[Level],
@@ -87,11 +88,13 @@ pub fn landing_of<'a, P: PathSource>(
     joined_paths_are_runs();
     runs_end_in_files();
     returns_are_starts();
-    let Some(next) = path.apply_met(alloc, file, at)? else {
+    let spare = room.take();
+    let Some(next) = path.apply_met(room.alloc(), spare, file, at)? else {
         return Ok(None);
     };
     let is_cut = is_at_cut(source, cut, &next);
     if comes_back(query.node, trail, is_cut, &next) {
+        room.give(next.into_symbols());
         return Ok(None);
     }
     Ok(Some(Landing {
@@ -104,7 +107,7 @@ pub fn landing_of<'a, P: PathSource>(
 /// of it. A path that ends at no cut and leaves symbols isn't applied: no run is told of there. Past the bounds it is
 /// looked at only until one counted run past them is found.
 pub fn join<'a, P: PathSource>(
-    alloc: Global,
+    room: &mut Room<'a>,
     source: &P,
     query: Query,
     trail: &[Level],
@@ -159,7 +162,7 @@ pub fn join<'a, P: PathSource>(
     if !may_land(cut, path, at) {
         return Ok(());
     }
-    let Some(landing) = landing_of(alloc, source, query, trail, at, file, path, cut)? else {
+    let Some(landing) = landing_of(room, source, query, trail, at, file, path, cut)? else {
         return Ok(());
     };
     let is_cut = landing.cut;
@@ -169,7 +172,7 @@ pub fn join<'a, P: PathSource>(
         at: landing.at,
     };
     note(
-        alloc,
+        room,
         source,
         query,
         trail,

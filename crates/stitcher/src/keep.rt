@@ -6,13 +6,14 @@ ghost use Rattle.stitcher.specs.Opens.{kept_runs, those};
 ghost use Rattle.stitcher.specs.Trail.{Moves, paths_of, path_of};
 
 use crate::found::EdgePath;
-use crate::trail::{Level, edges_of, push_edges};
+use crate::room::Room;
+use crate::trail::{Level, push_all, push_edges};
 use partial_path::{EdgeAt, Spot};
-use std::alloc::{AllocError, Global};
+use std::alloc::AllocError;
 
 /// The edges of the trail and of one path more, which are so many together.
 fn edges_with(
-    alloc: Global,
+    room: &mut Room<'_>,
     trail: &[Level],
     level: &Level,
     count: usize,
@@ -22,8 +23,10 @@ fn edges_with(
     ensures { IfOk result
         (λ edges. edges.items ≡ path_edges (with_path (paths_of trail.now) (path_of level.now))) }
 {
-    // Room for all of them at once, so that the vector never grows.
-    let mut edges = edges_of(alloc, count, trail)?;
+    let mut edges = room.take_edges();
+    // For all of them at once, so that the vector never grows.
+    edges.reserve(count)?;
+    push_all(&mut edges, trail)?;
     push_edges(&mut edges, level.file, &level.path)?;
     Ok(edges)
 }
@@ -31,7 +34,7 @@ fn edges_with(
 /// Keeps the run of the trail and the level, which has so many edges, where it is complete: its edges, and the node where
 /// it ends. It takes memory for a complete one alone.
 pub fn keep_if(
-    alloc: Global,
+    room: &mut Room<'_>,
     complete: &mut Vec<EdgePath>,
     is_complete: bool,
     trail: &[Level],
@@ -56,7 +59,7 @@ pub fn keep_if(
     let Spot::At(end) = level.at.spot() else {
         return Ok(());
     };
-    let edges = edges_with(alloc, trail, level, count)?;
+    let edges = edges_with(room, trail, level, count)?;
     complete.push(EdgePath { edges, end })?;
     Ok(())
 }

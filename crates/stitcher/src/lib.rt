@@ -13,10 +13,12 @@ mod matching;
 mod note;
 mod open;
 mod query;
+mod room;
 mod stitching;
 mod tally;
 mod trail;
 
 pub use found::{EdgePath, StitchFault, Stitched};
 pub use laws::joined_paths_tell;
+pub use room::Room;
 pub use stitching::stitch;

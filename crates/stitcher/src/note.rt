@@ -13,15 +13,15 @@ use crate::keep::keep_if;
 use crate::landing::is_at_result;
 use crate::open::{Open, push_if};
 use crate::query::Query;
+use crate::room::Room;
 use crate::tally::Tally;
 use crate::trail::Level;
 use partial_path::PathSource;
-use std::alloc::Global;
 
 /// Notes the run of the trail and the level, told whether it is bounded and ends at a cut, and how many edges it has: it is
 /// counted and kept as it lands, and open where more paths are joined to it.
 pub fn note<'a, P: PathSource>(
-    alloc: Global,
+    room: &mut Room<'a>,
     source: &P,
     query: Query,
     trail: &[Level],
@@ -62,13 +62,13 @@ pub fn note<'a, P: PathSource>(
     let complete = is_at_result(source, &level.at);
     tally.count(cut | complete, bounded)?;
     keep_if(
-        alloc,
+        room,
         &mut tally.complete,
         complete & bounded,
         trail,
         &level,
         edges,
     )?;
-    push_if(work, cut & bounded, trail, edges, level)?;
+    push_if(room, work, cut & bounded, trail, edges, level)?;
     Ok(())
 }

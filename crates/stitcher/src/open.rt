@@ -3,6 +3,7 @@ ghost use Rattle.stitcher.specs.Joins.{joined, with_path};
 ghost use Rattle.stitcher.specs.Opens.{opened_at, opens_of, those};
 ghost use Rattle.stitcher.specs.Trail.{paths_of, path_of};
 
+use crate::room::Room;
 use crate::trail::Level;
 use std::alloc::AllocError;
 
@@ -17,9 +18,10 @@ pub struct Open<'a> {
     pub level: Level<'a>,
 }
 
-/// Adds the trail with the level to the open ones, where more paths are joined to it. It takes memory for an open one
-/// alone.
+/// Adds the trail with the level to the open ones, where more paths are joined to it; else its stack is a spare one. It
+/// takes memory for an open one alone.
 pub fn push_if<'a>(
+    room: &mut Room<'a>,
     work: &mut Vec<Open<'a>>,
     goes_on: bool,
     trail: &[Level],
@@ -35,6 +37,7 @@ pub fn push_if<'a>(
     ensures memory { goes_on ≡ false → IsOk result }
 {
     if !goes_on {
+        room.give(level.at.into_symbols());
         return Ok(());
     }
     let depth = trail.len();

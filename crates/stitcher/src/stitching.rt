@@ -13,10 +13,10 @@ use crate::begin::begin;
 use crate::found::{StitchFault, Stitched};
 use crate::laws::cutting_laws;
 use crate::query::Query;
+use crate::room::Room;
 use crate::tally::Tally;
 use partial_path::{Bounds, PathSource, Start};
 use stacks_vars::NodeAt;
-use std::alloc::Global;
 
 /// The bounded complete runs of a reference of the source's files, each once, in no order that is told, and whether
 /// a counted run was left out for its length or depth. It is `Crowded` exactly where more than 8,192 bounded counted
@@ -25,10 +25,11 @@ use std::alloc::Global;
 ///
 /// No edge is followed: stored paths are joined. A path that is offered is matched against the stacks where it would
 /// be joined; only one that applies within the bounds copies them, and once a run past the bounds is known none
-/// beyond them is applied. The memory follows the runs that are still to be gone on from, and the kept ones.
-pub fn stitch<P: PathSource>(
-    alloc: Global,
-    source: &P,
+/// beyond them is applied. The memory follows the runs that are still to be gone on from, and the kept ones; what the
+/// room has of it isn't taken anew.
+pub fn stitch<'a, P: PathSource>(
+    room: &mut Room<'a>,
+    source: &'a P,
     file: u32,
     node: u32,
     bounds: Bounds,
@@ -50,7 +51,7 @@ pub fn stitch<P: PathSource>(
         node: NodeAt { file, node },
         bounds,
     };
-    let tally = join_all(alloc, source, query)?;
+    let tally = join_all(room, source, query)?;
     Ok(Stitched {
         complete: tally.complete,
         limit: tally.limit,
@@ -58,7 +59,11 @@ pub fn stitch<P: PathSource>(
 }
 
 /// Joins paths to the reference until none is left to be joined, and tells what was found.
-fn join_all<P: PathSource>(alloc: Global, source: &P, query: Query) -> Result<Tally, StitchFault>
+fn join_all<'a, P: PathSource>(
+    room: &mut Room<'a>,
+    source: &'a P,
+    query: Query,
+) -> Result<Tally, StitchFault>
     requires begins { start (graphs_of (P.files source.now)) query.node
         ≡ Some (asked (P.files source.now) query).start }
     ensures ended { IfOk result (λ tally. IsEnded (asked (P.files source.now) query) tally) }
@@ -68,15 +73,14 @@ fn join_all<P: PathSource>(alloc: Global, source: &P, query: Query) -> Result<Ta
 {
     cutting_laws();
     are_sources(source, query.node);
-    let mut tally = Tally::new(alloc);
-    let mut trail = Vec::new(alloc);
-    let mut work = Vec::new(alloc);
-    begin(alloc, source, query, &mut work, &mut tally)?;
+    let mut tally = Tally::with(room.take_complete());
+    let mut trail = room.take_trail();
+    let mut work = room.take_work();
+    begin(room, source, query, &mut work, &mut tally)?;
     while let Some(open) = work.pop() {
-        advance(
-            alloc, source, query, open, &mut trail, &mut work, &mut tally,
-        )?;
+        advance(room, source, query, open, &mut trail, &mut work, &mut tally)?;
     }
+    room.keep(trail, work);
     Ok(tally)
 }
 

@@ -3,7 +3,6 @@ ghost use Rattle.partial_path.specs.Limits.{max_runs};
 
 use crate::found::{EdgePath, StitchFault};
 use partial_path::MAX_RUNS;
-use std::alloc::Global;
 
 /// What was found so far.
 #[derive(Debug, Drop)]
@@ -17,14 +16,14 @@ pub struct Tally {
 }
 
 impl Tally {
-    /// Nothing found yet.
-    pub fn new(alloc: Global) -> Tally
-        ensures complete { result.complete.items ≡ [] }
+    /// Nothing found yet but these runs.
+    pub fn with(complete: Vec<EdgePath>) -> Tally
+        ensures complete { result.complete ≡ complete }
         ensures counted { result.counted ≡ 0 }
         ensures limit { result.limit ≡ false }
     {
         Tally {
-            complete: Vec::new(alloc),
+            complete,
             counted: 0,
             limit: false,
         }

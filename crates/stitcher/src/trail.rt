@@ -1,5 +1,5 @@
 //! The paths that are joined at the moment, in their order.
-ghost use Rattle.std.specs.Prelude.{◌≡◌, ◌↔◌, ◌++◌, map, IsTrue, IfOk, All};
+ghost use Rattle.std.specs.Prelude.{◌≡◌, ◌↔◌, ◌++◌, map, IsTrue, IfOk, OnOk, All};
 ghost use Rattle.std.specs.List.{list_any};
 ghost use Rattle.partial_path.specs.Same.{config_eq};
 ghost use Rattle.partial_path.specs.Laws.{IsAtStart};
@@ -8,7 +8,7 @@ ghost use Rattle.stitcher.specs.Trail.{Moves, paths_of, landed_at};
 
 use partial_path::{EdgeAt, LentConfig, Spot, StoredPath};
 use stacks_vars::NodeAt;
-use std::alloc::{AllocError, Global};
+use std::alloc::AllocError;
 
 /// A stored path that was joined, and where it landed.
 #[derive(Drop)]
@@ -53,14 +53,13 @@ pub fn push_edges(
     Ok(())
 }
 
-/// The edges of the paths, in their order, in a vector with room for so many.
-pub fn edges_of(alloc: Global, room: usize, levels: &[Level]) -> Result<Vec<EdgeAt>, AllocError>
+/// Adds the edges of the paths, in their order.
+pub fn push_all(edges: &mut Vec<EdgeAt>, levels: &[Level]) -> Result<(), AllocError>
     requires { All (λ l. Moves l.file l.path) levels.now }
-    ensures { IfOk result (λ edges. edges.items ≡ path_edges (paths_of levels.now)) }
+    ensures { OnOk result (edges.new.items ≡ edges.old.items ++ path_edges (paths_of levels.now)) }
 {
-    let mut edges = Vec::with_capacity(alloc, room)?;
     for level in levels {
-        push_edges(&mut edges, level.file, &level.path)?;
+        push_edges(edges, level.file, &level.path)?;
     }
-    Ok(edges)
+    Ok(())
 }

@@ -12,7 +12,7 @@ use Rattle.stitcher.proofs.advance.advance.Goals as goal
 pub extend-requires-clause-begin : goal.extend-requires-clause-begin
 extend-requires-clause-begin g c =
     let levels : c.deref.result.now ≡ levels_of c.args.trail.now.items c.args.from =
-    c.deref.ensures.value ∙ (c.in_ok-push.ensures.items ∙ ap (λ (ls : List Level). ls ++ c.args.from.level ∷ []) c.truncate.ensures.items) in
+    c.deref.ensures.value ∙ (c.in_ok-push.ensures.items ∙ ap (λ (ls : List Level). ls ++ c.args.from.level ∷ []) c.cut_back.ensures) in
     ap After c.spot.ensures
     ∙ subst (λ (ls : List Level). After c.index.result.now.at.spot ≡ next_start (asked (g.P.PathSource.files c.args.source.now) c.args.query) (joined (paths_of ls) c.index.result.now.at)) (sym levels)
     (begins_behind (asked (g.P.PathSource.files c.args.source.now) c.args.query) c.args.trail.now.items c.args.from c.index.result.now.at)
@@ -25,6 +25,6 @@ extend-requires-clause-few_edges g c =
 pub extend-requires-clause-low : goal.extend-requires-clause-low
 extend-requires-clause-low g c =
     let levels : c.deref.result.now ≡ levels_of c.args.trail.now.items c.args.from =
-    c.deref.ensures.value ∙ (c.in_ok-push.ensures.items ∙ ap (λ (ls : List Level). ls ++ c.args.from.level ∷ []) c.truncate.ensures.items) in
+    c.deref.ensures.value ∙ (c.in_ok-push.ensures.items ∙ ap (λ (ls : List Level). ls ++ c.args.from.level ∷ []) c.cut_back.ensures) in
     subst (λ (ls : List Level). heights (origin (asked (g.P.PathSource.files c.args.source.now) c.args.query)) (paths_of ls) ≤ c.args.query.bounds.depth) (sym levels)
     (open_bounded (asked (g.P.PathSource.files c.args.source.now) c.args.query) c.args.trail.now.items c.args.from c.requires.open).1

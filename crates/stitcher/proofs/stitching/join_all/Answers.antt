@@ -1,7 +1,8 @@
 -- One open run after the other is gone on from; what was found when none is left tells of all runs, and a part that
 -- is too much tells that the reference is crowded.
-use Rattle.std.proofs.Common.{◌≡◌, ◌<◌, ◌-◌, ◌∙◌, ℕ, Err, List, [], take, length, flat_map, append-nil, ap, sym, subst}
+use Rattle.std.proofs.Common.{◌≡◌, ◌<◌, ◌-◌, ◌∙◌, ℕ, Err, List, Vec, Global, [], take, length, flat_map, append-nil, ap, sym, subst}
 use Rattle.std.proofs.lemmas.Result.{err_from_is_err_and}
+use Rattle.stitcher.specs.declared.found.EdgePath.{EdgePath}
 use Rattle.stitcher.specs.declared.found.StitchFault.TheVariants.{Crowded}
 use Rattle.stitcher.specs.declared.open.Open.{Open}
 use Rattle.stitcher.specs.declared.trail.Level.{Level}
@@ -16,16 +17,16 @@ pub returns-in_err-begin-clause-crowded : goal.returns-in_err-begin-clause-crowd
 returns-in_err-begin-clause-crowded g c h =
     let fault = err_from_is_err_and c.from_residual.result c.from_residual.ensures.1 in
     let was : c.begin.result ≡ Err Crowded = cc (fault.1, fault.2, c.in_err-begin.was, h) in
-    too_many_first c.cutting_laws.ensures (asked (g.P.PathSource.files c.args.source.now) c.args.query) c.are_sources.ensures c.requires.begins c.new-tally.result c.new-tally.ensures.counted (c.begin.ensures.crowded was)
+    too_many_first c.cutting_laws.ensures (asked (g.P.PathSource.files c.args.source.now) c.args.query) c.are_sources.ensures c.requires.begins c.with-tally.result c.with-tally.ensures.counted (c.begin.ensures.crowded was)
 
 pub loop-open-init : goal.loop-open-init
 loop-open-init g c =
     let q = asked (g.P.PathSource.files c.args.source.now) c.args.query in record {
-      going = subst (λ (trail : List Level). IsGoing q trail c.begin.new.work.items c.begin.new.tally) (sym c.new-trail.ensures.items)
-          (going_first c.cutting_laws.ensures q c.are_sources.ensures c.requires.begins c.begin.new.work.items c.new-tally.result c.begin.new.tally
-          c.new-tally.ensures.complete c.new-tally.ensures.counted c.new-tally.ensures.limit
-          (subst (λ (ws : List Open). IsExtended q [] (none_joined q) c.new-tally.result c.begin.new.tally ws c.begin.new.work.items) c.new-work.ensures.items c.in_ok-begin.ensures.extended)
-          (subst (λ (ws : List Open). AreAdded q [] ws c.begin.new.work.items) c.new-work.ensures.items c.in_ok-begin.ensures.added));
+      going = subst (λ (trail : List Level). IsGoing q trail c.begin.new.work.items c.begin.new.tally) (sym c.take_trail-trail.ensures)
+          (going_first c.cutting_laws.ensures q c.are_sources.ensures c.requires.begins c.begin.new.work.items c.with-tally.result c.begin.new.tally
+          (ap (λ (runs : Vec EdgePath Global). runs.items) c.with-tally.ensures.complete ∙ c.take_complete.ensures) c.with-tally.ensures.counted c.with-tally.ensures.limit
+          (subst (λ (ws : List Open). IsExtended q [] (none_joined q) c.with-tally.result c.begin.new.tally ws c.begin.new.work.items) c.take_work-work.ensures c.in_ok-begin.ensures.extended)
+          (subst (λ (ws : List Open). AreAdded q [] ws c.begin.new.work.items) c.take_work-work.ensures c.in_ok-begin.ensures.added));
       few = c.in_ok-begin.ensures.few;
     }
 

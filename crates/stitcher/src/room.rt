@@ -1,0 +1,132 @@
+//! Memory that serves one search after another.
+ghost use Rattle.std.specs.Prelude.{◌≡◌, take, []};
+
+use crate::found::EdgePath;
+use crate::open::Open;
+use crate::trail::Level;
+use partial_path::EdgeAt;
+use stacks_vars::LentStack;
+use std::alloc::Global;
+use std::mem;
+
+/// How many spare stacks are kept: as many as the runs of a usual reference need at once.
+const MOST_SPARE: usize = 64;
+
+/// Memory that serves again: the stacks of runs that aren't gone on from any more, and the lists of a search. Whoever asks
+/// many references hands the same room to each search, so that most take no memory. What is found doesn't depend on it.
+#[derive(Drop)]
+pub struct Room<'a> {
+    alloc: Global,
+    spare: Vec<LentStack<'a>>,
+    work: Vec<Open<'a>>,
+    trail: Vec<Level<'a>>,
+    edges: Vec<Vec<EdgeAt>>,
+    complete: Vec<EdgePath>,
+}
+
+impl<'a> Room<'a> {
+    ghost use Rattle.std.specs.Prelude.{◌≡◌, []};
+
+    /// No room yet. It takes no memory.
+    pub fn new(alloc: Global) -> Room<'a> {
+        Room {
+            alloc,
+            spare: Vec::new(alloc),
+            work: Vec::new(alloc),
+            trail: Vec::new(alloc),
+            edges: Vec::new(alloc),
+            complete: Vec::new(alloc),
+        }
+    }
+
+    /// Where memory is taken from.
+    pub fn alloc(&self) -> Global {
+        self.alloc
+    }
+
+    /// A stack to be written over: a spare one, where there is one.
+    pub(crate) fn take(&mut self) -> LentStack<'a> {
+        match self.spare.pop() {
+            Some(stack) => stack,
+            None => LentStack::new(self.alloc),
+        }
+    }
+
+    /// Keeps the stack as a spare one, unless there are enough or memory is refused.
+    pub(crate) fn give(&mut self, stack: LentStack<'a>) {
+        if self.spare.len() < MOST_SPARE {
+            let _kept = self.spare.push(stack);
+        }
+    }
+
+    /// The list of open runs, with none in it.
+    pub(crate) fn take_work(&mut self) -> Vec<Open<'a>>
+        ensures { result.items ≡ [] }
+    {
+        let mut work = mem::replace(&mut self.work, Vec::new(self.alloc));
+        work.clear();
+        work
+    }
+
+    /// The list of joined paths, with none in it.
+    pub(crate) fn take_trail(&mut self) -> Vec<Level<'a>>
+        ensures { result.items ≡ [] }
+    {
+        let mut trail = mem::replace(&mut self.trail, Vec::new(self.alloc));
+        trail.clear();
+        trail
+    }
+
+    /// A list of edges, with none in it: a spare one, where there is one.
+    pub(crate) fn take_edges(&mut self) -> Vec<EdgeAt>
+        ensures { result.items ≡ [] }
+    {
+        match self.edges.pop() {
+            Some(edges) => {
+                let mut edges = edges;
+                edges.clear();
+                edges
+            }
+            None => Vec::new(self.alloc),
+        }
+    }
+
+    /// The list of complete runs, with none in it.
+    pub(crate) fn take_complete(&mut self) -> Vec<EdgePath>
+        ensures { result.items ≡ [] }
+    {
+        let mut complete = mem::replace(&mut self.complete, Vec::new(self.alloc));
+        complete.clear();
+        complete
+    }
+
+    /// Keeps the lists of runs that were told and aren't needed any more.
+    pub fn give_back(&mut self, runs: Vec<EdgePath>) {
+        let mut runs = runs;
+        while let Some(run) = runs.pop() {
+            if self.edges.len() < MOST_SPARE {
+                let _kept = self.edges.push(run.edges);
+            }
+        }
+        self.complete = runs;
+    }
+
+    /// Keeps the lists of a search, and the stacks of its last runs.
+    pub(crate) fn keep(&mut self, trail: Vec<Level<'a>>, work: Vec<Open<'a>>) {
+        let mut trail = trail;
+        cut_back(self, &mut trail, 0);
+        self.trail = trail;
+        self.work = work;
+    }
+}
+
+/// Cuts the trail back to so many levels. The stacks of the others are spare ones then.
+pub fn cut_back<'a>(room: &mut Room<'a>, trail: &mut Vec<Level<'a>>, depth: usize)
+    ensures { trail.new.items ≡ take depth trail.old.items }
+{
+    while trail.len() > depth {
+        if let Some(level) = trail.pop() {
+            room.give(level.at.into_symbols());
+        }
+    }
+}
