@@ -9,4 +9,6 @@ mod counted;
 #[cfg(test)]
 mod doors;
 #[cfg(test)]
+mod kept_documents;
+#[cfg(test)]
 mod made_trees;

@@ -65,7 +65,7 @@ answered_more requests all request reply a b c e done g h r =
 
 -- the operator named itself
 pub goes_nowhere : (m : Moment) → GoesOn m m
-goes_nowhere m = record { seat = refl; begins = ([], append-nil m.log) }
+goes_nowhere m = record { seat = refl; begins = ([], append-nil m.log); keeps = refl }
 
 pub answered_first : (request first : Request) (reply : Reply) (a b : Moment) → request ≡ first → HasItsView a.desk a.log a.pin
     → GoesOn a b → RepliesTo request a b reply → Answered (first ∷ []) a b

@@ -5,7 +5,7 @@ use Rattle.std.specs.List.{list_any}
 use Rattle.version_tree.specs.declared.entry.Entry.{Entry}
 use Rattle.shared_board.specs.Seats.{Holder, AreSeats, HaveLearnt, IsLogOfAll, last_log}
 use Rattle.nav_doors.specs.declared.place.Place.{Place}
-use Rattle.nav_session.specs.Desks.{OnDesk}
+use Rattle.nav_session.specs.Desks.{OnDesk, share}
 use Rattle.nav_session.specs.Serving.{standing}
 use Rattle.nav_doors.specs.Connections.{Outside, ServesDoor}
 use Rattle.nav_doors.specs.Inside.{ServesPlace, doors_of, seats_of, statuses_of}
@@ -57,20 +57,20 @@ some_at f (x ∷ xs) zero y e = (x, omega arith)
 some_at f (x ∷ xs) (suc n) y e = let r = some_at f xs n y e in (r.0, omega (arith, r.1))
 
 -- what came of a place, as its parts are named
-moved : {D S K B : Type 0} (o : Outside D S K) (name : B → ℕ) (log : B → List Entry) (most : ℕ) (p q : Place D B) (door door' : D) (seat seat' : B) (status : ℕ)
-    → ServesPlace o name log most p q → p.door ≡ door → q.door ≡ door' → p.seat ≡ seat → q.seat ≡ seat' → q.status ≡ status
-    → ServesFromEmptyDesk o (name seat) most door door' (log seat) (log seat') status
-moved {D} {S} {K} {B} o name log most p q door door' seat seat' status h e1 e2 e3 e4 e5 =
-    subst (λ (w : ℕ). ServesFromEmptyDesk o (name seat) most door door' (log seat) (log seat') w) e5
-    (subst (λ (w : B). ServesFromEmptyDesk o (name seat) most door door' (log seat) (log w) q.status) e4
-    (subst (λ (w : B). ServesFromEmptyDesk o (name w) most door door' (log w) (log q.seat) q.status) e3
-    (subst (λ (w : D). ServesFromEmptyDesk o (name p.seat) most door w (log p.seat) (log q.seat) q.status) e2
-    (subst (λ (w : D). ServesFromEmptyDesk o (name p.seat) most w q.door (log p.seat) (log q.seat) q.status) e1 h.door))))
+moved : {D S K B : Type 0} (o : Outside D S K) (name : B → ℕ) (log : B → List Entry) (keeps most : ℕ) (p q : Place D B) (door door' : D) (seat seat' : B) (status : ℕ)
+    → ServesPlace o name log keeps most p q → p.door ≡ door → q.door ≡ door' → p.seat ≡ seat → q.seat ≡ seat' → q.status ≡ status
+    → ServesFromEmptyDesk o (name seat) keeps most door door' (log seat) (log seat') status
+moved {D} {S} {K} {B} o name log keeps most p q door door' seat seat' status h e1 e2 e3 e4 e5 =
+    subst (λ (w : ℕ). ServesFromEmptyDesk o (name seat) keeps most door door' (log seat) (log seat') w) e5
+    (subst (λ (w : B). ServesFromEmptyDesk o (name seat) keeps most door door' (log seat) (log w) q.status) e4
+    (subst (λ (w : B). ServesFromEmptyDesk o (name w) keeps most door door' (log w) (log q.seat) q.status) e3
+    (subst (λ (w : D). ServesFromEmptyDesk o (name p.seat) keeps most door w (log p.seat) (log q.seat) q.status) e2
+    (subst (λ (w : D). ServesFromEmptyDesk o (name p.seat) keeps most w q.door (log p.seat) (log q.seat) q.status) e1 h.door))))
 
 -- what came of all places
 pub served_places : {D S K B : Type 0} (o : Outside D S K) (name : B → ℕ) (log : B → List Entry) (most : ℕ) (old new : List (Place D B))
     → length new ≡ length old
-    → ((i : ℕ) (d : Place D B) → i < length old → ServesPlace o name log most (slice_index_or old i d) (slice_index_or new i d))
+    → ((i : ℕ) (d : Place D B) → i < length old → ServesPlace o name log (share (length old)) most (slice_index_or old i d) (slice_index_or new i d))
     → ServesDoors o name log most (doors_of old) (doors_of new) (seats_of old) (seats_of new) (status_of_all (statuses_of new))
 served_places {D} {S} {K} {B} o name log most old new long each = record {
   told = statuses_of new;
@@ -79,10 +79,12 @@ served_places {D} {S} {K} {B} o name log most old new long each = record {
   all_seats = length_of (λ (p : Place D B). p.seat) new ∙ (long ∙ sym (length_of (λ (p : Place D B). p.seat) old));
   each = λ n door door' seat seat' status e1 e2 e3 e4 e5.
       let r = some_at (λ (p : Place D B). p.door) old n door e1 in
-      moved o name log most (slice_index_or old n r.0) (slice_index_or new n r.0) door door' seat seat' status (each n r.0 r.1)
+      subst (λ (k : ℕ). ServesFromEmptyDesk o (name seat) (share k) most door door' (log seat) (log seat') status)
+      (sym (length_of (λ (p : Place D B). p.door) old))
+      (moved o name log (share (length old)) most (slice_index_or old n r.0) (slice_index_or new n r.0) door door' seat seat' status (each n r.0 r.1)
       (image_at (λ (p : Place D B). p.door) old n door e1 r.0) (image_at (λ (p : Place D B). p.door) new n door' e2 r.0)
       (image_at (λ (p : Place D B). p.seat) old n seat e3 r.0) (image_at (λ (p : Place D B). p.seat) new n seat' e4 r.0)
-      (image_at (λ (p : Place D B). p.status) new n status e5 r.0);
+      (image_at (λ (p : Place D B). p.status) new n status e5 r.0));
   names = λ n seat seat' e3 e4.
       let r = some_at (λ (p : Place D B). p.seat) old n seat e3 in
       let h = each n r.0 r.1 in
@@ -94,7 +96,7 @@ served_places {D} {S} {K} {B} o name log most old new long each = record {
 pub served_all : {D S K B : Type 0} (o : Outside D S K) (name : B → ℕ) (log : B → List Entry) (most : ℕ) (old new : List (Place D B))
     (doors doors' : List D) (seats seats' : List B) (status : ℕ)
     → length new ≡ length old
-    → ((i : ℕ) (d : Place D B) → i < length old → ServesPlace o name log most (slice_index_or old i d) (slice_index_or new i d))
+    → ((i : ℕ) (d : Place D B) → i < length old → ServesPlace o name log (share (length old)) most (slice_index_or old i d) (slice_index_or new i d))
     → doors_of old ≡ doors → seats_of old ≡ seats → doors' ≡ doors_of new → seats' ≡ seats_of new → status ≡ status_of_all (statuses_of new)
     → ServesDoors o name log most doors doors' seats seats' status
 served_all {D} {S} {K} {B} o name log most old new doors doors' seats seats' status long each e1 e2 e3 e4 e5 =
@@ -150,13 +152,13 @@ not_tied o most doors doors' seats ended seats' looped s learnt = record {
 }
 
 -- a door's loop on a desk that was made for it
-pub from_empty : {D S K : Type 0} (o : Outside D S K) (seat most : ℕ) (door door' : D) (log log' : List Entry) (desk desk' : OnDesk) (status : ℕ)
-    → desk ≡ record { store = []; user = None; view = None }
-    → ServesDoor o seat most door door' (standing log desk.store) (standing log' desk'.store) status
-    → ServesFromEmptyDesk o seat most door door' log log' status
-from_empty o seat most door door' log log' desk desk' status empty served = record {
-  after = standing log' desk'.store;
-  served = subst (λ (d : OnDesk). ServesDoor o seat most door door' (standing log d.store) (standing log' desk'.store) status) empty served;
+pub from_empty : {D S K : Type 0} (o : Outside D S K) (seat keeps most : ℕ) (door door' : D) (log log' : List Entry) (desk desk' : OnDesk) (status : ℕ)
+    → desk ≡ record { store = []; user = None; view = None; keeps = keeps }
+    → ServesDoor o seat most door door' (standing log desk) (standing log' desk') status
+    → ServesFromEmptyDesk o seat keeps most door door' log log' status
+from_empty o seat keeps most door door' log log' desk desk' status empty served = record {
+  after = standing log' desk';
+  served = subst (λ (d : OnDesk). ServesDoor o seat most door door' (standing log d) (standing log' desk') status) empty served;
   seen = refl;
 }
 

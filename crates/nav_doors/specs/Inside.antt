@@ -37,7 +37,7 @@ seats_of places = map (λ p. p.seat) places
 abbrev pub statuses_of : {D B : Type 0} → List (Place D B) → List ℕ
 statuses_of places = map (λ p. p.status) places
 
--- the place's door was served for its seat, which keeps its name
-pub record ServesPlace {D S K B : Type 0} (o : Outside D S K) (name : B → ℕ) (log : B → List Entry) (most : ℕ) (p q : Place D B) : Type 0 where
-  pub door : ServesFromEmptyDesk o (name p.seat) most p.door q.door (log p.seat) (log q.seat) q.status
+-- the place's door was served for its seat, which keeps its name, on a desk that keeps so much
+pub record ServesPlace {D S K B : Type 0} (o : Outside D S K) (name : B → ℕ) (log : B → List Entry) (keeps most : ℕ) (p q : Place D B) : Type 0 where
+  pub door : ServesFromEmptyDesk o (name p.seat) keeps most p.door q.door (log p.seat) (log q.seat) q.status
   pub seat : name q.seat ≡ name p.seat

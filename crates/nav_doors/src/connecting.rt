@@ -27,12 +27,12 @@ pub(crate) fn serve_next<R: Threads + Sync, B: Commits<R>, D: Door, G: Gate + Sy
     ensures served { IfOk result (λ status. ServesNext
         (outside D.gave D.got_back D.faults D.S.left D.S.faults D.K.held D.K.faults)
         (B.seat seat.old) door.old door.new
-        (standing (B.log seat.old) desk.old.store)
-        (standing (B.log seat.new) desk.new.store) status) }
+        (standing (B.log seat.old) desk.old)
+        (standing (B.log seat.new) desk.new) status) }
     ensures failed { OnErr result (FailsNext
         (outside D.gave D.got_back D.faults D.S.left D.S.faults D.K.held D.K.faults)
         door.old door.new
-        (standing (B.log seat.old) desk.old.store) (standing (B.log seat.new) desk.new.store)) }
+        (standing (B.log seat.old) desk.old) (standing (B.log seat.new) desk.new)) }
     ensures seat { B.seat seat.new ≡ B.seat seat.old }
 {
     let (mut source, mut sink) = door.accept()?;

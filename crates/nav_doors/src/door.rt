@@ -40,8 +40,8 @@ pub fn serve_door<R: Threads + Sync, B: Commits<R>, D: Door, G: Gate + Sync, L: 
     ensures served { ServesDoor
         (outside D.gave D.got_back D.faults D.S.left D.S.faults D.K.held D.K.faults)
         (B.seat seat.old) connections door.old door.new
-        (standing (B.log seat.old) desk.old.store)
-        (standing (B.log seat.new) desk.new.store) result }
+        (standing (B.log seat.old) desk.old)
+        (standing (B.log seat.new) desk.new) result }
     ensures seat { B.seat seat.new ≡ B.seat seat.old }
 {
     for _ in 0..connections {

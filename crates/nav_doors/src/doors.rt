@@ -1,6 +1,7 @@
 //! The loops of all doors, each on a thread of its own, so that a slow client holds up its own door alone.
-ghost use Rattle.std.specs.Prelude.{◌≡◌, ◌==◌, ◌<◌, ◌⊎◌, ℕ, None, length, vec_len, slice_index_or, IfSome, OnOk, OnErr};
+ghost use Rattle.std.specs.Prelude.{◌≡◌, ◌==◌, ◌<◌, ◌≤◌, ◌⊎◌, ℕ, None, length, vec_len, slice_index_or, IfSome, OnOk, OnErr};
 ghost use Rattle.std.specs.List.{list_any};
+ghost use Rattle.nav_session.specs.Desks.{share};
 ghost use Rattle.nav_doors.specs.Connections.{outside};
 ghost use Rattle.nav_doors.specs.Inside.{ServesPlace};
 ghost use Rattle.nav_doors.specs.Doors.{ServesDoors, ServesFromEmptyDesk, ServesTied, IsRefused, worst};
@@ -21,46 +22,53 @@ use std::thread;
 use std::thread::Threads;
 use version_board::Commits;
 
-/// The status stays with the place, since a thread hands nothing back.
+/// Serves one of so many doors. The status stays with the place, since a thread hands nothing back.
 fn serve_place<R: Threads + Sync, B: Commits<R> + Drop, D: Door + Drop>(
     rt: &R,
     alloc: Global,
     place: &mut Place<D, B>,
+    doors: u64,
     connections: u32,
 )
+    requires { 1 ≤ doors }
     ensures { ServesPlace
         (outside D.gave D.got_back D.faults D.S.left D.S.faults D.K.held D.K.faults)
-        B.seat B.log connections place.old place.new }
+        B.seat B.log (share doors) connections place.old place.new }
 {
     place.status = serve_counted::<R, B, D, Brand>(
         rt,
         alloc,
         &mut place.door,
         &mut place.seat,
+        doors,
         connections,
         Blank::new(1),
     );
 }
 
-/// Steps are counted on a ledger for this door alone, whose name the caller picks; nobody reads them.
+/// The desk has this door's part of what the desks of all doors keep together. Steps are counted on a ledger for this
+/// door alone, whose name the caller picks; nobody reads them.
 fn serve_counted<R: Threads + Sync, B: Commits<R>, D: Door, L: Ledger>(
     rt: &R,
     alloc: Global,
     door: &mut D,
     seat: &mut B,
+    doors: u64,
     connections: u32,
     blank: Blank,
 ) -> u8
+    requires doors { 1 ≤ doors }
     requires name { blank.name ≡ L.name }
     requires parts { blank.parts ≡ L.parts }
     requires some { 0 < blank.parts }
     ensures served { ServesFromEmptyDesk
         (outside D.gave D.got_back D.faults D.S.left D.S.faults D.K.held D.K.faults)
-        (B.seat seat.old) connections door.old door.new (B.log seat.old) (B.log seat.new) result }
+        (B.seat seat.old) (share doors) connections door.old door.new (B.log seat.old)
+        (B.log seat.new) result }
     ensures seat { B.seat seat.new ≡ B.seat seat.old }
 {
     let mut steps = Steps::<L>::new(blank);
-    let mut desk = Desk::new(alloc);
+    let mut desk = Desk::sharing(alloc, doors);
     serve_door(
         rt,
         alloc,
@@ -86,15 +94,19 @@ where
     ensures len { length places.new ≡ length places.old }
     ensures each { (i : ℕ) (d : _) → i < length places.old → ServesPlace
         (outside D.gave D.got_back D.faults D.S.left D.S.faults D.K.held D.K.faults)
-        B.seat B.log connections (slice_index_or places.old i d) (slice_index_or places.new i d) }
+        B.seat B.log (share (length places.old)) connections
+        (slice_index_or places.old i d) (slice_index_or places.new i d) }
 {
     let threads = places.len();
     if threads > 0 {
+        let doors = threads as u64;
         thread::for_each_mut(
             rt,
             places,
             threads,
-            &|_, place| serve_place(rt, alloc, place, connections),
+            &|_, place|
+                requires { 1 ≤ doors }
+            { serve_place(rt, alloc, place, doors, connections) },
         );
     }
 }
@@ -150,7 +162,8 @@ where
 }
 
 /// Serves all doors, each for the seat that stands where it does, with so many connections each, and then brings the
-/// seats together. The seats are all seats of a board, in the order of their names.
+/// seats together. The seats are all seats of a board, in the order of their names. The desks of all doors together keep
+/// at most as much as the desk of one session that shares with none.
 ///
 /// Each door is served as `serve_door` does it, on a thread of its own where one can be made; where none can be made the
 /// doors are served one after the other. A fault of one door, or of a connection of it, leaves the others as they are.

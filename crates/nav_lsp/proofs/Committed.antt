@@ -49,7 +49,7 @@ commits_one seat log seen pin edit reply seen' pin' user user' accepted e told h
     }
 
 -- what is left once the documents went costs nothing
-pub lets_go : (old new : OnDesk) → new ≡ record { store = swept 0 old.store; user = old.user; view = old.view } → cost_of new.store ≡ 0
+pub lets_go : (old new : OnDesk) → new ≡ record old { store = swept 0 old.store } → cost_of new.store ≡ 0
 lets_go old new is =
     let few : cost_of (swept 0 old.store) ≤ 0 = fits 0 old.store in
     let same : cost_of new.store ≡ cost_of (swept 0 old.store) = ap (λ (d : OnDesk). cost_of d.store) is in

@@ -12,6 +12,7 @@ use Rattle.lsp_messages.specs.Ends.{status_of}
 use Rattle.lsp_messages.specs.Inputs.{is_exit}
 use Rattle.lsp_messages.specs.Turns.{ReadsFrame, ReadsNext}
 use Rattle.nav_session.specs.Sessions.{Sees}
+use Rattle.nav_session.specs.Desks.{max_cost}
 use Rattle.nav_lsp.specs.declared.editor.Editor.{Editor}
 use Rattle.nav_lsp.specs.declared.phase.Phase.TheVariants as phase
 use Rattle.nav_lsp.specs.declared.serving.End.{End}
@@ -26,7 +27,7 @@ pub record IsFresh (held : Editor) : Type 0 where
   pub phase : held.phase ≡ phase.Before
   pub root : held.root.items ≡ []
   pub texts : AreSame no_texts (texts_in held.texts)
-  pub desk : held.desk ≡ record { store = []; user = None; view = None }
+  pub desk : held.desk ≡ record { store = []; user = None; view = None; keeps = max_cost }
   pub view : held.view ≡ None
 
 -- what is seen between two messages: the seat, what it has seen of the log and how much of it is pinned, what the editor's

@@ -2,6 +2,7 @@
 ghost use Rattle.std.specs.Prelude.{◌≡◌, [], None, Some, IfOk, IfSome};
 ghost use Rattle.lsp_texts.specs.Texts.{AreSame, no_texts, texts_in};
 ghost use Rattle.version_tree.specs.Contents.{granted_rows};
+ghost use Rattle.nav_session.specs.Desks.{max_cost};
 ghost use Rattle.nav_lsp.specs.declared.phase.Phase.TheVariants as phase;
 ghost use Rattle.nav_lsp.specs.Editing.{operator};
 
@@ -33,7 +34,7 @@ impl Editor {
         ensures phase { result.phase ≡ phase.Before }
         ensures root { result.root.items ≡ [] }
         ensures texts { AreSame no_texts (texts_in result.texts) }
-        ensures desk { result.desk ≡ record { store = []; user = None; view = None } }
+        ensures desk { result.desk ≡ record { store = []; user = None; view = None; keeps = max_cost } }
         ensures view { result.view ≡ None }
     {
         Editor {

@@ -80,7 +80,7 @@ impl<B: Pins, K: Link> Polled<B, K> {
             (start_at (B.seat board) (B.log board) (K.held link) (K.left link))
             (seen B.seat B.log B.pin_at K.left K.held p)) }
         ensures begins { IfOk result (λ p. p ≡ record {
-          desk = record { store = desk.store; user = None; view = None };
+          desk = record { store = desk.store; user = None; view = None; keeps = desk.keeps };
           board = board;
           link = link;
           reader = record { front = []; ended = false };
@@ -90,7 +90,7 @@ impl<B: Pins, K: Link> Polled<B, K> {
           ended = None;
         }) }
         ensures back { IfErr result (λ parts. parts ≡ record {
-          desk = record { store = desk.store; user = None; view = None };
+          desk = record { store = desk.store; user = None; view = None; keeps = desk.keeps };
           board = board;
           link = link;
         }) }

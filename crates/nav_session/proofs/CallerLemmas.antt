@@ -13,7 +13,7 @@ use Rattle.nav_session.proofs.UnderWay.{stops_first}
 
 -- a session that is refused memory before it begins
 pub served_nothing : (seat : ℕ) (log : List Entry) (left held : Option (List ℕ)) → Serves seat log log left left held held 5
-served_nothing seat log left held = (stops_first (moment seat log 0 (record { store = []; user = None; view = None })) left held refl refl).served
+served_nothing seat log left held = (stops_first (moment seat log 0 (record { store = []; user = None; view = None; keeps = 0 })) left held refl refl).served
 
 -- the reply that is due over a log is due over each longer one
 pub answered_later : (seat : ℕ) (log log' : List Entry) (before : Session) (request : Request) (reply : Reply) (after : Session)
@@ -23,4 +23,8 @@ answered_later seat log log' before request reply after (more, e) h =
 
 -- a session that goes on to one moment and from there to another
 pub goes_further : (a b c : Moment) → GoesOn a b → GoesOn b c → GoesOn a c
-goes_further a b c g h = record { seat = h.seat ∙ g.seat; begins = begins_after a.log b.log c.log g.begins h.begins }
+goes_further a b c g h = record {
+  seat = h.seat ∙ g.seat;
+  begins = begins_after a.log b.log c.log g.begins h.begins;
+  keeps = h.keeps ∙ g.keeps;
+}

@@ -22,7 +22,7 @@ use Rattle.nav_proto.specs.declared.reply.PlainError.{PlainError}
 use Rattle.nav_session.specs.BadFiles.{file_error}
 use Rattle.nav_session.specs.Requests.{docs_in, edits_with}
 use Rattle.nav_session.specs.Sessions.{IfOperator, IsCommitted, IsJudged, asker_of}
-use Rattle.nav_session.specs.Desks.{Moment, OnDesk, AddsDocs, HasItsView, Replies, is_accepted, is_indexed, max_cost, moment, session_at, session_of}
+use Rattle.nav_session.specs.Desks.{Moment, OnDesk, AddsDocs, HasItsView, Replies, is_accepted, is_indexed, moment, session_at, session_of}
 use Rattle.version_board.specs.Logs.{own}
 use Rattle.nav_session.specs.Inside.{CommitsAs, PutsIn, change_refusal, draft_of, filled}
 use Rattle.nav_session.proofs.Asked.{operator_by, refused_change}
@@ -52,37 +52,37 @@ bad_document m base edits docs path why told is_docs is h =
     (subst (λ (ds : List Doc). IsFirstFault ds path why) is_docs (subst (λ (f : IndexFault). HasCause docs f) is h))
 
 -- a commit whose documents have these files comes before the board
-pub judged : (seat : ℕ) (log : List Entry) (pin : ℕ) (s mid : List Kept) (user : Option (List ℕ)) (view : Option (List FileRow)) (new : Moment)
+pub judged : (seat : ℕ) (log : List Entry) (pin : ℕ) (s mid : List Kept) (user : Option (List ℕ)) (view : Option (List FileRow)) (keeps : ℕ) (new : Moment)
     (base : Option ℕ) (edits : List FileEdit) (files : List FileRules) (reply : Reply)
     → AreFilesOf (docs_in edits) files → AddsMissing (docs_in edits) s mid
-    → PutsIn base (filled (map draft_of edits) files) (moment seat log pin (record { store = mid; user = user; view = view })) new reply
-    → CommitsAs base edits (moment seat log pin (record { store = s; user = user; view = view })) new reply
-judged seat log pin s mid user view new base edits files reply are adds p = record {
+    → PutsIn base (filled (map draft_of edits) files) (moment seat log pin (record { store = mid; user = user; view = view; keeps = keeps })) new reply
+    → CommitsAs base edits (moment seat log pin (record { store = s; user = user; view = view; keeps = keeps })) new reply
+judged seat log pin s mid user view keeps new base edits files reply are adds p = record {
   committed = λ u e. inr (record {
     files = files;
     indexed = are;
     judged = subst (λ (es : List Edit). IsJudged seat new.log (length log) (asker_of pin u) base es reply (session_of new)) (filled_edits edits files) (p.judged u e);
   });
   no_entry = p.no_entry;
-  store = subst (λ (b : Bool). MatchBool b (AddsDocs (docs_in edits) reply s new.desk.store) (new.desk.store ≡ s)) (sym p.indexed)
+  store = subst (λ (b : Bool). MatchBool b (AddsDocs keeps (docs_in edits) reply s new.desk.store) (new.desk.store ≡ s)) (sym p.indexed)
       (record { all = mid; adds = adds; kept = p.kept });
   view = inl p.no_view;
 }
 
 -- the same where the documents and the drafts were taken out of the edits
-pub judged_docs : {E : Type 0} (seat : ℕ) (log : List Entry) (pin : ℕ) (desk : OnDesk) (s mid : List Kept) (user : Option (List ℕ)) (view : Option (List FileRow)) (new : Moment)
+pub judged_docs : {E : Type 0} (seat : ℕ) (log : List Entry) (pin : ℕ) (desk : OnDesk) (s mid : List Kept) (user : Option (List ℕ)) (view : Option (List FileRow)) (keeps : ℕ) (new : Moment)
     (base : Option ℕ) (edits : List FileEdit) (docs : List Doc) (drafts : List Draft) (files : List FileRules) (r : Result Reply E)
-    → desk ≡ record { store = s; user = user; view = view } → docs ≡ docs_in edits → drafts ≡ map draft_of edits
+    → desk ≡ record { store = s; user = user; view = view; keeps = keeps } → docs ≡ docs_in edits → drafts ≡ map draft_of edits
     → AreFilesOf docs files → AddsMissing docs s mid
-    → IfOk r (PutsIn base (filled drafts files) (moment seat log pin (record { store = mid; user = user; view = view })) new)
+    → IfOk r (PutsIn base (filled drafts files) (moment seat log pin (record { store = mid; user = user; view = view; keeps = keeps })) new)
     → IfOk r (CommitsAs base edits (moment seat log pin desk) new)
-judged_docs seat log pin desk s mid user view new base edits docs drafts files (Err e) is_desk is_docs is_drafts are adds p = tt
-judged_docs seat log pin desk s mid user view new base edits docs drafts files (Ok reply) is_desk is_docs is_drafts are adds p =
+judged_docs seat log pin desk s mid user view keeps new base edits docs drafts files (Err e) is_desk is_docs is_drafts are adds p = tt
+judged_docs seat log pin desk s mid user view keeps new base edits docs drafts files (Ok reply) is_desk is_docs is_drafts are adds p =
     subst (λ (d : OnDesk). CommitsAs base edits (moment seat log pin d) new reply) (sym is_desk)
-    (judged seat log pin s mid user view new base edits files reply
+    (judged seat log pin s mid user view keeps new base edits files reply
     (subst (λ (ds : List Doc). AreFilesOf ds files) is_docs are)
     (subst (λ (ds : List Doc). AddsMissing ds s mid) is_docs adds)
-    (subst (λ (ds : List Draft). PutsIn base (filled ds files) (moment seat log pin (record { store = mid; user = user; view = view })) new reply) is_drafts p))
+    (subst (λ (ds : List Draft). PutsIn base (filled ds files) (moment seat log pin (record { store = mid; user = user; view = view; keeps = keeps })) new reply) is_drafts p))
 
 -- what is kept of a view is still the user's
 view_kept : (old new : Moment) → HasItsView old.desk old.log old.pin
@@ -136,8 +136,8 @@ pub swept_after : (seat seat' : ℕ) (log log' : List Entry) (pin pin' : ℕ) (d
     → given ≡ edits
     → ((user : List ℕ) → desk.user ≡ Some user → IsJudged seat log' (length log) (asker_of pin user) base given reply (session_at (length log') pin' mid.user))
     → (is_accepted reply ≡ false → own seat log' ≡ own seat log) → is_indexed reply ≡ true
-    → mid ≡ record { store = desk.store; user = desk.user; view = None }
-    → new ≡ record { store = if is_accepted reply then swept max_cost mid.store else mid.store; user = mid.user; view = mid.view }
+    → mid ≡ record desk { view = None }
+    → new ≡ record mid { store = if is_accepted reply then swept mid.keeps mid.store else mid.store }
     → PutsIn base edits (moment seat log pin desk) (moment seat' log' pin' new) reply
 swept_after seat seat' log log' pin pin' desk mid new base given edits reply same judged no_entry indexed is_mid is_new =
     subst (λ (d : OnDesk). PutsIn base edits (moment seat log pin desk) (moment seat' log' pin' d) reply) (sym is_new)
@@ -145,7 +145,8 @@ swept_after seat seat' log log' pin pin' desk mid new base given edits reply sam
       judged = λ u e. subst (λ (es : List Edit). IsJudged seat log' (length log) (asker_of pin u) base es reply (session_at (length log') pin' mid.user)) same (judged u e);
       no_entry = no_entry;
       indexed = indexed;
-      kept = ap (λ (ks : List Kept). if is_accepted reply then swept max_cost ks else ks) (ap (λ (d : OnDesk). d.store) is_mid);
+      kept = ap (λ (d : OnDesk). if is_accepted reply then swept d.keeps d.store else d.store) is_mid;
       user = ap (λ (d : OnDesk). d.user) is_mid;
+      keeps = ap (λ (d : OnDesk). d.keeps) is_mid;
       no_view = ap (λ (d : OnDesk). d.view) is_mid;
     })

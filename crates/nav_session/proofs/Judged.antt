@@ -97,8 +97,8 @@ refused seat log log' user pin pin' base edits fault o l r p e =
     })
 
 pub extended_moment : (seat seat' : ℕ) (base : Option ℕ) (edits : List Edit) (log log' : List Entry) (pin pin' : ℕ) (desk desk' : OnDesk)
-    → seat' ≡ seat → IsExtended seat base edits log log' → GoesOn (moment seat log pin desk) (moment seat' log' pin' desk')
-extended_moment seat seat' base edits log log' pin pin' desk desk' e x = record { seat = e; begins = extended_goes_on seat base edits log log' x }
+    → seat' ≡ seat → IsExtended seat base edits log log' → desk'.keeps ≡ desk.keeps → GoesOn (moment seat log pin desk) (moment seat' log' pin' desk')
+extended_moment seat seat' base edits log log' pin pin' desk desk' e x same = record { seat = e; begins = extended_goes_on seat base edits log log' x; keeps = same }
 
 -- a commit that edits refuse had its documents indexed
 pub edits_indexed : (fault : EditFault) → is_indexed (edit_reply fault) ≡ true

@@ -12,7 +12,7 @@ use Rattle.nav_session.specs.Requests.{docs_in}
 use Rattle.nav_session.specs.declared.halt.Halt.{Halt}
 use Rattle.nav_session.specs.declared.halt.Halt.TheVariants.{SourceFailed, SinkFailed, NoMemory, LongLine}
 use Rattle.nav_session.specs.Halts.{status_of}
-use Rattle.nav_session.specs.Desks.{AddsDocs, AddsOnly, AreKept, KeepsDocs, KeepsDocsOf, is_accepted, is_indexed, max_cost}
+use Rattle.nav_session.specs.Desks.{AddsDocs, AddsOnly, AreKept, KeepsDocs, KeepsDocsOf, is_accepted, is_indexed}
 use Rattle.nav_session.specs.Turns.{LeavesStore}
 
 swept_if : (b : Bool) (k : Kept) (ks rest : List Kept) → AreIndexed (k ∷ ks) → AreIndexed rest → AreIndexed (cond b (k ∷ ks) rest)
@@ -56,32 +56,32 @@ stays_by LongLine old new h other = h
 stays_by NoMemory old new h other = absurd (other refl)
 
 -- one line more
-pub kept_more : (lines : List (List ℕ)) (replies : List Reply) (line : List ℕ) (reply : Reply) (a b c : List Kept)
-    → AreKept lines replies a b → KeepsDocsOf (request_from line) reply b c → AreKept (lines ++ line ∷ []) (replies ++ reply ∷ []) a c
-kept_more [] [] line reply a b c h one = (c, subst (λ (ks : List Kept). KeepsDocsOf (request_from line) reply ks c) h one, refl)
-kept_more [] (r ∷ replies) line reply a b c h one = absurd h
-kept_more (l ∷ lines) [] line reply a b c h one = absurd h
-kept_more (l ∷ lines) (r ∷ replies) line reply a b c h one = (h.0, h.1, kept_more lines replies line reply h.0 b c h.2 one)
+pub kept_more : (keeps : ℕ) (lines : List (List ℕ)) (replies : List Reply) (line : List ℕ) (reply : Reply) (a b c : List Kept)
+    → AreKept keeps lines replies a b → KeepsDocsOf keeps (request_from line) reply b c → AreKept keeps (lines ++ line ∷ []) (replies ++ reply ∷ []) a c
+kept_more keeps [] [] line reply a b c h one = (c, subst (λ (ks : List Kept). KeepsDocsOf keeps (request_from line) reply ks c) h one, refl)
+kept_more keeps [] (r ∷ replies) line reply a b c h one = absurd h
+kept_more keeps (l ∷ lines) [] line reply a b c h one = absurd h
+kept_more keeps (l ∷ lines) (r ∷ replies) line reply a b c h one = (h.0, h.1, kept_more keeps lines replies line reply h.0 b c h.2 one)
 
 -- a reply that accepts nothing drops no document
-all_added : (b : Bool) (docs : List Doc) (reply : Reply) (old new : List Kept) → is_accepted reply ≡ false
-    → MatchBool b (AddsDocs docs reply old new) (new ≡ old) → AddsOnly old new
-all_added true docs reply old new none h = record {
+all_added : (keeps : ℕ) (b : Bool) (docs : List Doc) (reply : Reply) (old new : List Kept) → is_accepted reply ≡ false
+    → MatchBool b (AddsDocs keeps docs reply old new) (new ≡ old) → AddsOnly old new
+all_added keeps true docs reply old new none h = record {
   added = h.adds.0;
-  all = h.kept ∙ ap (λ (b : Bool). if b then swept max_cost h.all else h.all) none ∙ h.adds.1;
+  all = h.kept ∙ ap (λ (b : Bool). if b then swept keeps h.all else h.all) none ∙ h.adds.1;
 }
-all_added false docs reply old new none h = adds_none old new h
+all_added keeps false docs reply old new none h = adds_none old new h
 
-pub kept_adds : (request : Request) (reply : Reply) (old new : List Kept) → KeepsDocs request reply old new → is_accepted reply ≡ false
+pub kept_adds : (keeps : ℕ) (request : Request) (reply : Reply) (old new : List Kept) → KeepsDocs keeps request reply old new → is_accepted reply ≡ false
     → AddsOnly old new
-kept_adds (request.Commit base edits) reply old new h none = all_added (is_indexed reply) (docs_in edits) reply old new none h
-kept_adds (request.Hello user) reply old new h none = adds_none old new h
-kept_adds request.Pin reply old new h none = adds_none old new h
-kept_adds (request.Grant user prefix) reply old new h none = adds_none old new h
-kept_adds (request.Revoke user prefix) reply old new h none = adds_none old new h
-kept_adds (request.Deny user prefix) reply old new h none = adds_none old new h
-kept_adds (request.Undeny user prefix) reply old new h none = adds_none old new h
-kept_adds (request.Define path point bounds) reply old new h none = adds_none old new h
-kept_adds (request.References path point bounds) reply old new h none = adds_none old new h
-kept_adds (request.Callers path point) reply old new h none = adds_none old new h
-kept_adds request.Quit reply old new h none = adds_none old new h
+kept_adds keeps (request.Commit base edits) reply old new h none = all_added keeps (is_indexed reply) (docs_in edits) reply old new none h
+kept_adds keeps (request.Hello user) reply old new h none = adds_none old new h
+kept_adds keeps request.Pin reply old new h none = adds_none old new h
+kept_adds keeps (request.Grant user prefix) reply old new h none = adds_none old new h
+kept_adds keeps (request.Revoke user prefix) reply old new h none = adds_none old new h
+kept_adds keeps (request.Deny user prefix) reply old new h none = adds_none old new h
+kept_adds keeps (request.Undeny user prefix) reply old new h none = adds_none old new h
+kept_adds keeps (request.Define path point bounds) reply old new h none = adds_none old new h
+kept_adds keeps (request.References path point bounds) reply old new h none = adds_none old new h
+kept_adds keeps (request.Callers path point) reply old new h none = adds_none old new h
+kept_adds keeps request.Quit reply old new h none = adds_none old new h

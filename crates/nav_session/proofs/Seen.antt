@@ -27,9 +27,9 @@ sees_later seat log log' l = record {
   own_stay = ap (own seat) (take_all (length log') log' (omega arith)) ∙ l.own_stay ∙ sym (ap (own seat) (taken_first log log' l.begins));
 }
 
-pub later_goes_on : (seat seat' : ℕ) (log log' : List Entry) (pin pin' : ℕ) (desk desk' : OnDesk) → seat' ≡ seat → IsLater seat log log'
+pub later_goes_on : (seat seat' : ℕ) (log log' : List Entry) (pin pin' : ℕ) (desk desk' : OnDesk) → seat' ≡ seat → IsLater seat log log' → desk'.keeps ≡ desk.keeps
     → GoesOn (moment seat log pin desk) (moment seat' log' pin' desk')
-later_goes_on seat seat' log log' pin pin' desk desk' e l = record { seat = e; begins = l.begins }
+later_goes_on seat seat' log log' pin pin' desk desk' e l same = record { seat = e; begins = l.begins; keeps = same }
 
 -- the number that a reply tells of a version that holds all that is seen
 pub told_all : (log : List Entry) (pin number : ℕ) → pin ≡ length log → number ≡ length (take pin log) → number ≡ length log

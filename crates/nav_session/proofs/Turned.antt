@@ -12,7 +12,7 @@ use Rattle.nav_session.specs.Turns.{Spot, spot, ReadsLine, HasNoEntry, FindsEnd,
 -- the session stays, where only the reader and the source went on
 pub no_entry : (m : Moment) (old new : Reading) (left left' : Option (List ℕ)) → HasNoEntry (spot m old left) (spot m new left')
 no_entry m old new left left' = record {
-  goes_on = record { seat = refl; begins = ([], append-nil m.log) };
+  goes_on = record { seat = refl; begins = ([], append-nil m.log); keeps = refl };
   no_entry = refl;
 }
 

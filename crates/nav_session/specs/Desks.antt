@@ -1,5 +1,5 @@
 -- What a session keeps on its desk, and what a line makes of it.
-use Rattle.std.specs.Prelude.{◌≡◌, ℕ, List, [], ◌∷◌, ◌++◌, length, Bool, true, false, Option, IfSome, Result, Ok, Err, take, if◌then◌else◌, MatchBool}
+use Rattle.std.specs.Prelude.{◌≡◌, ℕ, ◌/◌, List, [], ◌∷◌, ◌++◌, length, Bool, true, false, Option, IfSome, Result, Ok, Err, take, if◌then◌else◌, MatchBool}
 use Rattle.std.specs.Option.{option_map}
 use Rattle.path_store.specs.Documents.{Doc}
 use Rattle.path_store.specs.Store.{Kept, swept}
@@ -20,12 +20,13 @@ use Rattle.nav_session.specs.Requests.{docs_in}
 use Rattle.nav_session.specs.Sessions.{Session, asker_of, IsReplyTo}
 use Rattle.nav_session.specs.Transcripts.{with_newline}
 
--- a desk: the documents that are kept with their paths, the user, where one is named, and what that one sees, where it
--- was looked at
+-- a desk: the documents that are kept with their paths, the user, where one is named, what that one sees, where it was
+-- looked at, and the most that the documents may cost which are kept when a commit was accepted
 pub record OnDesk : Type 0 where
   pub store : List Kept
   pub user : Option (List ℕ)
   pub view : Option (List FileRow)
+  pub keeps : ℕ
 
 -- the session of a desk at a board that has seen so many entries and pins so many
 abbrev pub session_at : ℕ → ℕ → Option (List ℕ) → Session
@@ -36,9 +37,13 @@ abbrev pub HasItsView : OnDesk → List Entry → ℕ → Type 0
 HasItsView desk log pin =
     IfSome desk.view (λ rows. IfSome desk.user (λ user. rows ≡ granted_rows user (replay (take pin log))))
 
--- the most that the documents may cost that are kept when a commit was accepted
+-- the most that the documents may cost which a desk keeps that shares with none
 abbrev pub max_cost : ℕ
 max_cost = 48000000
+
+-- the part that each of so many desks keeps of that
+abbrev pub share : ℕ → ℕ
+share desks = max_cost / desks
 
 -- whether a commit with this reply was accepted, and whether its documents were indexed
 abbrev pub is_accepted : Reply → Bool
@@ -83,44 +88,46 @@ is_indexed (TooManyFiles files) = true
 is_indexed (TooHeavy weight) = true
 is_indexed (BadFile path fault) = false
 
--- the store with the documents that it lacked, and without the oldest ones where the commit was accepted
-pub record AddsDocs (docs : List Doc) (reply : Reply) (old new : List Kept) : Type 0 where
+-- the store with the documents that it lacked, and without the oldest ones where the commit was accepted, so that the
+-- others cost at most what the desk keeps
+pub record AddsDocs (keeps : ℕ) (docs : List Doc) (reply : Reply) (old new : List Kept) : Type 0 where
   pub all : List Kept
   pub adds : AddsMissing docs old all
-  pub kept : new ≡ if is_accepted reply then swept max_cost all else all
+  pub kept : new ≡ if is_accepted reply then swept keeps all else all
 
--- what a request with this reply makes of the store: nothing, but where a commit's documents were indexed
-abbrev pub KeepsDocs : Request → Reply → List Kept → List Kept → Type 0
-KeepsDocs (request.Hello user) reply old new = new ≡ old
-KeepsDocs request.Pin reply old new = new ≡ old
-KeepsDocs (request.Commit base edits) reply old new =
-    MatchBool (is_indexed reply) (AddsDocs (docs_in edits) reply old new) (new ≡ old)
-KeepsDocs (request.Grant user prefix) reply old new = new ≡ old
-KeepsDocs (request.Revoke user prefix) reply old new = new ≡ old
-KeepsDocs (request.Deny user prefix) reply old new = new ≡ old
-KeepsDocs (request.Undeny user prefix) reply old new = new ≡ old
-KeepsDocs (request.Define path point bounds) reply old new = new ≡ old
-KeepsDocs (request.References path point bounds) reply old new = new ≡ old
-KeepsDocs (request.Callers path point) reply old new = new ≡ old
-KeepsDocs request.Quit reply old new = new ≡ old
+-- what a request with this reply makes of the store of a desk that keeps so much: nothing, but where a commit's documents
+-- were indexed
+abbrev pub KeepsDocs : ℕ → Request → Reply → List Kept → List Kept → Type 0
+KeepsDocs keeps (request.Hello user) reply old new = new ≡ old
+KeepsDocs keeps request.Pin reply old new = new ≡ old
+KeepsDocs keeps (request.Commit base edits) reply old new =
+    MatchBool (is_indexed reply) (AddsDocs keeps (docs_in edits) reply old new) (new ≡ old)
+KeepsDocs keeps (request.Grant user prefix) reply old new = new ≡ old
+KeepsDocs keeps (request.Revoke user prefix) reply old new = new ≡ old
+KeepsDocs keeps (request.Deny user prefix) reply old new = new ≡ old
+KeepsDocs keeps (request.Undeny user prefix) reply old new = new ≡ old
+KeepsDocs keeps (request.Define path point bounds) reply old new = new ≡ old
+KeepsDocs keeps (request.References path point bounds) reply old new = new ≡ old
+KeepsDocs keeps (request.Callers path point) reply old new = new ≡ old
+KeepsDocs keeps request.Quit reply old new = new ≡ old
 
 -- the same of a line that was read: one that is no request makes nothing of the store
-abbrev pub KeepsDocsOf : Result Request ProtoFault → Reply → List Kept → List Kept → Type 0
-KeepsDocsOf (Ok request) reply old new = KeepsDocs request reply old new
-KeepsDocsOf (Err fault) reply old new = new ≡ old
+abbrev pub KeepsDocsOf : ℕ → Result Request ProtoFault → Reply → List Kept → List Kept → Type 0
+KeepsDocsOf keeps (Ok request) reply old new = KeepsDocs keeps request reply old new
+KeepsDocsOf keeps (Err fault) reply old new = new ≡ old
 
 -- the store has what it had, and maybe documents more behind that
 pub record AddsOnly (old new : List Kept) : Type 0 where
   pub added : List Kept
   pub all : new ≡ old ++ added
 
--- what lines with these replies make of the store, one after the other
-abbrev pub AreKept : List (List ℕ) → List Reply → List Kept → List Kept → Type 0
-AreKept [] [] old new = new ≡ old
-AreKept [] (reply ∷ replies) old new = ⊥
-AreKept (line ∷ lines) [] old new = ⊥
-AreKept (line ∷ lines) (reply ∷ replies) old new =
-    (next : List Kept) × KeepsDocsOf (request_from line) reply old next × AreKept lines replies next new
+-- what lines with these replies make of the store of a desk that keeps so much, one after the other
+abbrev pub AreKept : ℕ → List (List ℕ) → List Reply → List Kept → List Kept → Type 0
+AreKept keeps [] [] old new = new ≡ old
+AreKept keeps [] (reply ∷ replies) old new = ⊥
+AreKept keeps (line ∷ lines) [] old new = ⊥
+AreKept keeps (line ∷ lines) (reply ∷ replies) old new =
+    (next : List Kept) × KeepsDocsOf keeps (request_from line) reply old next × AreKept keeps lines replies next new
 
 -- a session at one moment: its seat, what the seat has seen of the log and how much of it is pinned, and the desk
 pub record Moment : Type 0 where
@@ -148,10 +155,12 @@ pub record Replies (IsDue : ReplyOver) (old new : Moment) (reply : Reply) : Type
   pub view : HasItsView new.desk new.log new.pin
   pub no_entry : is_accepted reply ≡ false → own old.seat new.log ≡ own old.seat old.log
 
--- whatever comes of a line, the seat stays, and what is seen of the log begins with what was seen
+-- whatever comes of a line, the seat stays, what is seen of the log begins with what was seen, and the desk keeps as much
+-- as before
 pub record GoesOn (old new : Moment) : Type 0 where
   pub seat : new.seat ≡ old.seat
   pub begins : Begins old.log new.log
+  pub keeps : new.desk.keeps ≡ old.desk.keeps
 
 -- without a reply no entry of the seat was added, and no document was dropped
 pub record IsLeftOff (old new : Moment) : Type 0 where
@@ -164,4 +173,4 @@ pub record Answers (line : List ℕ) (old new : Moment) (text : List ℕ) : Type
   pub printed : text ≡ with_newline (reply_text reply)
   pub due : IsReplyTo old.seat new.log (session_of old) line reply (session_of new)
   pub view : HasItsView new.desk new.log new.pin
-  pub store : KeepsDocsOf (request_from line) reply old.desk.store new.desk.store
+  pub store : KeepsDocsOf old.desk.keeps (request_from line) reply old.desk.store new.desk.store

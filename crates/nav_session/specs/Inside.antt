@@ -18,7 +18,7 @@ use Rattle.nav_proto.specs.Replies.{reply_text}
 use Rattle.nav_session.specs.Requests.{docs_in, is_operator}
 use Rattle.nav_session.specs.Sessions.{asker_of, IsJudged, IsCommitted, IsAnswered}
 use Rattle.nav_session.specs.Transcripts.{with_newline}
-use Rattle.nav_session.specs.Desks.{Moment, session_of, HasItsView, AddsDocs, KeepsDocs, Replies, is_accepted, is_indexed, max_cost}
+use Rattle.nav_session.specs.Desks.{Moment, session_of, HasItsView, AddsDocs, KeepsDocs, Replies, is_accepted, is_indexed}
 
 -- why the user may change nothing
 abbrev pub change_refusal : Option (List ℕ) → Option PlainError
@@ -44,8 +44,9 @@ pub record PutsIn (base : Option ℕ) (edits : List Edit) (old new : Moment) (re
       → IsJudged old.seat new.log (length old.log) (asker_of old.pin user) base edits reply (session_of new)
   pub no_entry : is_accepted reply ≡ false → own old.seat new.log ≡ own old.seat old.log
   pub indexed : is_indexed reply ≡ true
-  pub kept : new.desk.store ≡ if is_accepted reply then swept max_cost old.desk.store else old.desk.store
+  pub kept : new.desk.store ≡ if is_accepted reply then swept old.desk.keeps old.desk.store else old.desk.store
   pub user : new.desk.user ≡ old.desk.user
+  pub keeps : new.desk.keeps ≡ old.desk.keeps
   pub no_view : new.desk.view ≡ None
 
 -- a commit of a user that may change anything was answered
@@ -54,7 +55,7 @@ pub record CommitsAs (base : Option ℕ) (edits : List FileEdit) (old new : Mome
   pub committed : (user : List ℕ) → old.desk.user ≡ Some user
       → IsCommitted old.seat new.log (session_of old) (asker_of old.pin user) base edits reply (session_of new)
   pub no_entry : is_accepted reply ≡ false → own old.seat new.log ≡ own old.seat old.log
-  pub store : MatchBool (is_indexed reply) (AddsDocs (docs_in edits) reply old.desk.store new.desk.store) (new.desk.store ≡ old.desk.store)
+  pub store : MatchBool (is_indexed reply) (AddsDocs old.desk.keeps (docs_in edits) reply old.desk.store new.desk.store) (new.desk.store ≡ old.desk.store)
   -- no view is kept, or all is as it was that the view depends on
   pub view : (new.desk.view ≡ None) ⊎ ((new.log ≡ old.log) × (new.pin ≡ old.pin) × (new.desk.view ≡ old.desk.view) × (new.desk.user ≡ old.desk.user))
 
@@ -63,4 +64,4 @@ pub record AnswersWith (request : Request) (old new : Moment) (text : List ℕ) 
   pub reply : Reply
   pub printed : text ≡ with_newline (reply_text reply)
   pub replied : Replies (λ log before told after. IsAnswered old.seat log before request told after) old new reply
-  pub store : KeepsDocs request reply old.desk.store new.desk.store
+  pub store : KeepsDocs old.desk.keeps request reply old.desk.store new.desk.store

@@ -8,7 +8,7 @@ use Rattle.version_board.specs.Logs.{Begins}
 use Rattle.nav_io.specs.Lines.{lines, whole_lines}
 use Rattle.nav_proto.specs.declared.reply.Reply.{Reply}
 use Rattle.nav_session.specs.Requests.{is_quit}
-use Rattle.nav_session.specs.Desks.{AddsOnly, AreKept}
+use Rattle.nav_session.specs.Desks.{OnDesk, AddsOnly, AreKept}
 use Rattle.nav_session.specs.Transcripts.{IsTranscript, replies_text, max_lines, to_answer, ending, status_at}
 
 -- the one list of lines begins the other
@@ -73,21 +73,24 @@ pub record Serves (seat : ℕ) (log log' : List Entry) (left left' held held' : 
   -- with 3 the source failed where no more whole lines were taken
   pub short : status ≡ 3 → AreAllTaken answered left left'
 
--- what outlives a session: what its seat has seen of the log, and the documents that its desk keeps
+-- what outlives a session: what its seat has seen of the log, the documents on its desk, and the most that they may cost
 pub record Standing : Type 0 where
   pub log : List Entry
   pub store : List Kept
+  pub keeps : ℕ
 
--- that of these parts
-abbrev pub standing : List Entry → List Kept → Standing
-standing log store = record { log = log; store = store }
+-- that of a log and a desk
+abbrev pub standing : List Entry → OnDesk → Standing
+standing log desk = record { log = log; store = desk.store; keeps = desk.keeps }
 
 -- The same of a session at a desk, from what stood before to what stands afterwards.
 pub record ServesAtDesk (seat : ℕ) (before after : Standing) (left left' held held' : Option (List ℕ)) (status : ℕ) : Type 0 where
   pub served : Serves seat before.log after.log left left' held held' status
+  -- the desk keeps as much as before
+  pub same : after.keeps ≡ before.keeps
   -- what the lines that were answered made of the store, one after the other
   pub made : List Kept
-  pub kept : AreKept served.answered served.replies before.store made
+  pub kept : AreKept before.keeps served.answered served.replies before.store made
   -- that is left; where memory was refused, a line more may have added documents
   pub stays : status ≢ 5 → after.store ≡ made
   pub adds : AddsOnly made after.store

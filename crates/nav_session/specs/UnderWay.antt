@@ -2,7 +2,6 @@
 use Rattle.std.specs.Prelude.{◌≡◌, ◌⊎◌, ℕ, ◌≤◌, false, IsTrue, List, [], ◌++◌, length, Option, Some, None, IfSome}
 use Rattle.std.specs.List.{AllByRecursion}
 use Rattle.std.specs.Io.KnownBytes.{append_known, prepend_known, IsAtEnd}
-use Rattle.path_store.specs.Store.{Kept}
 use Rattle.version_tree.specs.declared.entry.Entry.{Entry}
 use Rattle.version_board.specs.Logs.{Begins}
 use Rattle.nav_io.specs.Lines.{line_max, lines, HasNoNewline, ended_lines}
@@ -11,7 +10,7 @@ use Rattle.nav_proto.specs.declared.reply.Reply.{Reply}
 use Rattle.nav_session.specs.Requests.{is_quit}
 use Rattle.nav_session.specs.Sessions.{opened}
 use Rattle.nav_session.specs.Transcripts.{AreReplies, replies_text}
-use Rattle.nav_session.specs.Desks.{session_of, HasItsView, AreKept}
+use Rattle.nav_session.specs.Desks.{OnDesk, session_of, HasItsView, AreKept}
 use Rattle.nav_session.specs.Turns.{Spot}
 
 -- a line that isn't too long, and one that doesn't end the session
@@ -54,8 +53,9 @@ pub record IsUnderWay (count seat : ℕ) (log : List Entry) (left held : Option 
   pub replied : AreReplies seat now.session.log (opened (length log)) done replies (session_of now.session)
   pub holds : held' ≡ append_known held (replies_text replies)
 
--- The same at a desk with this store at first: what the desk keeps now is what those lines made of it.
-pub record IsAtDesk (count seat : ℕ) (log : List Entry) (store : List Kept) (left held : Option (List ℕ)) (now : Spot)
+-- The same at a desk that was this one at first: what it keeps now is what those lines made of what it kept.
+pub record IsAtDesk (count seat : ℕ) (log : List Entry) (desk : OnDesk) (left held : Option (List ℕ)) (now : Spot)
     (held' : Option (List ℕ)) : Type 0 where
   pub under_way : IsUnderWay count seat log left held now held'
-  pub kept : AreKept under_way.done under_way.replies store now.session.desk.store
+  pub same : now.session.desk.keeps ≡ desk.keeps
+  pub kept : AreKept desk.keeps under_way.done under_way.replies desk.store now.session.desk.store

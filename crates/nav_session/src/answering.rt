@@ -39,8 +39,8 @@ use version_tree::Edit;
 /// was moved otherwise than by a line.
 ///
 /// A commit's documents are indexed, unless the desk keeps them, and are kept; after an accepted one the oldest go until
-/// all cost at most `MAX_COST`. Each walk that is made counts a step. The first query after `hello`, `pin` or a change
-/// looks at all files of the version once, the others only where their runs go.
+/// all cost at most what the desk keeps. Each walk that is made counts a step. The first query after `hello`, `pin` or a
+/// change looks at all files of the version once, the others only where their runs go.
 #[tactic(auto, using(crate::proofs::Kept::adds_none))]
 pub fn answer_line<R: Threads + Sync, B: Commits<R>, G: Gate + Sync, L: Ledger>(
     rt: &R,
@@ -156,7 +156,8 @@ pub fn reply_to<R: Threads + Sync, B: Commits<R>, G: Gate + Sync, L: Ledger>(
     ensures none { OnErr result (IsLeftOff (moment (B.seat board.old) (B.log board.old)
         (B.pin_at board.old) desk.old)
         (moment (B.seat board.new) (B.log board.new) (B.pin_at board.new) desk.new)) }
-    ensures store { IfOk result (λ reply. KeepsDocs request reply desk.old.store desk.new.store) }
+    ensures store { IfOk result (λ reply. KeepsDocs desk.old.keeps request reply
+        desk.old.store desk.new.store) }
     ensures steps { (total : ℕ)
         → AreDocWeights (missing (docs_of desk.old.store) (docs_of_request request)) total
         → steps.new ≤ steps.old + total }

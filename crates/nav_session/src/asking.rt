@@ -40,6 +40,7 @@ pub fn define<B: Pins>(
         (moment (B.seat board.now) (B.log board.now) (B.pin_at board.now) desk.old)
         (moment (B.seat board.now) (B.log board.now) (B.pin_at board.now) desk.new)) }
     ensures store { desk.new.store ≡ desk.old.store }
+    ensures keeps { desk.new.keeps ≡ desk.old.keeps }
 {
     if !desk.has_user() {
         return Ok(Reply::Plain(PlainError::NoUser));
@@ -69,6 +70,7 @@ pub fn references<R: Threads + Sync, B: Pins, G: Gate + Sync>(
         (moment (B.seat board.now) (B.log board.now) (B.pin_at board.now) desk.old)
         (moment (B.seat board.now) (B.log board.now) (B.pin_at board.now) desk.new)) }
     ensures store { desk.new.store ≡ desk.old.store }
+    ensures keeps { desk.new.keeps ≡ desk.old.keeps }
 {
     if !desk.has_user() {
         return Ok(Reply::Plain(PlainError::NoUser));
@@ -107,6 +109,7 @@ pub fn callers<R: Threads + Sync, B: Pins, G: Gate + Sync>(
         (moment (B.seat board.now) (B.log board.now) (B.pin_at board.now) desk.old)
         (moment (B.seat board.now) (B.log board.now) (B.pin_at board.now) desk.new)) }
     ensures store { desk.new.store ≡ desk.old.store }
+    ensures keeps { desk.new.keeps ≡ desk.old.keeps }
 {
     if !desk.has_user() {
         return Ok(Reply::Plain(PlainError::NoUser));

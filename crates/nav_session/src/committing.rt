@@ -49,8 +49,8 @@ pub fn commit<R: Threads + Sync, B: Commits<R>, G: Gate + Sync, L: Ledger>(
         (B.pin_at board.old) desk.old)
         (moment (B.seat board.new) (B.log board.new) (B.pin_at board.new) desk.new)) }
     ensures store { IfOk result (λ reply. MatchBool (is_indexed reply)
-        (AddsDocs (docs_in edits) reply desk.old.store desk.new.store) (desk.new.store
-        ≡ desk.old.store)) }
+        (AddsDocs desk.old.keeps (docs_in edits) reply desk.old.store desk.new.store)
+        (desk.new.store ≡ desk.old.store)) }
     ensures steps { (total : ℕ)
         → AreDocWeights (missing (docs_of desk.old.store) (docs_in edits)) total
         → steps.new ≤ steps.old + total }

@@ -1,7 +1,7 @@
-ghost use Rattle.std.specs.Prelude.{◌≡◌, [], None, Some, is_some, IfOk, IfSome, if◌then◌else◌};
+ghost use Rattle.std.specs.Prelude.{◌≡◌, ◌≤◌, ◌*◌, [], None, Some, is_some, IfOk, IfSome, if◌then◌else◌};
 ghost use Rattle.path_store.specs.Store.{swept};
 ghost use Rattle.version_tree.specs.Contents.{granted_rows};
-ghost use Rattle.nav_session.specs.Desks.{is_accepted, max_cost};
+ghost use Rattle.nav_session.specs.Desks.{is_accepted, max_cost, share};
 ghost use Rattle.nav_session.specs.Inside.{change_refusal};
 
 use nav_answers::AskedView;
@@ -11,8 +11,8 @@ use std::alloc::{AllocError, Global};
 use std::marker::Model;
 use version_tree::{UserText, Version};
 
-/// The most that the documents may cost that are kept when a commit was accepted: the weights of their paths and their
-/// bytes together.
+/// The most that the documents may cost that one desk keeps, or several together that share: the weights of their paths
+/// and their bytes.
 pub const MAX_COST: u64 = 48_000_000;
 
 /// The user that may change a version.
@@ -20,12 +20,14 @@ const OPERATOR: &str = "operator";
 
 /// What a session keeps between its lines: documents with their paths, which outlive it, its user, where one is named,
 /// and what that one sees of the version that its board pins, once it was looked at, with what was found of its
-/// references. A contract sees the documents, the user and the view.
+/// references. The documents cost at most what the desk keeps once a commit was accepted; no call changes how much that
+/// is. A contract sees the documents, the user, the view and what the desk keeps.
 #[derive(Drop)]
 pub struct Desk {
     pub(crate) store: PathStore,
     user: Option<UserText>,
     view: Option<AskedView>,
+    keeps: u64,
 }
 
 impl Model for Desk {
@@ -34,26 +36,44 @@ impl Model for Desk {
 
     ghost Value = { OnDesk };
 
-    ghost view = { λ d. record { store = d.store; user = d.user; view = d.view } };
+    ghost view = { λ d. record { store = d.store; user = d.user; view = d.view; keeps = d.keeps } };
 
     ghost invariant = { λ d. AreIndexed d.store };
 }
 
 impl Desk {
-    /// A desk that keeps nothing, with nobody named. It takes no memory.
+    /// A desk with no documents and nobody named, which shares with no other: it keeps documents up to `MAX_COST`. It takes
+    /// no memory.
     pub fn new(alloc: Global) -> Desk
-        ensures { result ≡ record { store = []; user = None; view = None } }
+        ensures { result ≡ record { store = []; user = None; view = None; keeps = max_cost } }
     {
         Desk {
             store: PathStore::new(alloc),
             user: None,
             view: None,
+            keeps: MAX_COST,
+        }
+    }
+
+    /// One of so many desks that share, at least 1, with no documents and nobody named: it keeps documents up to its part of
+    /// `MAX_COST`, rounded down, so that all together keep no more than that. It takes no memory.
+    pub fn sharing(alloc: Global, desks: u64) -> Desk
+        requires { 1 ≤ desks }
+        ensures desk { result
+            ≡ record { store = []; user = None; view = None; keeps = share desks } }
+        ensures together { result.keeps * desks ≤ max_cost }
+    {
+        Desk {
+            store: PathStore::new(alloc),
+            user: None,
+            view: None,
+            keeps: MAX_COST / desks,
         }
     }
 
     /// Names nobody any more, as at the beginning of a session; the documents stay. It takes no memory.
     pub fn clear(&mut self)
-        ensures { self.new ≡ record { store = self.old.store; user = None; view = None } }
+        ensures { self.new ≡ record self.old { user = None; view = None } }
     {
         self.user = None;
         self.view = None;
@@ -61,7 +81,7 @@ impl Desk {
 
     /// Names the user, who has looked at nothing yet.
     pub(crate) fn name(&mut self, user: UserText)
-        ensures { self.new ≡ record { store = self.old.store; user = Some user; view = None } }
+        ensures { self.new ≡ record self.old { user = Some user; view = None } }
     {
         self.user = Some(user);
         self.view = None;
@@ -70,7 +90,7 @@ impl Desk {
     /// Forgets what the user sees, before another version is pinned. Whoever moves a board's pin between two lines, or
     /// goes on at another board, calls it first. It takes no memory.
     pub fn forget_view(&mut self)
-        ensures { self.new ≡ record { store = self.old.store; user = self.old.user; view = None } }
+        ensures { self.new ≡ record self.old { view = None } }
     {
         self.view = None;
     }
@@ -106,8 +126,7 @@ impl Desk {
             (λ user. rows ≡ granted_rows user version.now.content)) }
         ensures view { IfOk result (λ view. IfSome self.old.user
             (λ user. view ≡ granted_rows user version.now.content)) }
-        ensures rest { self.new
-            ≡ record { store = self.old.store; user = self.old.user; view = None } }
+        ensures rest { self.new ≡ record self.old { view = None } }
     {
         match self.view.take() {
             Some(view) => Ok(view),
@@ -117,8 +136,7 @@ impl Desk {
 
     /// Keeps the view.
     pub(crate) fn keep_view(&mut self, view: AskedView)
-        ensures { self.new
-            ≡ record { store = self.old.store; user = self.old.user; view = Some view } }
+        ensures { self.new ≡ record self.old { view = Some view } }
     {
         self.view = Some(view);
     }
@@ -136,19 +154,20 @@ impl Desk {
     /// Lets go of the documents that are kept, but for such as cost nothing. What the pinned version holds of them stays
     /// there, so a session that commits one text at a time keeps no more than its version. It takes no memory.
     pub fn let_documents_go(&mut self)
-        ensures { self.new
-            ≡ record { store = swept 0 self.old.store; user = self.old.user; view = self.old.view } }
+        ensures { self.new ≡ record self.old { store = swept 0 self.old.store } }
     {
         self.store.sweep(0);
     }
 
-    /// Drops the oldest documents until all cost at most `MAX_COST`, where the reply accepts a commit. It takes no memory.
+    /// Drops the oldest documents until all cost at most what the desk keeps, where the reply accepts a commit. It takes no
+    /// memory.
     pub(crate) fn sweep_after(&mut self, reply: &Reply)
-        ensures { self.new
-            ≡ record { store = if is_accepted reply.now then swept max_cost self.old.store else self.old.store; user = self.old.user; view = self.old.view } }
+        ensures { self.new ≡ record self.old {
+          store = if is_accepted reply.now then swept self.old.keeps self.old.store else self.old.store;
+        } }
     {
         if let Reply::Version(_) = reply {
-            self.store.sweep(MAX_COST);
+            self.store.sweep(self.keeps);
         }
     }
 }

@@ -62,7 +62,7 @@ pub fn judge<R, B: Commits<R>>(
     ensures indexed { IfOk result (λ reply. is_indexed reply ≡ true) }
     ensures none { OnErr result (own (B.seat board.old) (B.log board.new)
         ≡ own (B.seat board.old) (B.log board.old)) }
-    ensures desk { desk.new ≡ record { store = desk.old.store; user = desk.old.user; view = None } }
+    ensures desk { desk.new ≡ record desk.old { view = None } }
 {
     desk.forget_view();
     match board.commit(rt, alloc, base, edits) {

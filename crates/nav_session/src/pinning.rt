@@ -56,7 +56,7 @@ fn pinned_anew<B: Pins>(desk: &mut Desk, board: &mut B) -> Reply
         (session_at (length (B.log board.new)) (B.pin_at board.new) desk.new.user) }
     ensures no_entry { own (B.seat board.old) (B.log board.new)
         ≡ own (B.seat board.old) (B.log board.old) }
-    ensures desk { desk.new ≡ record { store = desk.old.store; user = desk.old.user; view = None } }
+    ensures desk { desk.new ≡ record desk.old { view = None } }
 {
     desk.forget_view();
     board.pin();

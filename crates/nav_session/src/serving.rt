@@ -78,7 +78,7 @@ pub fn serve_session<
 ) -> u8
     // What is answered and written, the log, and what the desk keeps.
     ensures served { ServesAtDesk (B.seat board.old)
-        (standing (B.log board.old) desk.old.store) (standing (B.log board.new) desk.new.store)
+        (standing (B.log board.old) desk.old) (standing (B.log board.new) desk.new)
         (S.left source.old) (S.left source.new) (K.held sink.old) (K.held sink.new) result }
     ensures seat { B.seat board.new ≡ B.seat board.old }
 
@@ -114,7 +114,7 @@ fn serve_lines<R: Threads + Sync, B: Commits<R>, S: Source, K: Sink, G: Gate + S
     requires nobody { desk.old.user ≡ None }
     requires no_view { desk.old.view ≡ None }
     ensures served { ServesAtDesk (B.seat board.old)
-        (standing (B.log board.old) desk.old.store) (standing (B.log board.new) desk.new.store)
+        (standing (B.log board.old) desk.old) (standing (B.log board.new) desk.new)
         (S.left source.old) (S.left source.new) (K.held sink.old) (K.held sink.new)
         (status_at_end result) }
     ensures seat { B.seat board.new ≡ B.seat board.old }

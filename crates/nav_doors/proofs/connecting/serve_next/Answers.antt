@@ -9,8 +9,8 @@ returns-clause-served g c = record {
   next = record {
     given = (c.in_ok-source.source, c.in_ok-source.sink);
     back = (c.serve_session-status.new.source, c.serve_session-status.new.sink);
-    before = standing (g.B.Pins.log c.args.seat.now) c.args.desk.now.store;
-    after = standing (g.B.Pins.log c.serve_session-status.new.board) c.serve_session-status.new.desk.store;
+    before = standing (g.B.Pins.log c.args.seat.now) c.args.desk.now;
+    after = standing (g.B.Pins.log c.serve_session-status.new.board) c.serve_session-status.new.desk;
     status = c.serve_session-status.result;
   };
   served = record {

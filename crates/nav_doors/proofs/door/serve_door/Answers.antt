@@ -8,7 +8,7 @@ pub loop-init : goal.loop-init
 loop-init g c = record {
   under_way = under_way
       (outside g.D.Door.gave g.D.Door.got_back g.D.Door.faults g.D.S.Source.left g.D.S.Source.faults g.D.K.Sink.held g.D.K.Sink.faults)
-      (g.B.Pins.seat c.args.seat.now) c.args.door.now (standing (g.B.Pins.log c.args.seat.now) c.args.desk.now.store);
+      (g.B.Pins.seat c.args.seat.now) c.args.door.now (standing (g.B.Pins.log c.args.seat.now) c.args.desk.now);
   seat = refl;
 }
 
@@ -17,7 +17,7 @@ returns-in-Ok-eq5-clause-served g c =
     stops (outside g.D.Door.gave g.D.Door.got_back g.D.Door.faults g.D.S.Source.left g.D.S.Source.faults g.D.K.Sink.held g.D.K.Sink.faults)
     (g.B.Pins.seat c.args.seat.now) (g.B.Pins.seat c.loop.seat) c.args.connections c.loop.counter
     c.args.door.now c.loop.door c.serve_next.new.door
-    (standing (g.B.Pins.log c.args.seat.now) c.args.desk.now.store) (standing (g.B.Pins.log c.loop.seat) c.loop.desk.store) (standing (g.B.Pins.log c.serve_next.new.seat) c.serve_next.new.desk.store) c.in-Ok-eq5.field-0
+    (standing (g.B.Pins.log c.args.seat.now) c.args.desk.now) (standing (g.B.Pins.log c.loop.seat) c.loop.desk) (standing (g.B.Pins.log c.serve_next.new.seat) c.serve_next.new.desk) c.in-Ok-eq5.field-0
     c.loop.invariant.under_way c.loop.invariant.seat c.in-Ok-eq5.ensures.served c.in-Ok-eq5.field-0-test
 
 pub loop-preserved : goal.loop-preserved
@@ -26,7 +26,7 @@ loop-preserved g c = record {
       (outside g.D.Door.gave g.D.Door.got_back g.D.Door.faults g.D.S.Source.left g.D.S.Source.faults g.D.K.Sink.held g.D.K.Sink.faults)
       (g.B.Pins.seat c.args.seat.now) (g.B.Pins.seat c.loop.seat) c.loop.counter
       c.args.door.now c.loop.door c.serve_next.new.door
-      (standing (g.B.Pins.log c.args.seat.now) c.args.desk.now.store) (standing (g.B.Pins.log c.loop.seat) c.loop.desk.store) (standing (g.B.Pins.log c.serve_next.new.seat) c.serve_next.new.desk.store) c.in-Ok.field-0
+      (standing (g.B.Pins.log c.args.seat.now) c.args.desk.now) (standing (g.B.Pins.log c.loop.seat) c.loop.desk) (standing (g.B.Pins.log c.serve_next.new.seat) c.serve_next.new.desk) c.in-Ok.field-0
       c.loop.invariant.under_way c.loop.invariant.seat c.in-Ok.ensures.served c.in-Ok.field-0-test.1;
   seat = c.serve_next.ensures.seat ∙ c.loop.invariant.seat;
 }

@@ -30,7 +30,7 @@ pub returns-in_err-turn-clause-served : goal.returns-in_err-turn-clause-served
 returns-in_err-turn-clause-served g c =
     let p = err_from_is_err_and c.from_residual-in_err-turn.result c.from_residual-in_err-turn.ensures.1 in
     let within : c.loop.counter < max_lines = omega (arith, c.loop-test.true) in
-    passes_turn c.from_residual-in_err-turn.result c.in_err-turn.field-0.0 c.loop.counter (g.B.Pins.seat c.args.board.now) (g.B.Pins.log c.args.board.now) c.args.desk.now.store (g.S.Source.left c.args.source.now) (g.K.Sink.held c.args.sink.now)
+    passes_turn c.from_residual-in_err-turn.result c.in_err-turn.field-0.0 c.loop.counter (g.B.Pins.seat c.args.board.now) (g.B.Pins.log c.args.board.now) c.args.desk.now (g.S.Source.left c.args.source.now) (g.K.Sink.held c.args.sink.now)
     (g.K.Sink.held c.loop.sink)
     (spot (moment (g.B.Pins.seat c.loop.board) (g.B.Pins.log c.loop.board) (g.B.Pins.pin_at c.loop.board) c.loop.desk) c.loop.reader (g.S.Source.left c.loop.source))
     (spot (moment (g.B.Pins.seat c.answer_next.new.board) (g.B.Pins.log c.answer_next.new.board) (g.B.Pins.pin_at c.answer_next.new.board) c.answer_next.new.desk) c.answer_next.new.reader (g.S.Source.left c.answer_next.new.source))
@@ -42,7 +42,7 @@ returns-in_err-turn-clause-seat g c = c.in_err-turn.ensures.turn.stays.goes_on.s
 pub returns-in_default-clause-served : goal.returns-in_default-clause-served
 returns-in_default-clause-served g c =
     let within : c.loop.counter < max_lines = omega (arith, c.loop-test.true) in
-    ends_with_input c.loop.counter (g.B.Pins.seat c.args.board.now) (g.B.Pins.log c.args.board.now) c.args.desk.now.store (g.S.Source.left c.args.source.now) (g.K.Sink.held c.args.sink.now)
+    ends_with_input c.loop.counter (g.B.Pins.seat c.args.board.now) (g.B.Pins.log c.args.board.now) c.args.desk.now (g.S.Source.left c.args.source.now) (g.K.Sink.held c.args.sink.now)
     (g.K.Sink.held c.loop.sink)
     (spot (moment (g.B.Pins.seat c.loop.board) (g.B.Pins.log c.loop.board) (g.B.Pins.pin_at c.loop.board) c.loop.desk) c.loop.reader (g.S.Source.left c.loop.source))
     (spot (moment (g.B.Pins.seat c.answer_next.new.board) (g.B.Pins.log c.answer_next.new.board) (g.B.Pins.pin_at c.answer_next.new.board) c.answer_next.new.desk) c.answer_next.new.reader (g.S.Source.left c.answer_next.new.source))
@@ -58,7 +58,7 @@ returns-in_err-write_reply-clause-served g c =
     let p = err_from_is_err_and c.from_residual-in_err-write_reply.result c.from_residual-in_err-write_reply.ensures.1 in
     let within : c.loop.counter < max_lines = omega (arith, c.loop-test.true) in
     let w = c.in_err-write_reply.ensures in
-    passes_write c.from_residual-in_err-write_reply.result c.in_err-write_reply.field-0.0 c.loop.counter (g.B.Pins.seat c.args.board.now) (g.B.Pins.log c.args.board.now) c.args.desk.now.store (g.S.Source.left c.args.source.now) (g.K.Sink.held c.args.sink.now)
+    passes_write c.from_residual-in_err-write_reply.result c.in_err-write_reply.field-0.0 c.loop.counter (g.B.Pins.seat c.args.board.now) (g.B.Pins.log c.args.board.now) c.args.desk.now (g.S.Source.left c.args.source.now) (g.K.Sink.held c.args.sink.now)
     (g.K.Sink.held c.loop.sink) (g.K.Sink.held c.write_reply.new.sink)
     (spot (moment (g.B.Pins.seat c.loop.board) (g.B.Pins.log c.loop.board) (g.B.Pins.pin_at c.loop.board) c.loop.desk) c.loop.reader (g.S.Source.left c.loop.source))
     (spot (moment (g.B.Pins.seat c.answer_next.new.board) (g.B.Pins.log c.answer_next.new.board) (g.B.Pins.pin_at c.answer_next.new.board) c.answer_next.new.desk) c.answer_next.new.reader (g.S.Source.left c.answer_next.new.source))
@@ -74,7 +74,7 @@ returns-in_err-write_reply-clause-seat g c =
 pub returns-then-quit-clause-served : goal.returns-then-quit-clause-served
 returns-then-quit-clause-served g c =
     let within : c.loop.counter < max_lines = omega (arith, c.loop-test.true) in
-    ends_with_quit c.loop.counter (g.B.Pins.seat c.args.board.now) (g.B.Pins.log c.args.board.now) c.args.desk.now.store (g.S.Source.left c.args.source.now) (g.K.Sink.held c.args.sink.now)
+    ends_with_quit c.loop.counter (g.B.Pins.seat c.args.board.now) (g.B.Pins.log c.args.board.now) c.args.desk.now (g.S.Source.left c.args.source.now) (g.K.Sink.held c.args.sink.now)
     (g.K.Sink.held c.loop.sink) (g.K.Sink.held c.write_reply.new.sink)
     (spot (moment (g.B.Pins.seat c.loop.board) (g.B.Pins.log c.loop.board) (g.B.Pins.pin_at c.loop.board) c.loop.desk) c.loop.reader (g.S.Source.left c.loop.source))
     (spot (moment (g.B.Pins.seat c.answer_next.new.board) (g.B.Pins.log c.answer_next.new.board) (g.B.Pins.pin_at c.answer_next.new.board) c.answer_next.new.desk) c.answer_next.new.reader (g.S.Source.left c.answer_next.new.source))
@@ -89,7 +89,7 @@ returns-then-quit-clause-seat g c =
 
 pub loop-preserved : goal.loop-preserved
 loop-preserved g c = record {
-  under_way = goes_on_at c.loop.counter (g.B.Pins.seat c.args.board.now) (g.B.Pins.log c.args.board.now) c.args.desk.now.store (g.S.Source.left c.args.source.now) (g.K.Sink.held c.args.sink.now)
+  under_way = goes_on_at c.loop.counter (g.B.Pins.seat c.args.board.now) (g.B.Pins.log c.args.board.now) c.args.desk.now (g.S.Source.left c.args.source.now) (g.K.Sink.held c.args.sink.now)
       (g.K.Sink.held c.loop.sink) (g.K.Sink.held c.write_reply.new.sink)
       (spot (moment (g.B.Pins.seat c.loop.board) (g.B.Pins.log c.loop.board) (g.B.Pins.pin_at c.loop.board) c.loop.desk) c.loop.reader (g.S.Source.left c.loop.source))
       (spot (moment (g.B.Pins.seat c.answer_next.new.board) (g.B.Pins.log c.answer_next.new.board) (g.B.Pins.pin_at c.answer_next.new.board) c.answer_next.new.desk) c.answer_next.new.reader (g.S.Source.left c.answer_next.new.source))
@@ -106,7 +106,7 @@ returns-clause-served g c =
     looks_round c.look_on.result
     (moment (g.B.Pins.seat c.loop.board) (g.B.Pins.log c.loop.board) (g.B.Pins.pin_at c.loop.board) c.loop.desk)
     c.look_on.new.reader (g.S.Source.left c.look_on.new.source)
-    c.loop.counter (g.B.Pins.seat c.args.board.now) (g.B.Pins.log c.args.board.now) c.args.desk.now.store (g.S.Source.left c.args.source.now) (g.K.Sink.held c.args.sink.now)
+    c.loop.counter (g.B.Pins.seat c.args.board.now) (g.B.Pins.log c.args.board.now) c.args.desk.now (g.S.Source.left c.args.source.now) (g.K.Sink.held c.args.sink.now)
     (g.K.Sink.held c.loop.sink) c.loop.reader (g.S.Source.left c.loop.source)
     c.loop.invariant.under_way full c.look_on.ensures.looks
 
