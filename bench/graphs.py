@@ -5,7 +5,7 @@ and what else it takes to have it indexed, beside the time in which CPython's `c
 of several rounds. The last rows are the least memory in which one module is indexed whose one reference has a long or a
 short name.
 
-usage: bench/graphs.py [PROGRAM]     (crates/aux_bench/out/aux_bench, as bench/graphs.sh leaves it)
+usage: bench/graphs.py [PROGRAM]     (out/timing, as bench/graphs.sh leaves it)
 
 Walks are timed without the reading of the graph: the time of `read` is taken off that of `walk`. Documents
 are timed through the call that indexes them, over a store that keeps none of them and over one that keeps all. Documents a
@@ -26,7 +26,7 @@ import timeit
 
 from measure import at_once, least_memory
 
-PROGRAM = sys.argv[1] if len(sys.argv) > 1 else "crates/aux_bench/out/aux_bench"
+PROGRAM = sys.argv[1] if len(sys.argv) > 1 else "out/timing"
 DOCUMENTS = 1_000
 # How many modules one round of the split takes, and how many rounds there are, of the split and of documents a second.
 SPLIT, ROUNDS = 300, 9

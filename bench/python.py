@@ -1,7 +1,7 @@
 #!/usr/bin/env python3
 """Times the reading of Python modules, and the making of their graphs, beside CPython's `ast.parse`, and prints one table; every figure is of this one run.
 
-usage: bench/python.py [PROGRAM]     (crates/aux_bench/out/aux_bench, as bench/python.sh leaves it)
+usage: bench/python.py [PROGRAM]     (out/timing, as bench/python.sh leaves it)
 
 Seconds are those of one reading: the program reads the text once and then ten times, and the difference
 is divided. The stack is the least of those tried, in kilobytes, under which the program answers.
@@ -14,7 +14,7 @@ import subprocess
 import sys
 import time
 
-PROGRAM = sys.argv[1] if len(sys.argv) > 1 else "crates/aux_bench/out/aux_bench"
+PROGRAM = sys.argv[1] if len(sys.argv) > 1 else "out/timing"
 MEGABYTE = 1_048_576
 STACKS = [32, 48, 64, 96, 128, 192, 256, 512, 1024, 2048, 4096, 8192]
 PART = """\

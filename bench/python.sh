@@ -1,6 +1,6 @@
 #!/usr/bin/env bash
-# Builds aux_bench and times its reading of Python modules; no part of the gate.
+# Builds the program of bench/timing and times its reading of Python modules; no part of the gate.
 set -eu
 cd "$(dirname "$0")/.."
-(cd crates/aux_bench && rt run < stdin >/dev/null)
+bench/timing.sh
 exec python3 bench/python.py

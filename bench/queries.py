@@ -2,7 +2,7 @@
 """Times how a reference is answered by joining stored paths, beside following the edges of the whole graph, and prints
 one table; every figure is of this one run.
 
-usage: bench/queries.py [PROGRAM]     (crates/aux_bench/out/aux_bench, as bench/queries.sh leaves it)
+usage: bench/queries.py [PROGRAM]     (out/timing, as bench/queries.sh leaves it)
 
 The files' paths are found once before the reference is asked so many times: what a run of the program without a
 question takes is taken off.
@@ -13,7 +13,7 @@ import subprocess
 import sys
 import time
 
-PROGRAM = sys.argv[1] if len(sys.argv) > 1 else "crates/aux_bench/out/aux_bench"
+PROGRAM = sys.argv[1] if len(sys.argv) > 1 else "out/timing"
 
 
 def file(nodes, edges):

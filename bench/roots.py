@@ -2,7 +2,7 @@
 """Times what a commit of one file costs in versions of 64, 512 and 2,048 files, and how many look-ups a second their
 indexes of paths from the root answer, and prints one table; every figure is of this one run.
 
-usage: bench/roots.py [PROGRAM]     (crates/aux_bench/out/aux_bench, as bench/roots.sh leaves it)
+usage: bench/roots.py [PROGRAM]     (out/timing, as bench/roots.sh leaves it)
 
 Times are of the processor, so that other work on the machine changes them little. The files' paths are found, and the
 first version and its index made, before the commits or the look-ups: what a run of the program with none of them takes
@@ -14,7 +14,7 @@ import resource
 import subprocess
 import sys
 
-PROGRAM = sys.argv[1] if len(sys.argv) > 1 else "crates/aux_bench/out/aux_bench"
+PROGRAM = sys.argv[1] if len(sys.argv) > 1 else "out/timing"
 COUNTS = (64, 512, 2048)
 NAMES = ("run", "stop", "name", "size")
 

@@ -2,7 +2,7 @@
 """Times definitions and references over what a user sees, on several processors and on one, and prints one table; every
 figure is of this one run.
 
-usage: bench/views.py [PROGRAM]     (crates/aux_bench/out/aux_bench, as bench/views.sh leaves it)
+usage: bench/views.py [PROGRAM]     (out/timing, as bench/views.sh leaves it)
 
 Each file of a tree has a reference to a name of another file and one name of its own. In a flat tree each name is
 reached by a symbol of its own; in a deep package three symbols that all names share stand before it. The version and its
@@ -16,7 +16,7 @@ import subprocess
 import sys
 import time
 
-PROGRAM = sys.argv[1] if len(sys.argv) > 1 else "crates/aux_bench/out/aux_bench"
+PROGRAM = sys.argv[1] if len(sys.argv) > 1 else "out/timing"
 SIZES = [64, 512, 2048]
 
 

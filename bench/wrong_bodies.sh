@@ -10,6 +10,7 @@
 # below them, have changed since.
 set -u
 cd "$(dirname "$0")/.." || exit 2
+. bench/copy.sh
 
 stop() {
     echo "wrong_bodies: $1" >&2
@@ -50,18 +51,7 @@ command -v rt >/dev/null || stop "the command rt of the kit isn't found"
 copy=$(mktemp -d) || exit 2
 trap 'rm -rf "$copy"' EXIT
 trap 'exit 130' INT TERM
-cp crates.txt HANDLES "$copy" || exit 2
-for folder in crates/*; do
-    mkdir -p "$copy/$folder"
-    for part in src specs proofs; do
-        if [ -d "$folder/$part" ]; then cp -r "$folder/$part" "$copy/$folder" || exit 2; fi
-    done
-    # A proved library is large, so its files are linked where they can be: rt makes a library anew, and never over an old one.
-    if [ -d "$folder/out/rlib" ]; then
-        mkdir "$copy/$folder/out"
-        cp -rl "$folder/out/rlib" "$copy/$folder/out" 2>/dev/null || cp -r "$folder/out/rlib" "$copy/$folder/out" || exit 2
-    fi
-done
+copy_crates "$copy" || exit 2
 
 # Puts the crate's edits into the copy, and says of each file that it can't be tried, where it can't.
 lay_out() {
