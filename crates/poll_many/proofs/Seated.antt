@@ -7,22 +7,23 @@ use Rattle.std.proofs.lemmas.Option.{same_Some, slice_get_within}
 use Rattle.std.proofs.lemmas.List.Sorted.{IsPermutation-refl}
 use Rattle.version_tree.specs.declared.entry.Entry.{Entry}
 use Rattle.shared_board.specs.Seats.{Holder, AreSeats, IsLogOfAll}
-use Rattle.nav_poll.specs.declared.link.Counts.{Counts}
+use Rattle.nav_poll.specs.declared.link.Link as links
 use Rattle.nav_session.specs.Serving.{Serves, ends_unhindered, answers_all}
 use Rattle.nav_poll.specs.Polling.{status_so_far}
-use Rattle.poll_many.specs.Connections.{Outside, Connection, HasNoFault, IsServed, IsAnswered, HaveMemory, FollowEachOther, of_seat, links_given, broken_off, ends_port, outside}
+use Rattle.poll_many.specs.Connections.{Outside, Connection, HasNoFault, IsServed, IsAnswered, HaveMemory, FollowEachOther, of_seat, links_given, broken_off, ends_port, outside_of_seats}
 use Rattle.poll_many.specs.Places.{boards_of, log_at}
 use Rattle.poll_many.specs.Ports.{ServesPort}
 use Rattle.poll_many.specs.Rounds.{AreFinished, AreServed, IsRefused, ServesAll}
 use Rattle.poll_many.specs.declared.call.Call.{Call}
 use Rattle.poll_many.specs.declared.place.Place.{Place}
+use Rattle.poll_many.specs.declared.port.Port as ports
 use Rattle.poll_many.proofs.PlaceLists.{told_nothing}
 use Rattle.poll_many.proofs.PlaceSteps.{other}
 use Rattle.poll_many.proofs.PortServed.{AllRestAt, standing_rests, boards_len, board_there, none_open, stands_in}
 
-module _ {P K : Type 0} (gave got_back : P → Option (List K)) (faults settles : P → ℕ) (left held : K → Option (List ℕ)) (counts : K → Counts) where
+module _ {P K : Type 0} (p : ports.Ghosts P K) (l : links.Ghosts K) where
   abbrev o : Outside P Holder K
-  o = outside gave got_back faults settles left held counts (λ (h : Holder). h.seat) (λ (h : Holder). h.log) (λ (h : Holder). h.pin)
+  o = outside_of_seats p l
 
   drop_mid : (a b c : Bool) → (a || false || b || c) ≡ true → (a || b || c) ≡ true
   drop_mid true b c e = refl
@@ -38,24 +39,24 @@ module _ {P K : Type 0} (gave got_back : P → Option (List K)) (faults settles 
 
   -- a session that ended, with memory and without a fault, was answered in full
   answered_at : (c : Connection K) (status : Option ℕ) → c.status ≡ status → IsServed o c → c.status ≢ Some 5 → c.status ≢ None
-      → HasNoFault (counts c.given) (counts c.back) → IsAnswered o c
+      → HasNoFault (o.counts c.given) (o.counts c.back) → IsAnswered o c
   answered_at c None e s memory some none = absurd (some e)
   answered_at c (Some status) e s memory some none =
       let ends : IsTrue (ends_unhindered status) =
       subst (λ (told : Option ℕ). IfSome told (λ n. IsTrue (ends_unhindered n))) e (s.unhindered none) in
-      let session : Serves c.seat c.before c.after (left c.given) (left c.back) (held c.given) (held c.back) status =
-      subst (λ (told : Option ℕ). Serves c.seat c.before c.after (left c.given) (left c.back) (held c.given) (held c.back) (status_so_far told)) e s.session in
+      let session : Serves c.seat c.before c.after (o.left c.given) (o.left c.back) (o.held c.given) (o.held c.back) status =
+      subst (λ (told : Option ℕ). Serves c.seat c.before c.after (o.left c.given) (o.left c.back) (o.held c.given) (o.held c.back) (status_so_far told)) e s.session in
       let all = answers status ends (λ five. memory (e ∙ ap Some five)) in
       record {
         answered = session.answered;
         replies = session.replies;
         transcript = session.transcript;
         all = session.all all;
-        holds = session.holds ∙ ap (append_known (held c.given)) (session.whole (or_more (status == 0) (status == 3) (status == 6) (status == 7) all));
+        holds = session.holds ∙ ap (append_known (o.held c.given)) (session.whole (or_more (status == 0) (status == 3) (status == 6) (status == 7) all));
       }
 
   all_answered : (cs : List (Connection K)) → AllByRecursion (IsServed o) cs → HaveMemory cs
-      → AllByRecursion (λ (c : Connection K). c.status ≢ None → HasNoFault (counts c.given) (counts c.back) → IsAnswered o c) cs
+      → AllByRecursion (λ (c : Connection K). c.status ≢ None → HasNoFault (o.counts c.given) (o.counts c.back) → IsAnswered o c) cs
   all_answered [] s memory = tt
   all_answered (c ∷ cs) s memory = ((λ some none. answered_at c c.status refl s.0 memory.0 some none), all_answered cs s.1 memory.1)
 
@@ -134,9 +135,9 @@ module _ {P K : Type 0} (gave got_back : P → Option (List K)) (faults settles 
   port_refused most count port seats are = record {
     over = [];
     served = tt;
-    got_back = told_nothing (got_back port);
+    got_back = told_nothing (o.got_back port);
     given = [];
-    gave = told_nothing (gave port);
+    gave = told_nothing (o.gave port);
     all_back = IsPermutation-refl [];
     few = omega arith;
     ended = seats;

@@ -2,6 +2,7 @@
 use Rattle.std.specs.Prelude.{◌≡◌, ◌≢◌, ℕ, Bool, ◌||◌, ◌==◌, IsTrue, List, [], ◌∷◌, length, map, Option, Some, IfSome, is_none}
 use Rattle.std.specs.List.{AllByRecursion, filter}
 use Rattle.version_tree.specs.declared.entry.Entry.{Entry}
+use Rattle.version_board.specs.declared.board.Pins as boards
 use Rattle.std.specs.Io.KnownBytes.{append_known}
 use Rattle.nav_io.specs.Faults.{HasRisen}
 use Rattle.nav_io.specs.Lines.{lines}
@@ -9,8 +10,11 @@ use Rattle.nav_proto.specs.declared.reply.Reply.{Reply}
 use Rattle.nav_session.specs.Serving.{Serves, ends_session, ends_unhindered}
 use Rattle.nav_session.specs.Transcripts.{IsTranscript, replies_text, max_lines, to_answer}
 use Rattle.nav_poll.specs.declared.link.Counts.{Counts}
+use Rattle.nav_poll.specs.declared.link.Link as links
 use Rattle.nav_poll.specs.Links.{NoneFell}
 use Rattle.nav_poll.specs.Polling.{status_so_far}
+use Rattle.shared_board.specs.Seats.{Holder}
+use Rattle.poll_many.specs.declared.port.Port as ports
 
 -- what is read of ports, of the links that they give out, and of boards
 pub record Outside (P B K : Type 0) : Type 0 where
@@ -25,21 +29,30 @@ pub record Outside (P B K : Type 0) : Type 0 where
   pub log : B → List Entry
   pub pin : B → ℕ
 
--- what is read of them, by these functions
-abbrev pub outside : {P B K : Type 0} → (P → Option (List K)) → (P → Option (List K)) → (P → ℕ) → (P → ℕ)
-    → (K → Option (List ℕ)) → (K → Option (List ℕ)) → (K → Counts) → (B → ℕ) → (B → List Entry) → (B → ℕ) → Outside P B K
-outside gave got_back faults settles left held counts seat log pin = record {
-  gave = gave;
-  got_back = got_back;
-  faults = faults;
-  settles = settles;
-  left = left;
-  held = held;
-  counts = counts;
-  seat = seat;
-  log = log;
-  pin = pin;
+-- what is read of them, by what their traits tell
+abbrev pub outside : {P B K : Type 0} → ports.Ghosts P K → links.Ghosts K → boards.Ghosts B
+    → Outside P B K
+outside port link board = record {
+  gave = port.gave;
+  got_back = port.got_back;
+  faults = port.faults;
+  settles = port.settles;
+  left = link.left;
+  held = link.held;
+  counts = link.counts;
+  seat = board.seat;
+  log = board.log;
+  pin = board.pin_at;
 }
+
+-- the same where the boards are the seats of one board that threads share
+abbrev pub outside_of_seats : {P K : Type 0} → ports.Ghosts P K → links.Ghosts K
+    → Outside P Holder K
+outside_of_seats port link = outside port link (record {
+  log = λ holder. holder.log;
+  seat = λ holder. holder.seat;
+  pin_at = λ holder. holder.pin;
+})
 
 -- A connection: its link as it was given out and as it came back, the seat whose session it had, what that seat had seen
 -- of the log before the session and has seen after it, and the status with which it ended; none where it was broken off.

@@ -7,6 +7,7 @@ use Rattle.shared_board.specs.Seats.{Holder, AreNewcomers}
 use Rattle.poll_many.specs.Connections.{Outside, ends_port}
 use Rattle.poll_many.specs.Ports.{ServesPort}
 use Rattle.poll_many.specs.Settling.{SettlesBehindRounds}
+use Rattle.poll_many.specs.declared.yard.Yard as yards
 
 -- what is seen of a yard at one moment: the ports that it gave out and those that it got back, where it tells them, and how
 -- many faults it has had
@@ -15,9 +16,9 @@ pub record Yard (P : Type 0) : Type 0 where
   pub got_back : Option (List P)
   pub faults : ℕ
 
--- the yard that gave and got back these, with so many faults
-abbrev pub yard_with : {P : Type 0} → Option (List P) → Option (List P) → ℕ → Yard P
-yard_with gave got_back faults = record { gave = gave; got_back = got_back; faults = faults }
+-- what is seen of a yard, by what its trait tells
+abbrev pub yard_at : {Y P K : Type 0} → yards.Ghosts Y P K → Y → Yard P
+yard_at g yard = record { gave = g.gave yard; got_back = g.got_back yard; faults = g.faults yard }
 
 -- the yard gave out no port: it failed, or memory was refused
 pub record OpensNone {P : Type 0} (yard yard' : Yard P) (status : ℕ) : Type 0 where

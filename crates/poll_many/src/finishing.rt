@@ -42,12 +42,9 @@ where
     P::K: Drop,
     requires some { 0 < vec_len seats.old }
     requires names { AreNamed B.seat seats.old.items }
-    ensures served { ServesAll (outside P.gave P.got_back P.faults P.settles P.K.left P.K.held P.K.counts
-        B.seat B.log B.pin_at)
+    ensures served { ServesAll (outside P.Port P.K.Link B.Pins)
         connections port.old port.new seats.old.items seats.new.items result }
-    ensures settled { SettlesBehindRounds (outside P.gave P.got_back P.faults P.settles P.K.left P.K.held P.K.counts
-        B.seat B.log B.pin_at)
-        port.old port.new }
+    ensures settled { SettlesBehindRounds (outside P.Port P.K.Link B.Pins) port.old port.new }
     ensures kept { Keeps cx.old cx.new }
 {
     let call = Call {
@@ -77,13 +74,12 @@ where
     P::K: Drop,
     requires some { 0 < length places.old }
     requires at_first { call.now.port.value ≡ port.old }
-    requires under_way { IsUnderWay (outside P.gave P.got_back P.faults P.settles P.K.left P.K.held P.K.counts
-        B.seat B.log B.pin_at) call.now 0 call.now.most port.old places.old }
-    ensures finished { AreFinished (outside P.gave P.got_back P.faults P.settles P.K.left P.K.held P.K.counts
-        B.seat B.log B.pin_at) call.now port.new places.new result }
+    requires under_way { IsUnderWay (outside P.Port P.K.Link B.Pins)
+        call.now 0 call.now.most port.old places.old }
+    ensures finished { AreFinished (outside P.Port P.K.Link B.Pins)
+        call.now port.new places.new result }
     ensures len { length places.new ≡ length places.old }
-    ensures settled { SettlesBehindRounds (outside P.gave P.got_back P.faults P.settles P.K.left P.K.held P.K.counts
-        B.seat B.log B.pin_at)
+    ensures settled { SettlesBehindRounds (outside P.Port P.K.Link B.Pins)
         call.now.port.value port.new }
     ensures kept { Keeps cx.old cx.new }
 {

@@ -81,10 +81,9 @@ pub(crate) fn take_link<B: Pins + Drop, P: Port>(
 ) -> Asked
 where
     P::K: Drop,
-    requires standing { IsStanding (outside P.gave P.got_back P.faults P.settles P.K.left P.K.held P.K.counts
-        B.seat B.log B.pin_at) place.old }
-    ensures takes { TakesLink (outside P.gave P.got_back P.faults P.settles P.K.left P.K.held P.K.counts
-        B.seat B.log B.pin_at) place.old place.new port.old port.new result }
+    requires standing { IsStanding (outside P.Port P.K.Link B.Pins) place.old }
+    ensures takes { TakesLink (outside P.Port P.K.Link B.Pins)
+        place.old place.new port.old port.new result }
     ensures failed { result ≡ Asked.Failed → HasRisen (P.faults port.old) (P.faults port.new) }
     ensures same { result ≢ Asked.Given → place.new ≡ place.old }
     ensures count { P.faults port.old ≤ P.faults port.new }
@@ -110,8 +109,8 @@ fn ask_port<B: Pins + Drop, P: Port>(
 where
     P::K: Drop,
     requires empty { place.old ≡ Place.Away }
-    ensures takes { TakesLink (outside P.gave P.got_back P.faults P.settles P.K.left P.K.held P.K.counts
-        B.seat B.log B.pin_at) (Place.Free desk board) place.new port.old port.new result }
+    ensures takes { TakesLink (outside P.Port P.K.Link B.Pins)
+        (Place.Free desk board) place.new port.old port.new result }
     ensures failed { result ≡ Asked.Failed → HasRisen (P.faults port.old) (P.faults port.new) }
     ensures same { result ≢ Asked.Given → place.new ≡ Place.Free desk board }
     ensures count { P.faults port.old ≤ P.faults port.new }
@@ -146,8 +145,8 @@ where
     P::K: Drop,
     requires empty { place.old ≡ Place.Away }
     requires out { HasOut (P.gave port.old) (P.got_back port.old) 1 }
-    ensures begins { BeginsWith (outside P.gave P.got_back P.faults P.settles P.K.left P.K.held P.K.counts
-        B.seat B.log B.pin_at) board link place.new port.old port.new }
+    ensures begins { BeginsWith (outside P.Port P.K.Link B.Pins)
+        board link place.new port.old port.new }
     ensures count { P.faults port.old ≤ P.faults port.new }
     ensures unsettled { P.settles port.new ≡ P.settles port.old }
 {
@@ -193,11 +192,10 @@ pub(crate) fn take_turn<R: Threads + Sync, B: Commits<R> + Drop, P: Port, L: Led
 ) -> Turn
 where
     P::K: Drop,
-    requires standing { IsStanding (outside P.gave P.got_back P.faults P.settles P.K.left P.K.held P.K.counts
-        B.seat B.log B.pin_at) place.old }
+    requires standing { IsStanding (outside P.Port P.K.Link B.Pins) place.old }
     requires out { is_busy place.old ≡ true → HasOut (P.gave port.old) (P.got_back port.old) 1 }
-    ensures takes { TakesTurn (outside P.gave P.got_back P.faults P.settles P.K.left P.K.held P.K.counts
-        B.seat B.log B.pin_at) place.old place.new port.old port.new result }
+    ensures takes { TakesTurn (outside P.Port P.K.Link B.Pins)
+        place.old place.new port.old port.new result }
     ensures waits { result ≡ Turn.Waits → WaitsAt P.K.counts place.old place.new }
     ensures count { P.faults port.old ≤ P.faults port.new }
     ensures unsettled { P.settles port.new ≡ P.settles port.old }
@@ -223,12 +221,11 @@ fn poll_open<R: Threads + Sync, B: Commits<R> + Drop, P: Port, L: Ledger>(
 ) -> Turn
 where
     P::K: Drop,
-    requires standing { IsOpen (outside P.gave P.got_back P.faults P.settles P.K.left P.K.held P.K.counts
-        B.seat B.log B.pin_at) session }
+    requires standing { IsOpen (outside P.Port P.K.Link B.Pins) session }
     requires empty { place.old ≡ Place.Away }
     requires out { HasOut (P.gave port.old) (P.got_back port.old) 1 }
-    ensures takes { TakesTurn (outside P.gave P.got_back P.faults P.settles P.K.left P.K.held P.K.counts
-        B.seat B.log B.pin_at) (Place.Busy session) place.new port.old port.new result }
+    ensures takes { TakesTurn (outside P.Port P.K.Link B.Pins)
+        (Place.Busy session) place.new port.old port.new result }
     ensures waits { result ≡ Turn.Waits → WaitsAt P.K.counts (Place.Busy session) place.new }
     ensures count { P.faults port.old ≤ P.faults port.new }
     ensures unsettled { P.settles port.new ≡ P.settles port.old }
@@ -300,11 +297,9 @@ fn poll_once<R: Threads + Sync, B: Commits<R>, K: Link, L: Ledger>(
 pub(crate) fn close_place<B: Pins + Drop, P: Port>(place: &mut Place<B, P::K>, port: &mut P)
 where
     P::K: Drop,
-    requires standing { IsStanding (outside P.gave P.got_back P.faults P.settles P.K.left P.K.held P.K.counts
-        B.seat B.log B.pin_at) place.old }
+    requires standing { IsStanding (outside P.Port P.K.Link B.Pins) place.old }
     requires out { is_busy place.old ≡ true → HasOut (P.gave port.old) (P.got_back port.old) 1 }
-    ensures closes { Closes (outside P.gave P.got_back P.faults P.settles P.K.left P.K.held P.K.counts
-        B.seat B.log B.pin_at) place.old place.new port.old port.new }
+    ensures closes { Closes (outside P.Port P.K.Link B.Pins) place.old place.new port.old port.new }
     ensures rests { is_busy place.new ≡ false }
     ensures count { P.faults port.old ≤ P.faults port.new }
     ensures unsettled { P.settles port.new ≡ P.settles port.old }

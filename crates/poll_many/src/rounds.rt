@@ -33,14 +33,13 @@ where
     P::K: Drop,
     requires inside { n < length places.old }
     requires some { 0 < wanted.old }
-    requires under_way { IsUnderWay (outside P.gave P.got_back P.faults P.settles P.K.left P.K.held P.K.counts
-        B.seat B.log B.pin_at) call.now 0 wanted.old port.old places.old }
-    ensures goes { GoesRound (outside P.gave P.got_back P.faults P.settles P.K.left P.K.held P.K.counts
-        B.seat B.log B.pin_at) call.now wanted.new port.old port.new places.old places.new }
+    requires under_way { IsUnderWay (outside P.Port P.K.Link B.Pins)
+        call.now 0 wanted.old port.old places.old }
+    ensures goes { GoesRound (outside P.Port P.K.Link B.Pins)
+        call.now wanted.new port.old port.new places.old places.new }
     ensures failed { result ≡ Asked.Failed → HasRisen (P.faults port.old) (P.faults port.new) }
-    ensures none { result ≢ Asked.Given → GaveNone (outside P.gave P.got_back P.faults P.settles P.K.left P.K.held P.K.counts
-        B.seat B.log B.pin_at)
-        port.old port.new places.old places.new }
+    ensures none { result ≢ Asked.Given
+        → GaveNone (outside P.Port P.K.Link B.Pins) port.old port.new places.old places.new }
     ensures unsettled { P.settles port.new ≡ P.settles port.old }
 {
     let asked = take_link(alloc, &mut places[n], port);
@@ -70,14 +69,13 @@ fn take_links<B: Pins + Drop, P: Port>(
 ) -> Result<bool, Failed>
 where
     P::K: Drop,
-    requires under_way { IsUnderWay (outside P.gave P.got_back P.faults P.settles P.K.left P.K.held P.K.counts
-        B.seat B.log B.pin_at) call.now 0 wanted.old port.old places.old }
-    ensures goes { GoesRound (outside P.gave P.got_back P.faults P.settles P.K.left P.K.held P.K.counts
-        B.seat B.log B.pin_at) call.now wanted.new port.old port.new places.old places.new }
+    requires under_way { IsUnderWay (outside P.Port P.K.Link B.Pins)
+        call.now 0 wanted.old port.old places.old }
+    ensures goes { GoesRound (outside P.Port P.K.Link B.Pins)
+        call.now wanted.new port.old port.new places.old places.new }
     ensures failed { OnErr result (HasRisen (P.faults port.old) (P.faults port.new)) }
-    ensures none { result ≡ Ok false → GaveNone (outside P.gave P.got_back P.faults P.settles P.K.left P.K.held P.K.counts
-        B.seat B.log B.pin_at)
-        port.old port.new places.old places.new }
+    ensures none { result ≡ Ok false
+        → GaveNone (outside P.Port P.K.Link B.Pins) port.old port.new places.old places.new }
     ensures unsettled { P.settles port.new ≡ P.settles port.old }
 {
     let mut any = false;
@@ -109,13 +107,12 @@ fn take_turn_at<R: Threads + Sync, B: Commits<R> + Drop, P: Port, L: Ledger>(
 where
     P::K: Drop,
     requires inside { n < length places.old }
-    requires under_way { IsUnderWay (outside P.gave P.got_back P.faults P.settles P.K.left P.K.held P.K.counts
-        B.seat B.log B.pin_at) call.now 0 wanted port.old places.old }
-    ensures goes { GoesRound (outside P.gave P.got_back P.faults P.settles P.K.left P.K.held P.K.counts
-        B.seat B.log B.pin_at) call.now wanted port.old port.new places.old places.new }
-    ensures waits { result ≡ Turn.Waits → OneMoreWaits (outside P.gave P.got_back P.faults P.settles P.K.left P.K.held P.K.counts
-        B.seat B.log B.pin_at)
-        n port.old port.new places.old places.new }
+    requires under_way { IsUnderWay (outside P.Port P.K.Link B.Pins)
+        call.now 0 wanted port.old places.old }
+    ensures goes { GoesRound (outside P.Port P.K.Link B.Pins)
+        call.now wanted port.old port.new places.old places.new }
+    ensures waits { result ≡ Turn.Waits
+        → OneMoreWaits (outside P.Port P.K.Link B.Pins) n port.old port.new places.old places.new }
     ensures unsettled { P.settles port.new ≡ P.settles port.old }
     ensures kept { Keeps cx.old cx.new }
 {
@@ -135,13 +132,12 @@ fn take_turns<R: Threads + Sync, B: Commits<R> + Drop, P: Port, L: Ledger>(
 ) -> bool
 where
     P::K: Drop,
-    requires under_way { IsUnderWay (outside P.gave P.got_back P.faults P.settles P.K.left P.K.held P.K.counts
-        B.seat B.log B.pin_at) call.now 0 wanted port.old places.old }
-    ensures goes { GoesRound (outside P.gave P.got_back P.faults P.settles P.K.left P.K.held P.K.counts
-        B.seat B.log B.pin_at) call.now wanted port.old port.new places.old places.new }
-    ensures waits { result ≡ false → AllHaveWaited (outside P.gave P.got_back P.faults P.settles P.K.left P.K.held P.K.counts
-        B.seat B.log B.pin_at)
-        port.old port.new places.old places.new }
+    requires under_way { IsUnderWay (outside P.Port P.K.Link B.Pins)
+        call.now 0 wanted port.old places.old }
+    ensures goes { GoesRound (outside P.Port P.K.Link B.Pins)
+        call.now wanted port.old port.new places.old places.new }
+    ensures waits { result ≡ false
+        → AllHaveWaited (outside P.Port P.K.Link B.Pins) port.old port.new places.old places.new }
     ensures unsettled { P.settles port.new ≡ P.settles port.old }
     ensures kept { Keeps cx.old cx.new }
 {
@@ -181,14 +177,13 @@ fn go_round<R: Threads + Sync, B: Commits<R> + Drop, P: Port, L: Ledger>(
 ) -> Result<bool, Failed>
 where
     P::K: Drop,
-    requires under_way { IsUnderWay (outside P.gave P.got_back P.faults P.settles P.K.left P.K.held P.K.counts
-        B.seat B.log B.pin_at) call.now 0 wanted.old port.old places.old }
-    ensures goes { GoesRound (outside P.gave P.got_back P.faults P.settles P.K.left P.K.held P.K.counts
-        B.seat B.log B.pin_at) call.now wanted.new port.old port.new places.old places.new }
+    requires under_way { IsUnderWay (outside P.Port P.K.Link B.Pins)
+        call.now 0 wanted.old port.old places.old }
+    ensures goes { GoesRound (outside P.Port P.K.Link B.Pins)
+        call.now wanted.new port.old port.new places.old places.new }
     ensures failed { OnErr result (HasRisen (P.faults port.old) (P.faults port.new)) }
-    ensures quiet { result ≡ Ok true → AllHaveWaited (outside P.gave P.got_back P.faults P.settles P.K.left P.K.held P.K.counts
-        B.seat B.log B.pin_at)
-        port.old port.new places.old places.new }
+    ensures quiet { result ≡ Ok true
+        → AllHaveWaited (outside P.Port P.K.Link B.Pins) port.old port.new places.old places.new }
     ensures unsettled { P.settles port.new ≡ P.settles port.old }
     ensures kept { Keeps cx.old cx.new }
 {
@@ -260,14 +255,13 @@ pub(crate) fn go_on<R: Threads + Wait + Sync, B: Commits<R> + Drop, P: Port, L: 
 ) -> Result<(), Failed>
 where
     P::K: Drop,
-    requires under_way { IsUnderWay (outside P.gave P.got_back P.faults P.settles P.K.left P.K.held P.K.counts
-        B.seat B.log B.pin_at) call.now 0 wanted.old port.old places.old }
-    ensures goes { GoesRound (outside P.gave P.got_back P.faults P.settles P.K.left P.K.held P.K.counts
-        B.seat B.log B.pin_at) call.now wanted.new port.old port.new places.old places.new }
+    requires under_way { IsUnderWay (outside P.Port P.K.Link B.Pins)
+        call.now 0 wanted.old port.old places.old }
+    ensures goes { GoesRound (outside P.Port P.K.Link B.Pins)
+        call.now wanted.new port.old port.new places.old places.new }
     ensures over { OnOk result (AreOver wanted.new places.new) }
     ensures failed { OnErr result (HasRisen (P.faults port.old) (P.faults port.new)) }
-    ensures settled { SettlesOn (outside P.gave P.got_back P.faults P.settles P.K.left P.K.held P.K.counts
-        B.seat B.log B.pin_at)
+    ensures settled { SettlesOn (outside P.Port P.K.Link B.Pins)
         call.now.port.value port.old port.new }
     ensures kept { Keeps cx.old cx.new }
 {
@@ -292,11 +286,11 @@ fn close_at<B: Pins + Drop, P: Port>(
 where
     P::K: Drop,
     requires inside { n < length places.old }
-    requires under_way { IsUnderWay (outside P.gave P.got_back P.faults P.settles P.K.left P.K.held P.K.counts
-        B.seat B.log B.pin_at) call.now n wanted port.old places.old }
+    requires under_way { IsUnderWay (outside P.Port P.K.Link B.Pins)
+        call.now n wanted port.old places.old }
     requires before { RestBefore n places.old }
-    ensures under_way { IsUnderWay (outside P.gave P.got_back P.faults P.settles P.K.left P.K.held P.K.counts
-        B.seat B.log B.pin_at) call.now (n + 1) wanted port.new places.new }
+    ensures under_way { IsUnderWay (outside P.Port P.K.Link B.Pins)
+        call.now (n + 1) wanted port.new places.new }
     ensures before { RestBefore (n + 1) places.new }
     ensures len { length places.new ≡ length places.old }
     ensures count { P.faults port.old ≤ P.faults port.new }
@@ -315,10 +309,10 @@ pub(crate) fn close_all<B: Pins + Drop, P: Port>(
 )
 where
     P::K: Drop,
-    requires under_way { IsUnderWay (outside P.gave P.got_back P.faults P.settles P.K.left P.K.held P.K.counts
-        B.seat B.log B.pin_at) call.now 0 wanted port.old places.old }
-    ensures under_way { IsUnderWay (outside P.gave P.got_back P.faults P.settles P.K.left P.K.held P.K.counts
-        B.seat B.log B.pin_at) call.now (length places.new) wanted port.new places.new }
+    requires under_way { IsUnderWay (outside P.Port P.K.Link B.Pins)
+        call.now 0 wanted port.old places.old }
+    ensures under_way { IsUnderWay (outside P.Port P.K.Link B.Pins)
+        call.now (length places.new) wanted port.new places.new }
     ensures rest { NoneBusy places.new }
     ensures len { length places.new ≡ length places.old }
     ensures count { P.faults port.old ≤ P.faults port.new }

@@ -2,9 +2,9 @@
 ghost use Rattle.std.specs.Prelude.{◌≡◌, ◌≤◌, ◌↔◌, None, IfSome};
 ghost use Rattle.futures.specs.Task.{Keeps};
 ghost use Rattle.shared_board.specs.Seats.{AreNewcomers, max_seats};
-ghost use Rattle.poll_many.specs.Connections.{outside};
+ghost use Rattle.poll_many.specs.Connections.{outside_of_seats};
 ghost use Rattle.poll_many.specs.ManyWords.{wanted_by, texts};
-ghost use Rattle.poll_many.specs.Yards.{yard_with, ServesYard};
+ghost use Rattle.poll_many.specs.Yards.{yard_at, ServesYard};
 
 use crate::finishing::PORT_FAILED;
 use crate::place::NO_MEMORY;
@@ -44,12 +44,9 @@ where
     <Y::P as Port>::K: Drop,
     ensures bad_words { (result ≡ 2) ↔ (wanted_by (texts words.now) ≡ None) }
     ensures untouched { result ≡ 2 → yard.new ≡ yard.old }
-    ensures served { IfSome (wanted_by (texts words.now)) (λ wanted. ServesYard
-        (outside Y.P.gave Y.P.got_back Y.P.faults Y.P.settles Y.P.K.left Y.P.K.held Y.P.K.counts
-        (λ seat. seat.seat) (λ seat. seat.log) (λ seat. seat.pin))
-        wanted.seats wanted.connections
-        (yard_with (Y.gave yard.old) (Y.got_back yard.old) (Y.faults yard.old))
-        (yard_with (Y.gave yard.new) (Y.got_back yard.new) (Y.faults yard.new)) result) }
+    ensures served { IfSome (wanted_by (texts words.now)) (λ wanted.
+        ServesYard (outside_of_seats Y.P.Port Y.P.K.Link) wanted.seats wanted.connections
+        (yard_at Y.Yard yard.old) (yard_at Y.Yard yard.new) result) }
     ensures kept { Keeps cx.old cx.new }
 {
     match wanted_by(words) {
@@ -76,12 +73,8 @@ where
     requires board { board ≡ J.board }
     requires all { board.seats ≡ wanted.seats }
     requires some { 1 ≤ wanted.seats }
-    ensures served { ServesYard
-        (outside Y.P.gave Y.P.got_back Y.P.faults Y.P.settles Y.P.K.left Y.P.K.held Y.P.K.counts
-        (λ seat. seat.seat) (λ seat. seat.log) (λ seat. seat.pin))
-        wanted.seats wanted.connections
-        (yard_with (Y.gave yard.old) (Y.got_back yard.old) (Y.faults yard.old))
-        (yard_with (Y.gave yard.new) (Y.got_back yard.new) (Y.faults yard.new)) result }
+    ensures served { ServesYard (outside_of_seats Y.P.Port Y.P.K.Link)
+        wanted.seats wanted.connections (yard_at Y.Yard yard.old) (yard_at Y.Yard yard.new) result }
     ensures kept { Keeps cx.old cx.new }
 {
     let Ok((shared, seats)) = board.named::<J, R>(rt, alloc) else {
@@ -111,12 +104,8 @@ where
     requires seats { AreNewcomers J.board.seats seats.items }
     requires all { J.board.seats ≡ wanted.seats }
     requires some { 1 ≤ wanted.seats }
-    ensures served { ServesYard
-        (outside Y.P.gave Y.P.got_back Y.P.faults Y.P.settles Y.P.K.left Y.P.K.held Y.P.K.counts
-        (λ seat. seat.seat) (λ seat. seat.log) (λ seat. seat.pin))
-        wanted.seats wanted.connections
-        (yard_with (Y.gave yard.old) (Y.got_back yard.old) (Y.faults yard.old))
-        (yard_with (Y.gave yard.new) (Y.got_back yard.new) (Y.faults yard.new)) result }
+    ensures served { ServesYard (outside_of_seats Y.P.Port Y.P.K.Link)
+        wanted.seats wanted.connections (yard_at Y.Yard yard.old) (yard_at Y.Yard yard.new) result }
     ensures kept { Keeps cx.old cx.new }
 {
     match yard.port(wanted.port) {

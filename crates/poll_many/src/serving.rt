@@ -1,8 +1,8 @@
 //! The links of a port served for all seats of a board.
 ghost use Rattle.std.specs.Prelude.{◌<◌, vec_len};
 ghost use Rattle.futures.specs.Task.{Keeps};
-ghost use Rattle.shared_board.specs.Seats.{AreSeats, Holder};
-ghost use Rattle.poll_many.specs.Connections.{outside};
+ghost use Rattle.shared_board.specs.Seats.{AreSeats};
+ghost use Rattle.poll_many.specs.Connections.{outside_of_seats};
 ghost use Rattle.poll_many.specs.Settling.{SettlesBehindRounds};
 ghost use Rattle.poll_many.specs.Ports.{ServesPort};
 
@@ -42,12 +42,9 @@ where
     P::K: Drop,
     requires seats { AreSeats J.board.seats seats.items }
     requires some { 0 < vec_len seats }
-    ensures served { ServesPort (outside P.gave P.got_back P.faults P.settles P.K.left P.K.held P.K.counts
-        (λ seat. seat.seat) (λ seat. seat.log) (λ seat. seat.pin))
+    ensures served { ServesPort (outside_of_seats P.Port P.K.Link)
         connections port.old port.new seats.entry.items result }
-    ensures settled { SettlesBehindRounds {B = Holder} (outside P.gave P.got_back P.faults P.settles P.K.left P.K.held P.K.counts
-        (λ seat. seat.seat) (λ seat. seat.log) (λ seat. seat.pin))
-        port.old port.new }
+    ensures settled { SettlesBehindRounds (outside_of_seats P.Port P.K.Link) port.old port.new }
     ensures kept { Keeps cx.old cx.new }
 {
     let mut seats = seats;
@@ -70,12 +67,9 @@ where
     P::K: Drop,
     requires seats { AreSeats J.board.seats seats.old.items }
     requires some { 0 < vec_len seats.old }
-    ensures served { ServesPort (outside P.gave P.got_back P.faults P.settles P.K.left P.K.held P.K.counts
-        (λ seat. seat.seat) (λ seat. seat.log) (λ seat. seat.pin))
+    ensures served { ServesPort (outside_of_seats P.Port P.K.Link)
         connections port.old port.new seats.old.items result }
-    ensures settled { SettlesBehindRounds {B = Holder} (outside P.gave P.got_back P.faults P.settles P.K.left P.K.held P.K.counts
-        (λ seat. seat.seat) (λ seat. seat.log) (λ seat. seat.pin))
-        port.old port.new }
+    ensures settled { SettlesBehindRounds (outside_of_seats P.Port P.K.Link) port.old port.new }
     ensures kept { Keeps cx.old cx.new }
 {
     let status = serve_all::<&'a R, Seat<J, &'a R>, P, L>(

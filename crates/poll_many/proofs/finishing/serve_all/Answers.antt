@@ -9,7 +9,7 @@ use Rattle.poll_many.proofs.finishing.serve_all.Goals as goal
 
 pub serve_places-status-requires-clause-under_way : goal.serve_places-status-requires-clause-under_way
 serve_places-status-requires-clause-under_way g c _ _ =
-    first_round (outside g.P.Port.gave g.P.Port.got_back g.P.Port.faults g.P.Port.settles g.P.K.Link.left g.P.K.Link.held g.P.K.Link.counts g.B.Pins.seat g.B.Pins.log g.B.Pins.pin_at)
+    first_round (outside g.P.Port g.P.K.Link g.B.Pins)
     (record { port = c.of.result; seats = c.of-2.result; most = c.args.connections }) c.args.port.now c.args.seats.now.items
     c.in-Ok.places.items c.as_mut_slice.result.now c.of.ensures (ap (λ v. v.items) c.of-2.ensures) c.as_mut_slice.ensures.value
     c.in-Ok.ensures.seats c.in-Ok.ensures.free c.requires.names
@@ -30,10 +30,10 @@ returns-clause-served g c =
 
 pub returns-in_default-clause-settled : goal.returns-in_default-clause-settled
 returns-in_default-clause-settled g c =
-    settled_at_first (outside g.P.Port.gave g.P.Port.got_back g.P.Port.faults g.P.Port.settles g.P.K.Link.left g.P.K.Link.held g.P.K.Link.counts g.B.Pins.seat g.B.Pins.log g.B.Pins.pin_at)
+    settled_at_first (outside g.P.Port g.P.K.Link g.B.Pins)
     c.args.port.now c.args.port.now refl
 
 pub returns-clause-settled : goal.returns-clause-settled
 returns-clause-settled g c =
-    subst (λ first. SettlesBehindRounds (outside g.P.Port.gave g.P.Port.got_back g.P.Port.faults g.P.Port.settles g.P.K.Link.left g.P.K.Link.held g.P.K.Link.counts g.B.Pins.seat g.B.Pins.log g.B.Pins.pin_at) first c.serve_places-status.new.port)
+    subst (λ first. SettlesBehindRounds (outside g.P.Port g.P.K.Link g.B.Pins) first c.serve_places-status.new.port)
     c.of.ensures c.serve_places-status.ensures.settled

@@ -6,6 +6,6 @@ use Rattle.poll_many.proofs.place.close_place.Goals as goal
 
 pub returns-in-Busy-clause-closes : goal.returns-in-Busy-clause-closes
 returns-in-Busy-clause-closes g c =
-    rw c.put.ensures (broken_off_at (outside g.P.Port.gave g.P.Port.got_back g.P.Port.faults g.P.Port.settles g.P.K.Link.left g.P.K.Link.held g.P.K.Link.counts g.B.Pins.seat g.B.Pins.log g.B.Pins.pin_at)
+    rw c.put.ensures (broken_off_at (outside g.P.Port g.P.K.Link g.B.Pins)
     c.args.place.now c.in-Busy.session c.close-desk.result.0 c.close-desk.result.1 c.close-desk.result.2 c.args.port.now c.done.new.self
     (sym c.replace.ensures.value ∙ c.in-Busy.is) c.requires.standing c.close-desk.ensures.board c.close-desk.ensures.link c.done.ensures.given c.done.ensures.back)

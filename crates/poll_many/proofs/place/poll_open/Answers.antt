@@ -7,7 +7,7 @@ use Rattle.poll_many.proofs.place.poll_open.Goals as goal
 
 pub returns-in-Ready-clause-takes : goal.returns-in-Ready-clause-takes
 returns-in-Ready-clause-takes g c =
-    ended_now (outside g.P.Port.gave g.P.Port.got_back g.P.Port.faults g.P.Port.settles g.P.K.Link.left g.P.K.Link.held g.P.K.Link.counts g.B.Pins.seat g.B.Pins.log g.B.Pins.pin_at)
+    ended_now (outside g.P.Port g.P.K.Link g.B.Pins)
     c.args.session c.poll_once.new.polled c.in-Ready.status c.close-desk.result.0 c.close-desk.result.1 c.close-desk.result.2 c.put-in-Ready.new.place
     c.args.port.now c.done.new.self c.requires.standing c.in-Ready.ensures.stands c.in-Ready.ensures.seat c.in-Ready.ensures.counts
     c.in-Ready.ensures.ready (c.in-Ready.ensures.statuses c.requires.standing.going)

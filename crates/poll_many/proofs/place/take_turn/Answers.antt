@@ -6,5 +6,5 @@ use Rattle.poll_many.proofs.place.take_turn.Goals as goal
 
 pub returns-in-Busy-clause-takes : goal.returns-in-Busy-clause-takes
 returns-in-Busy-clause-takes g c =
-    subst (λ p. TakesTurn (outside g.P.Port.gave g.P.Port.got_back g.P.Port.faults g.P.Port.settles g.P.K.Link.left g.P.K.Link.held g.P.K.Link.counts g.B.Pins.seat g.B.Pins.log g.B.Pins.pin_at) p c.poll_open.new.place c.args.port.now c.poll_open.new.port c.poll_open.result)
+    subst (λ p. TakesTurn (outside g.P.Port g.P.K.Link g.B.Pins) p c.poll_open.new.place c.args.port.now c.poll_open.new.port c.poll_open.result)
     (sym (sym c.replace.ensures.value ∙ c.in-Busy.is)) c.poll_open.ensures.takes

@@ -7,7 +7,7 @@ use Rattle.poll_many.proofs.rounds.close_all.Goals as goal
 
 pub returns-clause-under_way : goal.returns-clause-under_way
 returns-clause-under_way g c =
-    weaker (outside g.P.Port.gave g.P.Port.got_back g.P.Port.faults g.P.Port.settles g.P.K.Link.left g.P.K.Link.held g.P.K.Link.counts g.B.Pins.seat g.B.Pins.log g.B.Pins.pin_at)
+    weaker (outside g.P.Port g.P.K.Link g.B.Pins)
     c.args.call.now c.loop-n.n (length c.loop-n.places) c.args.wanted c.loop-n.port c.loop-n.places c.loop-n.invariant.few c.loop-n.invariant.under_way
 
 pub returns-clause-rest : goal.returns-clause-rest

@@ -6,7 +6,7 @@ use Rattle.poll_many.proofs.rounds.close_all.Given as goal
 -- So many places have no open session.
 abbrev pub invariant-loop-n : goal.invariant-loop-n
 invariant-loop-n g l = record {
-  under_way : IsUnderWay (outside g.P.Port.gave g.P.Port.got_back g.P.Port.faults g.P.Port.settles g.P.K.Link.left g.P.K.Link.held g.P.K.Link.counts g.B.Pins.seat g.B.Pins.log g.B.Pins.pin_at) l.call l.n l.wanted l.port l.places;
+  under_way : IsUnderWay (outside g.P.Port g.P.K.Link g.B.Pins) l.call l.n l.wanted l.port l.places;
   before : RestBefore l.n l.places;
   few : l.n ≤ length l.places;
   len : length l.places ≡ length l.fn.places;

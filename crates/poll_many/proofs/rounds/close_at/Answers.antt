@@ -12,13 +12,13 @@ close_place-requires-clause-standing g c =
 
 pub close_place-requires-clause-out : goal.close_place-requires-clause-out
 close_place-requires-clause-out g c =
-    busy_out (outside g.P.Port.gave g.P.Port.got_back g.P.Port.faults g.P.Port.settles g.P.K.Link.left g.P.K.Link.held g.P.K.Link.counts g.B.Pins.seat g.B.Pins.log g.B.Pins.pin_at)
+    busy_out (outside g.P.Port g.P.K.Link g.B.Pins)
     c.args.call.now c.args.n c.args.wanted c.args.port.now c.args.places.now c.args.n (slice_index_or c.args.places.now c.args.n c.index-places-n.result)
     (slice_get-get_or c.args.places.now c.args.n c.index-places-n.result c.requires.inside) c.requires.under_way
 
 pub returns-clause-under_way : goal.returns-clause-under_way
 returns-clause-under_way g c =
-    closed (outside g.P.Port.gave g.P.Port.got_back g.P.Port.faults g.P.Port.settles g.P.K.Link.left g.P.K.Link.held g.P.K.Link.counts g.B.Pins.seat g.B.Pins.log g.B.Pins.pin_at)
+    closed (outside g.P.Port g.P.K.Link g.B.Pins)
     c.args.call.now c.args.n c.args.wanted c.args.port.now c.close_place.new.port c.args.places.now c.args.n
     (slice_index_or c.args.places.now c.args.n c.index-places-n.result) c.close_place.new.place
     (slice_get-get_or c.args.places.now c.args.n c.index-places-n.result c.requires.inside) c.close_place.ensures.count c.close_place.ensures.closes c.requires.under_way

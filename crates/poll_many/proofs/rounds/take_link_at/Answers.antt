@@ -15,7 +15,7 @@ take_link-asked-requires g c = record {
 
 pub returns-clause-goes : goal.returns-clause-goes
 returns-clause-goes g c = record {
-  under_way = rw c.still_wanted.ensures (took (outside g.P.Port.gave g.P.Port.got_back g.P.Port.faults g.P.Port.settles g.P.K.Link.left g.P.K.Link.held g.P.K.Link.counts g.B.Pins.seat g.B.Pins.log g.B.Pins.pin_at)
+  under_way = rw c.still_wanted.ensures (took (outside g.P.Port g.P.K.Link g.B.Pins)
       c.args.call.now c.args.wanted.now c.args.port.now c.take_link-asked.new.port c.args.places.now c.args.n
       (slice_index_or c.args.places.now c.args.n c.index-places-n.result) c.take_link-asked.new.place c.take_link-asked.result
       (slice_get-get_or c.args.places.now c.args.n c.index-places-n.result c.requires.inside) c.take_link-asked.ensures.count c.requires.some
@@ -26,7 +26,7 @@ returns-clause-goes g c = record {
 
 pub returns-clause-none : goal.returns-clause-none
 returns-clause-none g c =
-    none_at (outside g.P.Port.gave g.P.Port.got_back g.P.Port.faults g.P.Port.settles g.P.K.Link.left g.P.K.Link.held g.P.K.Link.counts g.B.Pins.seat g.B.Pins.log g.B.Pins.pin_at)
+    none_at (outside g.P.Port g.P.K.Link g.B.Pins)
     c.args.port.now c.take_link-asked.new.port c.args.places.now c.args.n
     (slice_index_or c.args.places.now c.args.n c.index-places-n.result) c.take_link-asked.new.place c.take_link-asked.result
     (slice_get-get_or c.args.places.now c.args.n c.index-places-n.result c.requires.inside) c.take_link-asked.ensures.takes c.take_link-asked.ensures.same

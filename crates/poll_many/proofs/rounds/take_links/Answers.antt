@@ -16,7 +16,7 @@ returns-then-wanted-eq0-clause-none g c e = c.loop-n.invariant.none (ok_same c.l
 
 pub returns-in-NotYet-clause-none : goal.returns-in-NotYet-clause-none
 returns-in-NotYet-clause-none g c e =
-    none_more (outside g.P.Port.gave g.P.Port.got_back g.P.Port.faults g.P.Port.settles g.P.K.Link.left g.P.K.Link.held g.P.K.Link.counts g.B.Pins.seat g.B.Pins.log g.B.Pins.pin_at)
+    none_more (outside g.P.Port g.P.K.Link g.B.Pins)
     c.args.port.now c.loop-n.port c.take_link_at.new.port c.args.places.now c.loop-n.places c.take_link_at.new.places
     (c.loop-n.invariant.none (ok_same c.loop-n.any false e)) (c.take_link_at.ensures.none (λ given. cc (sym c.in-NotYet.is ∙ given)))
 
@@ -31,7 +31,7 @@ loop-n-preserved g c = record {
   unsettled = c.take_link_at.ensures.unsettled ∙ c.loop-n.invariant.unsettled;
   none = elim c.match-take_link_at.branch [
     | in-Unasked w ↦ λ e.
-        none_more (outside g.P.Port.gave g.P.Port.got_back g.P.Port.faults g.P.Port.settles g.P.K.Link.left g.P.K.Link.held g.P.K.Link.counts g.B.Pins.seat g.B.Pins.log g.B.Pins.pin_at)
+        none_more (outside g.P.Port g.P.K.Link g.B.Pins)
         c.args.port.now c.loop-n.port c.take_link_at.new.port c.args.places.now c.loop-n.places c.take_link_at.new.places
         (c.loop-n.invariant.none (sym w.any-is ∙ e)) (c.take_link_at.ensures.none (λ given. cc (sym w.in-Unasked.is ∙ given)))
     | in-Given w ↦ λ e. absurd (cc (sym w.any-is ∙ e))

@@ -14,13 +14,13 @@ take_turn-requires-clause-standing g c _ _ =
 
 pub take_turn-requires-clause-out : goal.take_turn-requires-clause-out
 take_turn-requires-clause-out g c _ _ =
-    busy_out (outside g.P.Port.gave g.P.Port.got_back g.P.Port.faults g.P.Port.settles g.P.K.Link.left g.P.K.Link.held g.P.K.Link.counts g.B.Pins.seat g.B.Pins.log g.B.Pins.pin_at)
+    busy_out (outside g.P.Port g.P.K.Link g.B.Pins)
     c.args.call.now 0 c.args.wanted c.args.port.now c.args.places.now c.args.n (slice_index_or c.args.places.now c.args.n c.index-places-n.result)
     (slice_get-get_or c.args.places.now c.args.n c.index-places-n.result c.requires.inside) c.requires.under_way
 
 pub returns-clause-goes : goal.returns-clause-goes
 returns-clause-goes g c = record {
-  under_way = turned (outside g.P.Port.gave g.P.Port.got_back g.P.Port.faults g.P.Port.settles g.P.K.Link.left g.P.K.Link.held g.P.K.Link.counts g.B.Pins.seat g.B.Pins.log g.B.Pins.pin_at)
+  under_way = turned (outside g.P.Port g.P.K.Link g.B.Pins)
       c.args.call.now c.args.wanted c.args.port.now c.take_turn.new.port c.args.places.now c.args.n
       (slice_index_or c.args.places.now c.args.n c.index-places-n.result) c.take_turn.new.place c.take_turn.result
       (slice_get-get_or c.args.places.now c.args.n c.index-places-n.result c.requires.inside) c.take_turn.ensures.count c.take_turn.ensures.takes c.requires.under_way;
@@ -30,7 +30,7 @@ returns-clause-goes g c = record {
 
 pub returns-clause-waits : goal.returns-clause-waits
 returns-clause-waits g c e =
-    one_more_waits (outside g.P.Port.gave g.P.Port.got_back g.P.Port.faults g.P.Port.settles g.P.K.Link.left g.P.K.Link.held g.P.K.Link.counts g.B.Pins.seat g.B.Pins.log g.B.Pins.pin_at)
+    one_more_waits (outside g.P.Port g.P.K.Link g.B.Pins)
     c.args.port.now c.take_turn.new.port c.args.places.now c.args.n
     (slice_index_or c.args.places.now c.args.n c.index-places-n.result) c.take_turn.new.place
     (slice_get-get_or c.args.places.now c.args.n c.index-places-n.result c.requires.inside) (rw e at c.take_turn.ensures.takes) (c.take_turn.ensures.waits e)

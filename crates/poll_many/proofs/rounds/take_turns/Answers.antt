@@ -11,7 +11,7 @@ loop-n-init g c = record {
   count = omega arith;
   unsettled = refl;
   waits = λ none.
-      waited_at_first (outside g.P.Port.gave g.P.Port.got_back g.P.Port.faults g.P.Port.settles g.P.K.Link.left g.P.K.Link.held g.P.K.Link.counts g.B.Pins.seat g.B.Pins.log g.B.Pins.pin_at)
+      waited_at_first (outside g.P.Port g.P.K.Link g.B.Pins)
       c.args.port.now c.args.places.now;
   kept = λ fact h. h;
 }
@@ -29,6 +29,6 @@ loop-n-preserved g c = record {
 
 pub returns-clause-waits : goal.returns-clause-waits
 returns-clause-waits g c none =
-    all_waited (outside g.P.Port.gave g.P.Port.got_back g.P.Port.faults g.P.Port.settles g.P.K.Link.left g.P.K.Link.held g.P.K.Link.counts g.B.Pins.seat g.B.Pins.log g.B.Pins.pin_at)
+    all_waited (outside g.P.Port g.P.K.Link g.B.Pins)
     c.loop-n.n c.args.port.now c.loop-n.port c.args.places.now c.loop-n.places
     (omega (arith, c.loop-n-test.false, c.loop-n.auto.places)) (c.loop-n.invariant.waits none)

@@ -7,10 +7,10 @@ use Rattle.poll_many.proofs.rounds.take_turns.Given as goal
 
 abbrev pub invariant-loop-n : goal.invariant-loop-n
 invariant-loop-n g l = record {
-  under_way : IsUnderWay (outside g.P.Port.gave g.P.Port.got_back g.P.Port.faults g.P.Port.settles g.P.K.Link.left g.P.K.Link.held g.P.K.Link.counts g.B.Pins.seat g.B.Pins.log g.B.Pins.pin_at) l.call 0 l.wanted l.port l.places;
+  under_way : IsUnderWay (outside g.P.Port g.P.K.Link g.B.Pins) l.call 0 l.wanted l.port l.places;
   len : length l.places ≡ length l.fn.places;
   count : g.P.Port.faults l.fn.port ≤ g.P.Port.faults l.port;
   unsettled : g.P.Port.settles l.port ≡ g.P.Port.settles l.fn.port;
-  waits : l.any ≡ false → HaveWaited (outside g.P.Port.gave g.P.Port.got_back g.P.Port.faults g.P.Port.settles g.P.K.Link.left g.P.K.Link.held g.P.K.Link.counts g.B.Pins.seat g.B.Pins.log g.B.Pins.pin_at) l.n l.fn.port l.port l.fn.places l.places;
+  waits : l.any ≡ false → HaveWaited (outside g.P.Port g.P.K.Link g.B.Pins) l.n l.fn.port l.port l.fn.places l.places;
   kept : Keeps l.fn.cx l.cx;
 }

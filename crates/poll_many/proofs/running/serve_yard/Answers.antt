@@ -2,8 +2,8 @@
 use Rattle.std.proofs.Common.{ℕ, [], ◌∷◌, Err, inl, inr, refl, ap, subst, ◌∙◌, arith}
 use Rattle.nav_io.specs.Told.{append_told}
 use Rattle.shared_board.specs.Seats.{Holder, AreNewcomers}
-use Rattle.poll_many.specs.Connections.{outside}
-use Rattle.poll_many.specs.Yards.{yard_with}
+use Rattle.poll_many.specs.Connections.{outside_of_seats}
+use Rattle.poll_many.specs.Yards.{yard_at}
 use Rattle.poll_many.proofs.Yarded.{newcomers_are_seats, served_one, opened_none}
 use Rattle.poll_many.proofs.running.serve_yard.Goals as goal
 
@@ -14,10 +14,10 @@ serve_many-status-requires-clause-seats g c _ _ =
 pub returns-in-Ok-clause-served : goal.returns-in-Ok-clause-served
 returns-in-Ok-clause-served g c =
     served_one
-    (outside g.Y.P.Port.gave g.Y.P.Port.got_back g.Y.P.Port.faults g.Y.P.Port.settles g.Y.P.K.Link.left g.Y.P.K.Link.held g.Y.P.K.Link.counts (λ (h : Holder). h.seat) (λ (h : Holder). h.log) (λ (h : Holder). h.pin))
+    (outside_of_seats g.Y.P.Port g.Y.P.K.Link)
     c.args.wanted.seats c.args.wanted.connections
-    (yard_with (g.Y.Yard.gave c.args.yard.now) (g.Y.Yard.got_back c.args.yard.now) (g.Y.Yard.faults c.args.yard.now))
-    (yard_with (g.Y.Yard.gave c.close.new.self) (g.Y.Yard.got_back c.close.new.self) (g.Y.Yard.faults c.close.new.self))
+    (yard_at g.Y.Yard c.args.yard.now)
+    (yard_at g.Y.Yard c.close.new.self)
     c.in-Ok.port c.serve_many-status.new.port c.args.seats.items c.serve_many-status.result
     (c.close.ensures.given ∙ c.in-Ok.ensures.ok)
     (c.close.ensures.back ∙ ap (λ told. append_told told (c.serve_many-status.new.port ∷ [])) c.in-Ok.ensures.back)
@@ -28,18 +28,18 @@ returns-in-Ok-clause-served g c =
 pub returns-in-Err-Failed-clause-served : goal.returns-in-Err-Failed-clause-served
 returns-in-Err-Failed-clause-served g c =
     opened_none
-    (outside g.Y.P.Port.gave g.Y.P.Port.got_back g.Y.P.Port.faults g.Y.P.Port.settles g.Y.P.K.Link.left g.Y.P.K.Link.held g.Y.P.K.Link.counts (λ (h : Holder). h.seat) (λ (h : Holder). h.log) (λ (h : Holder). h.pin))
+    (outside_of_seats g.Y.P.Port g.Y.P.K.Link)
     c.args.wanted.seats c.args.wanted.connections
-    (yard_with (g.Y.Yard.gave c.args.yard.now) (g.Y.Yard.got_back c.args.yard.now) (g.Y.Yard.faults c.args.yard.now))
-    (yard_with (g.Y.Yard.gave c.port.new.self) (g.Y.Yard.got_back c.port.new.self) (g.Y.Yard.faults c.port.new.self))
+    (yard_at g.Y.Yard c.args.yard.now)
+    (yard_at g.Y.Yard c.port.new.self)
     8 c.in-Err-Failed.ensures.err c.in-Err-Failed.ensures.back c.in-Err-Failed.ensures.count
     (inl (refl, c.in-Err-Failed.ensures.cause (ap Err c.in-Err-Failed.field-0-is)))
 
 pub returns-in-Err-NoMemory-clause-served : goal.returns-in-Err-NoMemory-clause-served
 returns-in-Err-NoMemory-clause-served g c =
     opened_none
-    (outside g.Y.P.Port.gave g.Y.P.Port.got_back g.Y.P.Port.faults g.Y.P.Port.settles g.Y.P.K.Link.left g.Y.P.K.Link.held g.Y.P.K.Link.counts (λ (h : Holder). h.seat) (λ (h : Holder). h.log) (λ (h : Holder). h.pin))
+    (outside_of_seats g.Y.P.Port g.Y.P.K.Link)
     c.args.wanted.seats c.args.wanted.connections
-    (yard_with (g.Y.Yard.gave c.args.yard.now) (g.Y.Yard.got_back c.args.yard.now) (g.Y.Yard.faults c.args.yard.now))
-    (yard_with (g.Y.Yard.gave c.port.new.self) (g.Y.Yard.got_back c.port.new.self) (g.Y.Yard.faults c.port.new.self))
+    (yard_at g.Y.Yard c.args.yard.now)
+    (yard_at g.Y.Yard c.port.new.self)
     5 c.in-Err-NoMemory.ensures.err c.in-Err-NoMemory.ensures.back c.in-Err-NoMemory.ensures.count (inr refl)
