@@ -8,9 +8,10 @@ ghost use Rattle.poll_many.specs.Places.{is_lost};
 ghost use Rattle.poll_many.specs.Rounds.{IsUnderWay, AreFinished, AreNamed, ServesAll};
 
 use crate::call::Call;
+use crate::closing::close_all;
 use crate::place::{NO_MEMORY, Place};
 use crate::port::Port;
-use crate::rounds::{close_all, go_on};
+use crate::rounds::go_on;
 use crate::seating::{places_of, take_apart};
 use futures::task::Context;
 use graph_nodes::Steps;

@@ -2,6 +2,7 @@
 #![tactic(auto)]
 
 mod call;
+mod closing;
 mod finishing;
 mod lent;
 mod mem_port;

@@ -1,5 +1,5 @@
 //! A place for one session at a time: a seat with its desk, or a session that has both.
-ghost use Rattle.std.specs.Prelude.{◌≡◌, ◌≢◌, ◌≤◌, ◌==◌, true, false, Some, None, IsTrue, if◌then◌else◌};
+ghost use Rattle.std.specs.Prelude.{◌≡◌, ◌≢◌, ◌≤◌, ◌==◌, true, Some, None, IsTrue, if◌then◌else◌};
 ghost use Rattle.futures.specs.Poll.{IfReady, OnPending};
 ghost use Rattle.futures.specs.Task.{Keeps};
 ghost use Rattle.nav_io.specs.Faults.{HasRisen};
@@ -9,7 +9,7 @@ ghost use Rattle.nav_poll.specs.Links.{NoneFell};
 ghost use Rattle.nav_poll.specs.Polling.{KeepsStarts, WaitsForLink, seen};
 ghost use Rattle.poll_many.specs.Connections.{outside};
 ghost use Rattle.poll_many.specs.Waiting.{WaitsAt};
-ghost use Rattle.poll_many.specs.Places.{IsOpen, IsStanding, BeginsWith, TakesLink, TakesTurn, Closes, is_busy};
+ghost use Rattle.poll_many.specs.Places.{IsOpen, IsStanding, BeginsWith, TakesLink, TakesTurn, is_busy};
 
 use crate::port::{Arrived, Port};
 use futures::Future;
@@ -171,7 +171,7 @@ where
 }
 
 /// Puts this at the place, where nothing stands, so that nothing is dropped.
-fn put<B: Pins + Drop, K: Drop>(place: &mut Place<B, K>, what: Place<B, K>)
+pub(crate) fn put<B: Pins + Drop, K: Drop>(place: &mut Place<B, K>, what: Place<B, K>)
     requires empty { place.old ≡ Place.Away }
     ensures { place.new ≡ what }
 {
@@ -291,26 +291,4 @@ fn poll_once<R: Threads + Sync, B: Commits<R>, K: Link, L: Ledger>(
 {
     let mut driven = polled.with(rt, &Unguarded, steps);
     driven.poll(cx)
-}
-
-/// Breaks the session of the place off, if it has one: its link goes back, and its seat is free.
-pub(crate) fn close_place<B: Pins + Drop, P: Port>(place: &mut Place<B, P::K>, port: &mut P)
-where
-    P::K: Drop,
-    requires standing { IsStanding (outside P.Port P.K.Link B.Pins) place.old }
-    requires out { is_busy place.old ≡ true → HasOut (P.gave port.old) (P.got_back port.old) 1 }
-    ensures closes { Closes (outside P.Port P.K.Link B.Pins) place.old place.new port.old port.new }
-    ensures rests { is_busy place.new ≡ false }
-    ensures count { P.faults port.old ≤ P.faults port.new }
-    ensures unsettled { P.settles port.new ≡ P.settles port.old }
-{
-    match mem::replace(place, Place::Away) {
-        Place::Busy(session) => {
-            let Open { polled, .. } = session;
-            let (desk, board, link) = polled.close();
-            port.done(link);
-            put(place, Place::Free(desk, board));
-        }
-        other => put(place, other),
-    }
 }

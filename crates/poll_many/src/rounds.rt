@@ -1,15 +1,15 @@
 //! The rounds in which many sessions are served: links are taken for free seats, then each open session is polled once.
-ghost use Rattle.std.specs.Prelude.{◌≡◌, ◌≢◌, ◌≤◌, ◌<◌, ◌+◌, ◌||◌, not, true, false, length, Ok, OnOk, OnErr};
+ghost use Rattle.std.specs.Prelude.{◌≡◌, ◌≢◌, ◌≤◌, ◌<◌, ◌||◌, not, true, false, length, Ok, OnOk, OnErr};
 ghost use Rattle.std.specs.List.{list_any};
 ghost use Rattle.futures.specs.Task.{Keeps};
 ghost use Rattle.nav_io.specs.Faults.{HasRisen, counted};
 ghost use Rattle.poll_many.specs.Connections.{outside};
 ghost use Rattle.poll_many.specs.Places.{is_busy, is_free};
 ghost use Rattle.poll_many.specs.Waiting.{GaveNone, OneMoreWaits, AllHaveWaited, SettlesOn};
-ghost use Rattle.poll_many.specs.Rounds.{IsUnderWay, GoesRound, AreOver, NoneBusy, RestBefore, still_wanted};
+ghost use Rattle.poll_many.specs.Rounds.{IsUnderWay, GoesRound, AreOver, still_wanted};
 
 use crate::call::Call;
-use crate::place::{Asked, Place, Turn, close_place, take_link, take_turn};
+use crate::place::{Asked, Place, Turn, take_link, take_turn};
 use crate::port::Port;
 use futures::task::Context;
 use graph_nodes::Steps;
@@ -273,52 +273,4 @@ where
         settle_if(port, is_quiet)?;
     }
     unreachable!()
-}
-
-/// Breaks the session at the n-th place off, if one is there.
-fn close_at<B: Pins + Drop, P: Port>(
-    call: &Call<P, B>,
-    places: &mut [Place<B, P::K>],
-    n: usize,
-    port: &mut P,
-    wanted: u32,
-)
-where
-    P::K: Drop,
-    requires inside { n < length places.old }
-    requires under_way { IsUnderWay (outside P.Port P.K.Link B.Pins)
-        call.now n wanted port.old places.old }
-    requires before { RestBefore n places.old }
-    ensures under_way { IsUnderWay (outside P.Port P.K.Link B.Pins)
-        call.now (n + 1) wanted port.new places.new }
-    ensures before { RestBefore (n + 1) places.new }
-    ensures len { length places.new ≡ length places.old }
-    ensures count { P.faults port.old ≤ P.faults port.new }
-    ensures unsettled { P.settles port.new ≡ P.settles port.old }
-{
-    let _ = wanted;
-    close_place(&mut places[n], port);
-}
-
-/// Breaks all open sessions off.
-pub(crate) fn close_all<B: Pins + Drop, P: Port>(
-    call: &Call<P, B>,
-    places: &mut [Place<B, P::K>],
-    port: &mut P,
-    wanted: u32,
-)
-where
-    P::K: Drop,
-    requires under_way { IsUnderWay (outside P.Port P.K.Link B.Pins)
-        call.now 0 wanted port.old places.old }
-    ensures under_way { IsUnderWay (outside P.Port P.K.Link B.Pins)
-        call.now (length places.new) wanted port.new places.new }
-    ensures rest { NoneBusy places.new }
-    ensures len { length places.new ≡ length places.old }
-    ensures count { P.faults port.old ≤ P.faults port.new }
-    ensures unsettled { P.settles port.new ≡ P.settles port.old }
-{
-    for n in 0..places.len() {
-        close_at(call, places, n, port, wanted);
-    }
 }

@@ -2,7 +2,7 @@
 use Rattle.std.proofs.Common.{sym, ◌∙◌}
 use Rattle.poll_many.specs.Connections.{outside}
 use Rattle.poll_many.proofs.PlaceSteps.{broken_off_at}
-use Rattle.poll_many.proofs.place.close_place.Goals as goal
+use Rattle.poll_many.proofs.closing.close_place.Goals as goal
 
 pub returns-in-Busy-clause-closes : goal.returns-in-Busy-clause-closes
 returns-in-Busy-clause-closes g c =

@@ -3,7 +3,7 @@ use Rattle.std.proofs.Common.{slice_index_or}
 use Rattle.std.proofs.lemmas.Option.{slice_get-get_or}
 use Rattle.poll_many.specs.Connections.{outside}
 use Rattle.poll_many.proofs.PlaceTurns.{busy_out, closed, rest_put}
-use Rattle.poll_many.proofs.rounds.close_at.Goals as goal
+use Rattle.poll_many.proofs.closing.close_at.Goals as goal
 
 pub close_place-requires-clause-standing : goal.close_place-requires-clause-standing
 close_place-requires-clause-standing g c =

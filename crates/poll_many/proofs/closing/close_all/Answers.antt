@@ -3,7 +3,7 @@ use Rattle.std.proofs.Common.{length, arith}
 use Rattle.std.proofs.lemmas.Option.{slice_get_within}
 use Rattle.poll_many.specs.Connections.{outside}
 use Rattle.poll_many.proofs.PlaceTurns.{weaker}
-use Rattle.poll_many.proofs.rounds.close_all.Goals as goal
+use Rattle.poll_many.proofs.closing.close_all.Goals as goal
 
 pub returns-clause-under_way : goal.returns-clause-under_way
 returns-clause-under_way g c =

@@ -1,7 +1,7 @@
 use Rattle.std.proofs.Common.{◌≡◌, ◌≤◌, length}
 use Rattle.poll_many.specs.Connections.{outside}
 use Rattle.poll_many.specs.Rounds.{IsUnderWay, RestBefore}
-use Rattle.poll_many.proofs.rounds.close_all.Given as goal
+use Rattle.poll_many.proofs.closing.close_all.Given as goal
 
 -- So many places have no open session.
 abbrev pub invariant-loop-n : goal.invariant-loop-n
