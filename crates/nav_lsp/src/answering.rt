@@ -1,21 +1,19 @@
 //! One message of an editor answered.
 ghost use Rattle.std.specs.Prelude.{◌≡◌, ◌≤◌, length, IfOk, OnErr, None, Some};
 ghost use Rattle.version_board.specs.Logs.{own};
-ghost use Rattle.lsp_answers.specs.Queries.{IsPlaced, TellsDefinitions, TellsReferences};
-ghost use Rattle.lsp_texts.specs.Texts.{texts_in};
 ghost use Rattle.lsp_wire.specs.declared.message.Id.{Id as Name};
 ghost use Rattle.lsp_wire.specs.Uris.{root_of};
-ghost use Rattle.nav_lsp.specs.Editing.{files_of};
-ghost use Rattle.nav_lsp.specs.Held.{GoesOn, HoldsAll, IsReady, editing_at};
+ghost use Rattle.nav_lsp.specs.Held.{GoesOn, IsReady, editing_at};
 ghost use Rattle.nav_lsp.specs.Replies.{IsCarriedOut, IsMessage, IsNoted, IsNotified, IsReplied, IsRequested, refusal_of, refused, replied};
 
 use crate::committing::{change, close, put};
 use crate::editor::Editor;
+use crate::means::Means;
 use crate::phase::Phase;
+use crate::querying::{definition, reference};
 use crate::refusals::refusal_of;
 use graph_nodes::Steps;
-use lsp_answers::{place_of, tell_definitions, tell_references};
-use lsp_wire::{Asks, Body, Id, Message, Outcome, Position, Refusal, Reply, Text, root_of};
+use lsp_wire::{Asks, Body, Id, Message, Outcome, Refusal, Reply, Text, root_of};
 use nav_io::Gate;
 use std::alloc::{AllocError, Global};
 use std::sync::ledger::Ledger;
@@ -58,18 +56,17 @@ pub fn answer_message<R: Threads + Sync, B: Commits<R>, G: Gate + Sync, L: Ledge
         Body::Invalid => Ok(Some(refused(None, Refusal::InvalidRequest))),
         Body::Passed => Ok(None),
         Body::Message(Message { id, asks }) => {
-            answer_asked(rt, alloc, editor, board, gate, id, asks, steps)
+            let means = Means { rt, alloc, gate };
+            answer_asked(&means, editor, board, id, asks, steps)
         }
     }
 }
 
 /// What a message with a method is replied: with an id it is a request, and a notification without one.
 fn answer_asked<R: Threads + Sync, B: Commits<R>, G: Gate + Sync, L: Ledger>(
-    rt: &R,
-    alloc: Global,
+    means: &Means<'_, R, G>,
     editor: &mut Editor,
     board: &mut B,
-    gate: &G,
     id: Option<Id>,
     asks: Asks,
     steps: &mut Steps<L>,
@@ -85,9 +82,9 @@ fn answer_asked<R: Threads + Sync, B: Commits<R>, G: Gate + Sync, L: Ledger>(
         ≡ own (B.seat board.old) (B.log board.old)) }
 {
     match id {
-        Some(id) => Ok(Some(request(rt, alloc, editor, board, gate, id, asks)?)),
+        Some(id) => Ok(Some(request(means, editor, board, id, asks)?)),
         None => {
-            notification(rt, alloc, editor, board, gate, asks, steps)?;
+            notification(means, editor, board, asks, steps)?;
             Ok(None)
         }
     }
@@ -105,11 +102,9 @@ fn refused(id: Option<Id>, refusal: Refusal) -> Reply
 
 /// What a request is replied: why it is refused, or what comes of it. The one error is want of memory.
 fn request<R: Threads + Sync, B: Pins, G: Gate + Sync>(
-    rt: &R,
-    alloc: Global,
+    means: &Means<'_, R, G>,
     editor: &mut Editor,
     board: &B,
-    gate: &G,
     id: Id,
     asks: Asks,
 ) -> Result<Reply, AllocError>
@@ -123,18 +118,16 @@ fn request<R: Threads + Sync, B: Pins, G: Gate + Sync>(
         Some(refusal) => Ok(refused(Some(id), refusal)),
         None => Ok(Reply {
             id: Some(id),
-            outcome: carried_out(rt, alloc, editor, board, gate, asks)?,
+            outcome: carried_out(means, editor, board, asks)?,
         }),
     }
 }
 
 /// What comes of a request that isn't refused: it is `initialize`, `shutdown` or one of the two queries.
 fn carried_out<R: Threads + Sync, B: Pins, G: Gate + Sync>(
-    rt: &R,
-    alloc: Global,
+    means: &Means<'_, R, G>,
     editor: &mut Editor,
     board: &B,
-    gate: &G,
     asks: Asks,
 ) -> Result<Outcome, AllocError>
     requires ready { IsReady editor.old (B.log board.now) (B.pin_at board.now) }
@@ -146,22 +139,13 @@ fn carried_out<R: Threads + Sync, B: Pins, G: Gate + Sync>(
     ensures ready { IfOk result (λ _. IsReady editor.new (B.log board.now) (B.pin_at board.now)) }
 {
     match asks {
-        Asks::Initialize { root } => begin(alloc, editor, &root),
-        Asks::Definition { uri, at } => definition(alloc, editor, board, uri.as_str(), at),
+        Asks::Initialize { root } => begin(means.alloc, editor, &root),
+        Asks::Definition { uri, at } => definition(means.alloc, editor, board, uri.as_str(), at),
         Asks::References {
             uri,
             at,
             declaration,
-        } => reference(
-            rt,
-            alloc,
-            editor,
-            board,
-            gate,
-            uri.as_str(),
-            at,
-            declaration,
-        ),
+        } => reference(means, editor, board, uri.as_str(), at, declaration),
         _ => {
             editor.phase = Phase::Shut;
             Ok(Outcome::Null)
@@ -186,88 +170,11 @@ fn begin(alloc: Global, editor: &mut Editor, uri: &Option<Text>) -> Result<Outco
     Ok(Outcome::Capabilities)
 }
 
-/// What the request for definitions is told, over the version that is pinned. The one error is want of memory.
-fn definition<B: Pins>(
-    alloc: Global,
-    editor: &mut Editor,
-    board: &B,
-    uri: &str,
-    at: Position,
-) -> Result<Outcome, AllocError>
-    requires ready { IsReady editor.old (B.log board.now) (B.pin_at board.now) }
-    ensures outcome { IfOk result (IsPlaced editor.old.root.items
-        (texts_in editor.old.texts) uri.now at
-        (TellsDefinitions (files_of (B.log board.now) (B.pin_at board.now)) editor.old.root.items
-        (texts_in editor.old.texts))) }
-    ensures pinned { B.pin_at board.now ≤ length (B.log board.now) }
-    ensures holds { HoldsAll editor.old editor.new }
-    ensures ready { IfOk result (λ _. IsReady editor.new (B.log board.now) (B.pin_at board.now)) }
-{
-    let pinned = board.pinned();
-    let Some(place) = place_of(alloc, &editor.root, &editor.texts, uri, at)? else {
-        return Ok(Outcome::Null);
-    };
-    let view = editor.take_view(alloc, &pinned.version)?;
-    let outcome = tell_definitions(
-        alloc,
-        view.view(),
-        &pinned.index,
-        &editor.root,
-        &editor.texts,
-        &place,
-    )?;
-    editor.keep_view(view);
-    Ok(outcome)
-}
-
-/// What the request for references is told, over the version that is pinned. The one error is want of memory.
-fn reference<R: Threads + Sync, B: Pins, G: Gate + Sync>(
-    rt: &R,
-    alloc: Global,
-    editor: &mut Editor,
-    board: &B,
-    gate: &G,
-    uri: &str,
-    at: Position,
-    declaration: bool,
-) -> Result<Outcome, AllocError>
-    requires ready { IsReady editor.old (B.log board.now) (B.pin_at board.now) }
-    ensures outcome { IfOk result (IsPlaced editor.old.root.items
-        (texts_in editor.old.texts) uri.now at
-        (TellsReferences (files_of (B.log board.now) (B.pin_at board.now)) editor.old.root.items
-        (texts_in editor.old.texts) declaration)) }
-    ensures pinned { B.pin_at board.now ≤ length (B.log board.now) }
-    ensures holds { HoldsAll editor.old editor.new }
-    ensures ready { IfOk result (λ _. IsReady editor.new (B.log board.now) (B.pin_at board.now)) }
-{
-    let pinned = board.pinned();
-    let Some(place) = place_of(alloc, &editor.root, &editor.texts, uri, at)? else {
-        return Ok(Outcome::Null);
-    };
-    let mut view = editor.take_view(alloc, &pinned.version)?;
-    let (root, texts) = (&editor.root, &editor.texts);
-    let outcome = tell_references(
-        rt,
-        alloc,
-        &mut view,
-        &pinned.index,
-        gate,
-        root,
-        texts,
-        &place,
-        declaration,
-    )?;
-    editor.keep_view(view);
-    Ok(outcome)
-}
-
 /// Does what a notification asks for: nothing before `initialize` and after `shutdown`.
 fn notification<R: Threads + Sync, B: Commits<R>, G: Gate + Sync, L: Ledger>(
-    rt: &R,
-    alloc: Global,
+    means: &Means<'_, R, G>,
     editor: &mut Editor,
     board: &mut B,
-    gate: &G,
     asks: Asks,
     steps: &mut Steps<L>,
 ) -> Result<(), AllocError>
@@ -283,18 +190,16 @@ fn notification<R: Threads + Sync, B: Commits<R>, G: Gate + Sync, L: Ledger>(
         ≡ own (B.seat board.old) (B.log board.old)) }
 {
     match editor.phase {
-        Phase::Open => noted(rt, alloc, editor, board, gate, asks, steps),
+        Phase::Open => noted(means, editor, board, asks, steps),
         Phase::Before | Phase::Shut => Ok(()),
     }
 }
 
 /// Does what a notification asks for in a session that is open: each but those of documents is passed over.
 fn noted<R: Threads + Sync, B: Commits<R>, G: Gate + Sync, L: Ledger>(
-    rt: &R,
-    alloc: Global,
+    means: &Means<'_, R, G>,
     editor: &mut Editor,
     board: &mut B,
-    gate: &G,
     asks: Asks,
     steps: &mut Steps<L>,
 ) -> Result<(), AllocError>
@@ -309,20 +214,9 @@ fn noted<R: Threads + Sync, B: Commits<R>, G: Gate + Sync, L: Ledger>(
         ≡ own (B.seat board.old) (B.log board.old)) }
 {
     match asks {
-        Asks::DidOpen { uri, text } => put(
-            rt,
-            alloc,
-            editor,
-            board,
-            gate,
-            uri.as_str(),
-            text,
-            steps,
-        ),
-        Asks::DidChange { uri, text } => {
-            change(rt, alloc, editor, board, gate, uri.as_str(), text, steps)
-        }
-        Asks::DidClose { uri } => close(rt, alloc, editor, board, gate, uri.as_str(), steps),
+        Asks::DidOpen { uri, text } => put(means, editor, board, uri.as_str(), text, steps),
+        Asks::DidChange { uri, text } => { change(means, editor, board, uri.as_str(), text, steps) }
+        Asks::DidClose { uri } => close(means, editor, board, uri.as_str(), steps),
         _ => Ok(()),
     }
 }

@@ -9,6 +9,7 @@ ghost use Rattle.nav_lsp.specs.Editing.{operator};
 ghost use Rattle.nav_lsp.specs.Replies.{IsChanged, IsClosed, IsPut};
 
 use crate::editor::Editor;
+use crate::means::Means;
 use graph_nodes::Steps;
 use lsp_answers::path_under;
 use lsp_texts::{OpenText, OpenTexts};
@@ -16,21 +17,19 @@ use lsp_wire::Text;
 use nav_io::Gate;
 use nav_proto::{DocText, Edits, FileEdit, Reply, Request};
 use nav_session::{Desk, reply_to};
-use std::alloc::{AllocError, Global};
+use std::alloc::AllocError;
 use std::sync::ledger::Ledger;
 use std::thread::Threads;
 use version_board::Commits;
 use version_tree::PathText;
 
-/// Commits one edit, and keeps no document beside the version, but such as cost nothing. It tells whether it was accepted; the one error is want of
-/// memory, and then no entry of it is in the log.
+/// Commits one edit, and keeps no document beside the version, but such as cost nothing. It tells whether it was accepted;
+/// the one error is want of memory, and then no entry of it is in the log.
 #[tactic(auto, using(crate::proofs::Committed::commits_one, crate::proofs::Committed::still_named, crate::proofs::Committed::lets_go))]
 fn commit<R: Threads + Sync, B: Commits<R>, G: Gate + Sync, L: Ledger>(
-    rt: &R,
-    alloc: Global,
+    means: &Means<'_, R, G>,
     desk: &mut Desk,
     board: &mut B,
-    gate: &G,
     edit: FileEdit,
     steps: &mut Steps<L>,
 ) -> Result<bool, AllocError>
@@ -47,6 +46,7 @@ fn commit<R: Threads + Sync, B: Commits<R>, G: Gate + Sync, L: Ledger>(
     ensures none { OnErr result (own (B.seat board.old) (B.log board.new)
         ≡ own (B.seat board.old) (B.log board.old)) }
 {
+    let Means { rt, alloc, gate } = *means;
     let mut edits = Vec::with_capacity(alloc, 1)?;
     edits.push(edit)?;
     let request = Request::Commit {
@@ -70,11 +70,9 @@ fn is_accepted(reply: &Reply) -> bool
 /// with the places of its lines. The one error is want of memory, and then no entry of it is in the log: what is kept is
 /// made before the text is committed.
 pub(crate) fn put<R: Threads + Sync, B: Commits<R>, G: Gate + Sync, L: Ledger>(
-    rt: &R,
-    alloc: Global,
+    means: &Means<'_, R, G>,
     editor: &mut Editor,
     board: &mut B,
-    gate: &G,
     uri: &str,
     text: Text,
     steps: &mut Steps<L>,
@@ -89,17 +87,17 @@ pub(crate) fn put<R: Threads + Sync, B: Commits<R>, G: Gate + Sync, L: Ledger>(
     ensures none { OnErr result (own (B.seat board.old) (B.log board.new)
         ≡ own (B.seat board.old) (B.log board.old)) }
 {
-    let Some(path) = path_under(alloc, &editor.root, uri)? else {
+    let Some(path) = path_under(means.alloc, &editor.root, uri)? else {
         return Ok(());
     };
     let edit = FileEdit::Put {
-        path: path.copy(alloc)?,
-        text: DocText::of(alloc, text.as_str())?,
+        path: path.copy(means.alloc)?,
+        text: DocText::of(means.alloc, text.as_str())?,
     };
-    let kept = OpenText::of(alloc, text)?;
-    editor.texts.make_room(alloc, path.as_str())?;
+    let kept = OpenText::of(means.alloc, text)?;
+    editor.texts.make_room(means.alloc, path.as_str())?;
     editor.forget_view();
-    let accepted = commit(rt, alloc, &mut editor.desk, board, gate, edit, steps)?;
+    let accepted = commit(means, &mut editor.desk, board, edit, steps)?;
     put_if(accepted, &mut editor.texts, path.as_str(), kept);
     Ok(())
 }
@@ -117,11 +115,9 @@ fn put_if(accepted: bool, texts: &mut OpenTexts, path: &str, text: OpenText)
 
 /// The document has this text from now on, as by `put`; where there is no text nothing changes.
 pub(crate) fn change<R: Threads + Sync, B: Commits<R>, G: Gate + Sync, L: Ledger>(
-    rt: &R,
-    alloc: Global,
+    means: &Means<'_, R, G>,
     editor: &mut Editor,
     board: &mut B,
-    gate: &G,
     uri: &str,
     text: Option<Text>,
     steps: &mut Steps<L>,
@@ -137,7 +133,7 @@ pub(crate) fn change<R: Threads + Sync, B: Commits<R>, G: Gate + Sync, L: Ledger
         ≡ own (B.seat board.old) (B.log board.old)) }
 {
     match text {
-        Some(text) => put(rt, alloc, editor, board, gate, uri, text, steps),
+        Some(text) => put(means, editor, board, uri, text, steps),
         None => Ok(()),
     }
 }
@@ -145,11 +141,9 @@ pub(crate) fn change<R: Threads + Sync, B: Commits<R>, G: Gate + Sync, L: Ledger
 /// The document is no longer open, where it is inside: it is removed from the files, and its text isn't kept any more. The
 /// one error is want of memory, and then no entry of it is in the log.
 pub(crate) fn close<R: Threads + Sync, B: Commits<R>, G: Gate + Sync, L: Ledger>(
-    rt: &R,
-    alloc: Global,
+    means: &Means<'_, R, G>,
     editor: &mut Editor,
     board: &mut B,
-    gate: &G,
     uri: &str,
     steps: &mut Steps<L>,
 ) -> Result<(), AllocError>
@@ -163,14 +157,14 @@ pub(crate) fn close<R: Threads + Sync, B: Commits<R>, G: Gate + Sync, L: Ledger>
     ensures none { OnErr result (own (B.seat board.old) (B.log board.new)
         ≡ own (B.seat board.old) (B.log board.old)) }
 {
-    let Some(path) = path_under(alloc, &editor.root, uri)? else {
+    let Some(path) = path_under(means.alloc, &editor.root, uri)? else {
         return Ok(());
     };
     let edit = FileEdit::Remove {
-        path: path.copy(alloc)?,
+        path: path.copy(means.alloc)?,
     };
     editor.forget_view();
-    let accepted = commit(rt, alloc, &mut editor.desk, board, gate, edit, steps)?;
+    let accepted = commit(means, &mut editor.desk, board, edit, steps)?;
     remove_if(accepted, &mut editor.texts, path.as_str());
     Ok(())
 }

@@ -6,7 +6,9 @@ mod answering;
 mod committing;
 mod editor;
 mod laws;
+mod means;
 mod phase;
+mod querying;
 mod refusals;
 mod serving;
 

@@ -10,6 +10,7 @@ ghost use Rattle.nav_lsp.specs.Turns.{BeginsToEdit, HasNoEntry, IsFresh, TakesTu
 
 use crate::answering::answer_message;
 use crate::editor::{Editor, OPERATOR};
+use crate::means::Means;
 use graph_nodes::Steps;
 use lsp_frames::FrameReader;
 use lsp_messages::{Halt, MAX_MESSAGES, More, ends_session, look_on, next_message, write_reply};
@@ -93,7 +94,8 @@ pub fn serve_lsp<R: Threads + Sync, B: Commits<R>, S: Source, K: Sink, G: Gate +
     ensures sink_count { K.faults sink.old ≤ K.faults sink.new }
 {
     let mut editor = Editor::new(alloc);
-    match serve_messages(rt, alloc, &mut editor, board, gate, source, sink, steps) {
+    let means = Means { rt, alloc, gate };
+    match serve_messages(&means, &mut editor, board, source, sink, steps) {
         Ok(end) => end.status(&editor),
         Err(halt) => halt.status(),
     }
@@ -108,11 +110,9 @@ fn status_at_exit(editor: &Editor) -> u8
 
 // Names the operator, and pins the newest version.
 fn name_operator<R: Threads + Sync, B: Commits<R>, G: Gate + Sync, L: Ledger>(
-    rt: &R,
-    alloc: Global,
+    means: &Means<'_, R, G>,
     editor: &mut Editor,
     board: &mut B,
-    gate: &G,
     steps: &mut Steps<L>,
 ) -> Result<(), AllocError>
     requires fresh { IsFresh editor.old }
@@ -122,6 +122,7 @@ fn name_operator<R: Threads + Sync, B: Commits<R>, G: Gate + Sync, L: Ledger>(
         (λ _. BeginsToEdit (B.seat board.old) (B.log board.old) (B.log board.new)
         (B.pin_at board.new) editor.new) }
 {
+    let Means { rt, alloc, gate } = *means;
     let hello = Request::Hello {
         user: UserText::of(alloc, OPERATOR)?,
     };
@@ -131,11 +132,9 @@ fn name_operator<R: Threads + Sync, B: Commits<R>, G: Gate + Sync, L: Ledger>(
 
 // Answers message by message, where nothing was made of the editor yet.
 fn serve_messages<R: Threads + Sync, B: Commits<R>, S: Source, K: Sink, G: Gate + Sync, L: Ledger>(
-    rt: &R,
-    alloc: Global,
+    means: &Means<'_, R, G>,
     editor: &mut Editor,
     board: &mut B,
-    gate: &G,
     source: &mut S,
     sink: &mut K,
     steps: &mut Steps<L>,
@@ -152,15 +151,15 @@ fn serve_messages<R: Threads + Sync, B: Commits<R>, S: Source, K: Sink, G: Gate 
     ensures source_count { S.faults source.old ≤ S.faults source.new }
     ensures sink_count { K.faults sink.old ≤ K.faults sink.new }
 {
-    let mut reader = FrameReader::new(alloc)?;
-    name_operator(rt, alloc, editor, board, gate, steps)?;
+    let mut reader = FrameReader::new(means.alloc)?;
+    name_operator(means, editor, board, steps)?;
     for _ in 0..MAX_MESSAGES {
-        let turn = answer_next(rt, alloc, editor, board, gate, &mut reader, source, steps)?;
+        let turn = answer_next(means, editor, board, &mut reader, source, steps)?;
         let Some(step) = turn else {
             return Ok(End::Input);
         };
         let exit = step.exit;
-        write_reply(alloc, sink, &step.reply)?;
+        write_reply(means.alloc, sink, &step.reply)?;
         if exit {
             return Ok(End::Exit);
         }
@@ -181,11 +180,9 @@ fn end_before(more: More) -> End
 
 // Reads the next message and answers it; none where the input ends.
 fn answer_next<R: Threads + Sync, B: Commits<R>, S: Source, G: Gate + Sync, L: Ledger>(
-    rt: &R,
-    alloc: Global,
+    means: &Means<'_, R, G>,
     editor: &mut Editor,
     board: &mut B,
-    gate: &G,
     reader: &mut FrameReader,
     source: &mut S,
     steps: &mut Steps<L>,
@@ -201,6 +198,7 @@ fn answer_next<R: Threads + Sync, B: Commits<R>, S: Source, G: Gate + Sync, L: L
     ensures cause { result ≡ Err halt.SourceFailed
         → HasRisen (S.faults source.old) (S.faults source.new) }
 {
+    let Means { rt, alloc, gate } = *means;
     let Some(body) = next_message(alloc, reader, source)? else {
         return Ok(None);
     };
