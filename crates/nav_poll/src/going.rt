@@ -13,7 +13,7 @@ use crate::link::Link;
 use crate::polled::Polled;
 use crate::pulling::pull_more;
 use crate::pushing::push_rest;
-use crate::turning::take_line;
+use crate::turning::{Means, take_line};
 use crate::went::Went;
 use futures::task::Poll;
 use graph_nodes::Steps;
@@ -116,12 +116,12 @@ fn turn<R: Threads + Sync, B: Commits<R>, K: Link, G: Gate + Sync, L: Ledger>(
     if polled.lines >= MAX_LINES {
         return look_on(polled);
     }
+    let alloc = polled.alloc;
+    let means = Means { rt, alloc, gate };
     match take_line(
-        rt,
-        polled.alloc,
+        &means,
         &mut polled.desk,
         &mut polled.board,
-        gate,
         &mut polled.reader,
         &mut polled.in_front,
         steps,

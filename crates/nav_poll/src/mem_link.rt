@@ -25,7 +25,11 @@ impl Model for Calls {
 
     ghost Value = { Calling };
 
-    ghost view = { λ calls. record { not_yet = calls.not_yet.items; failing = calls.failing.items; made = calls.made } };
+    ghost view = { λ calls. record {
+      not_yet = calls.not_yet.items;
+      failing = calls.failing.items;
+      made = calls.made;
+    } };
 }
 
 /// Whether the call with this number is one of these, as those of a link in memory that are to wait, or to fail.
@@ -105,8 +109,16 @@ impl MemLink {
           left = bytes.items;
           held = [];
           piece = piece;
-          pulls = record { not_yet = pulls_not_yet.items; failing = pulls_failing.items; made = 0 };
-          pushes = record { not_yet = pushes_not_yet.items; failing = pushes_failing.items; made = 0 };
+          pulls = record {
+            not_yet = pulls_not_yet.items;
+            failing = pulls_failing.items;
+            made = 0;
+          };
+          pushes = record {
+            not_yet = pushes_not_yet.items;
+            failing = pushes_failing.items;
+            made = 0;
+          };
           counts = record { read_faults = 0; write_faults = 0; read_waits = 0; write_waits = 0 };
         } }
     {

@@ -14,13 +14,20 @@ use std::sync::ledger::Ledger;
 use std::thread::Threads;
 use version_board::Commits;
 
+/// What a line is answered with: the handle by which a query starts threads, the allocator, and the gate that the threads
+/// share.
+#[derive(Drop)]
+pub struct Means<'a, R, G> {
+    pub(crate) rt: &'a R,
+    pub(crate) alloc: Global,
+    pub(crate) gate: &'a G,
+}
+
 // Answers the line in front of the reader, which has so many bytes there; none where it isn't whole.
 pub(crate) fn take_line<R: Threads + Sync, B: Commits<R>, G: Gate + Sync, L: Ledger>(
-    rt: &R,
-    alloc: Global,
+    means: &Means<'_, R, G>,
     desk: &mut Desk,
     board: &mut B,
-    gate: &G,
     reader: &mut LineReader,
     in_front: &mut usize,
     steps: &mut Steps<L>,
@@ -46,6 +53,7 @@ pub(crate) fn take_line<R: Threads + Sync, B: Commits<R>, G: Gate + Sync, L: Led
     ensures short { result ≡ Ok None → length reader.new.front ≤ line_max }
     ensures at_end { result ≡ Ok None → reader.new.ended ≡ true → reader.new.front ≡ [] }
 {
+    let Means { rt, alloc, gate } = *means;
     match reader.whole_line() {
         Ok(Some(line)) => {
             *in_front = in_front.saturating_sub(line.len() + 1);
