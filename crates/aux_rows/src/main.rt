@@ -10,6 +10,7 @@ mod backward;
 mod callers;
 mod counts;
 mod documents;
+mod due;
 mod graphs;
 mod in_sessions;
 mod lines;

@@ -1,24 +1,14 @@
-//! The ways in which a row's input comes and its output goes, and what is to be written then.
+//! The ways in which a row's input comes and its output goes.
 use crate::counts::Tally;
+use crate::due::{due, due_at_read, due_at_write, told};
 use crate::row::{Exchange, Row};
 use crate::sessions::{Given, given_by, given_typed};
 use std::alloc::{AllocError, Global};
 use std::sync::Wait;
 use std::thread::Threads;
 
-/// The reply to a line that is cut.
-const CUT: &[u8] = b"{\"error\":\"bad_json\"}\n";
-
 /// How many reads, and how many writes, are failed in turn.
 const CALLS: u32 = 40;
-
-/// A status and what was written.
-fn told(alloc: Global, status: u8, written: &[u8]) -> Result<Vec<u8>, AllocError> {
-    let text = format!(in alloc; "status {status} ")?;
-    let mut bytes = text.into_bytes();
-    bytes.extend_from_slice(written)?;
-    Ok(bytes)
-}
 
 /// Adds what was written at a door.
 fn push_door(bytes: &mut Vec<u8>, written: &[u8]) -> Result<(), AllocError> {
@@ -111,48 +101,6 @@ pub fn typed<R: Threads + Wait + Sync>(
     tally.compare(alloc, name, "typed", &wanted, &came(alloc, &given)?)
 }
 
-/// The first so many lines of a text.
-fn first_lines(alloc: Global, text: &[u8], count: usize) -> Result<Vec<u8>, AllocError> {
-    let mut lines = Vec::new(alloc);
-    let mut left = count;
-    for byte in text {
-        if left > 0 {
-            lines.push(*byte)?;
-        }
-        if *byte == b'\n' {
-            left = left.saturating_sub(1);
-        }
-    }
-    Ok(lines)
-}
-
-/// What is to be written where so many bytes of the input were taken and it ended there or goes on: the reply to
-/// each whole line; and where it ended, to the last one too, which may be cut.
-fn due(
-    alloc: Global,
-    exchange: &Exchange,
-    taken: usize,
-    ended: bool,
-) -> Result<Vec<u8>, AllocError> {
-    let input = exchange.input.as_slice();
-    let whole = input.iter().take(taken).filter(|b| **b == b'\n').count();
-    let cut = match input.iter().take(taken).last() {
-        Some(b'\n') | None => false,
-        Some(_) => ended,
-    };
-    let is_end = matches!(input.get(taken), Some(b'\n'));
-    let lines = if cut && is_end {
-        whole.saturating_add(1)
-    } else {
-        whole
-    };
-    let mut due = first_lines(alloc, &exchange.wanted, lines)?;
-    if cut && !is_end {
-        due.extend_from_slice(CUT)?;
-    }
-    Ok(due)
-}
-
 /// A copy of an exchange with other input and other calls that fail.
 fn changed(
     alloc: Global,
@@ -165,6 +113,23 @@ fn changed(
     exchange.reads = reads;
     exchange.writes = writes;
     Ok(exchange)
+}
+
+/// Runs a row on this exchange, where a read gives and a write takes so many bytes at most, and compares what came.
+fn compare_on<R: Threads + Wait + Sync>(
+    rt: &R,
+    alloc: Global,
+    name: &str,
+    case: &str,
+    row: &Row,
+    exchange: &Exchange,
+    piece: u32,
+    takes: u32,
+    wanted: &[u8],
+    tally: &mut Tally,
+) -> Result<(), AllocError> {
+    let given = given_by(rt, alloc, row, exchange, piece, takes)?;
+    tally.compare(alloc, name, case, wanted, &came(alloc, &given)?)
 }
 
 /// Runs a row with its input cut at each byte.
@@ -195,10 +160,20 @@ fn cut_at<R: Threads + Wait + Sync>(
     let case = format!(in alloc; "cut at byte {cut}")?;
     let input = exchange.input.get(..cut).unwrap_or(&[]);
     let cut_one = changed(alloc, input, Vec::new(alloc), Vec::new(alloc))?;
-    let given = given_by(rt, alloc, row, &cut_one, 4_096, 4_096)?;
     let due = due(alloc, exchange, cut, true)?;
     let wanted = told(alloc, row.status, &due)?;
-    tally.compare(alloc, name, case.as_str(), &wanted, &came(alloc, &given)?)
+    compare_on(
+        rt,
+        alloc,
+        name,
+        case.as_str(),
+        row,
+        &cut_one,
+        4_096,
+        4_096,
+        &wanted,
+        tally,
+    )
 }
 
 /// Runs a row with each of its first reads failing.
@@ -219,23 +194,6 @@ pub fn reads<R: Threads + Wait + Sync>(
     Ok(())
 }
 
-/// The status and what is to be written where so many reads of such pieces go well and the next one fails: 3, where
-/// there is such a read.
-fn due_at_read(
-    alloc: Global,
-    exchange: &Exchange,
-    piece: u32,
-    read: u32,
-) -> Result<Vec<u8>, AllocError> {
-    let taken = (piece as usize).saturating_mul(read as usize);
-    let all = exchange.input.len();
-    if taken < all.saturating_add(piece as usize) {
-        told(alloc, 3, &due(alloc, exchange, taken, false)?)
-    } else {
-        told(alloc, 0, &due(alloc, exchange, all, true)?)
-    }
-}
-
 fn read_at<R: Threads + Wait + Sync>(
     rt: &R,
     alloc: Global,
@@ -249,9 +207,19 @@ fn read_at<R: Threads + Wait + Sync>(
     let case = format!(in alloc; "failing read {read} of {piece} bytes")?;
     let failing = vec![in alloc; read]?;
     let failing_one = changed(alloc, &exchange.input, failing, Vec::new(alloc))?;
-    let given = given_by(rt, alloc, row, &failing_one, piece, 4_096)?;
     let wanted = due_at_read(alloc, exchange, piece, read)?;
-    tally.compare(alloc, name, case.as_str(), &wanted, &came(alloc, &given)?)
+    compare_on(
+        rt,
+        alloc,
+        name,
+        case.as_str(),
+        row,
+        &failing_one,
+        piece,
+        4_096,
+        &wanted,
+        tally,
+    )
 }
 
 /// Runs a row with each of its first writes failing.
@@ -272,34 +240,6 @@ pub fn writes<R: Threads + Wait + Sync>(
     Ok(())
 }
 
-/// The status and what is taken where an output of such pieces takes so many writes and fails the next one: 4, where
-/// there is such a write. Each line is written by itself.
-fn due_at_write(
-    alloc: Global,
-    replies: &[u8],
-    piece: u32,
-    write: u32,
-) -> Result<Vec<u8>, AllocError> {
-    let mut taken = Vec::new(alloc);
-    let mut writes: u32 = 0;
-    let mut room = piece;
-    for byte in replies {
-        if room == piece {
-            if writes == write {
-                return told(alloc, 4, &taken);
-            }
-            writes = writes.saturating_add(1);
-        }
-        taken.push(*byte)?;
-        room = if *byte == b'\n' || room <= 1 {
-            piece
-        } else {
-            room - 1
-        };
-    }
-    told(alloc, 0, &taken)
-}
-
 fn write_at<R: Threads + Wait + Sync>(
     rt: &R,
     alloc: Global,
@@ -313,7 +253,17 @@ fn write_at<R: Threads + Wait + Sync>(
     let case = format!(in alloc; "failing write {write} of {piece} bytes")?;
     let failing = vec![in alloc; write]?;
     let failing_one = changed(alloc, &exchange.input, Vec::new(alloc), failing)?;
-    let given = given_by(rt, alloc, row, &failing_one, 4_096, piece)?;
     let wanted = due_at_write(alloc, &exchange.wanted, piece, write)?;
-    tally.compare(alloc, name, case.as_str(), &wanted, &came(alloc, &given)?)
+    compare_on(
+        rt,
+        alloc,
+        name,
+        case.as_str(),
+        row,
+        &failing_one,
+        4_096,
+        piece,
+        &wanted,
+        tally,
+    )
 }
