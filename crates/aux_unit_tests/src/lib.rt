@@ -5,6 +5,8 @@
 #[cfg(test)]
 mod bare;
 #[cfg(test)]
+mod doors;
+#[cfg(test)]
 mod kept_paths;
 #[cfg(test)]
 mod lines;
@@ -22,5 +24,7 @@ mod sharing;
 mod tables;
 #[cfg(test)]
 mod text_places;
+#[cfg(test)]
+mod version_edits;
 #[cfg(test)]
 mod versions;
