@@ -36,7 +36,7 @@ example: kit
 JOBS ?= $(shell nproc)
 
 # Proves all that the program stands on, crates side by side, builds it as crates/navd/out/navd, and answers the stored
-# session. From nothing it proves what the gate proves, but for crates of tests and of measurements, and neither tests nor
+# session. From nothing it proves what the gate proves, but for crates of tests, and neither tests nor
 # wrong bodies; what an earlier call proved and nothing has changed is kept. Each crate waits for those below it, so it takes
 # no less than the longest chain of them.
 build: kit
