@@ -78,7 +78,7 @@ fn indexed<R: Threads + Sync>(rt: &R, alloc: Global, desks: u64) -> Result<(u64,
     indexed_on::<_, Brand>(rt, alloc, desks, Blank::new(1))
 }
 
-/// A desk alone keeps it, and one of 12,000,000, whose part is 4, doesn't.
+/// A desk alone keeps it, and one of 12,000,000, whose part is 2, doesn't.
 #[test]
 fn a_desk_keeps_no_more_than_its_part(rt: HostRuntime) -> Result<(), Fail> {
     assert_eq!(rt; indexed(&rt, rt.alloc(), 1)?, (1, 0));

@@ -41,9 +41,13 @@ HasItsView desk log pin =
 abbrev pub max_cost : ℕ
 max_cost = 48000000
 
+-- the most that the documents may cost which desks that share keep together
+abbrev pub shared_cost : ℕ
+shared_cost = 24000000
+
 -- the part that each of so many desks keeps of that
 abbrev pub share : ℕ → ℕ
-share desks = max_cost / desks
+share desks = shared_cost / desks
 
 -- whether a commit with this reply was accepted, and whether its documents were indexed
 abbrev pub is_accepted : Reply → Bool

@@ -1,7 +1,7 @@
 ghost use Rattle.std.specs.Prelude.{◌≡◌, ◌≤◌, ◌*◌, [], None, Some, is_some, IfOk, IfSome, if◌then◌else◌};
 ghost use Rattle.path_store.specs.Store.{swept};
 ghost use Rattle.version_tree.specs.Contents.{granted_rows};
-ghost use Rattle.nav_session.specs.Desks.{is_accepted, max_cost, share};
+ghost use Rattle.nav_session.specs.Desks.{is_accepted, max_cost, share, shared_cost};
 ghost use Rattle.nav_session.specs.Inside.{change_refusal};
 
 use nav_answers::AskedView;
@@ -11,9 +11,13 @@ use std::alloc::{AllocError, Global};
 use std::marker::Model;
 use version_tree::{UserText, Version};
 
-/// The most that the documents may cost that one desk keeps, or several together that share: the weights of their paths
-/// and their bytes.
+/// The most that the documents may cost that a desk keeps which shares with none: the weights of their paths and their
+/// bytes.
 pub const MAX_COST: u64 = 48_000_000;
+
+/// The most that those may cost which several desks keep together that share. It is less, since each of their sessions has
+/// a thread of its own, whose freed memory the others don't use.
+pub const SHARED_COST: u64 = 24_000_000;
 
 /// The user that may change a version.
 const OPERATOR: &str = "operator";
@@ -56,18 +60,18 @@ impl Desk {
     }
 
     /// One of so many desks that share, at least 1, with no documents and nobody named: it keeps documents up to its part of
-    /// `MAX_COST`, rounded down, so that all together keep no more than that. It takes no memory.
+    /// `SHARED_COST`, rounded down, so that all together keep no more than that. It takes no memory.
     pub fn sharing(alloc: Global, desks: u64) -> Desk
         requires { 1 ≤ desks }
         ensures desk { result
             ≡ record { store = []; user = None; view = None; keeps = share desks } }
-        ensures together { result.keeps * desks ≤ max_cost }
+        ensures together { result.keeps * desks ≤ shared_cost }
     {
         Desk {
             store: PathStore::new(alloc),
             user: None,
             view: None,
-            keeps: MAX_COST / desks,
+            keeps: SHARED_COST / desks,
         }
     }
 

@@ -20,7 +20,7 @@ mod step;
 
 pub use answering::{answer_line, reply_to};
 pub use bad_file::file_error;
-pub use desk::{Desk, MAX_COST};
+pub use desk::{Desk, MAX_COST, SHARED_COST};
 pub use exchange::Replied;
 pub use halt::{ANSWERED, BAD_WORDS, Halt};
 pub use laws::{

@@ -1,7 +1,7 @@
 use Rattle.std.proofs.Common.{div-mul-le_self}
-use Rattle.nav_session.specs.Desks.{max_cost}
+use Rattle.nav_session.specs.Desks.{shared_cost}
 use Rattle.nav_session.proofs.desk.Desk.sharing.Goals as goal
 
 -- what the desks keep together
 pub returns-clause-together : goal.returns-clause-together
-returns-clause-together c = div-mul-le_self max_cost c.args.desks
+returns-clause-together c = div-mul-le_self shared_cost c.args.desks
