@@ -1,13 +1,10 @@
-ghost use Rattle.std.specs.Prelude.{◌≡◌, ◌≤◌, ◌<◌, ◌+◌, ◌++◌, nat_lt, true, length, take, drop, IfOk, OnOk, All};
-ghost use Rattle.std.specs.List.{prefix_len};
-ghost use Rattle.std.specs.List.Sorted.{IsPartitionedBy};
-ghost use Rattle.root_index.specs.Roots.{AreByRank};
-ghost use Rattle.root_index.specs.Blocks.{IsBlock, all_paths, first_passes, is_tied, is_up_to};
+ghost use Rattle.std.specs.Prelude.{◌≡◌, ◌<◌, ◌+◌, ◌++◌, length, take, drop, IfOk, OnOk, All};
+ghost use Rattle.root_index.specs.Blocks.{IsBlock, all_paths};
 
 use crate::block::{BLOCK_PATHS, Block};
+use crate::halving::{begun_near, is_tied, paths_up_to};
 use crate::slot::Slot;
 use std::alloc::{AllocError, Global};
-use std::cmp::Ordering;
 use std::marker::Model;
 
 /// Paths in blocks that indexes share: a change copies the handles of one block, and no other path.
@@ -227,71 +224,6 @@ impl Blocks {
         replace(&mut blocks, i, parts)?;
         Ok(Blocks { blocks, near: i })
     }
-}
-
-/// How many of the blocks begin no higher than the path: in constant time where the block told is the last of
-/// them, else by halving.
-fn begun_near(blocks: &[Block], slot: &Slot, near: usize) -> usize
-    requires { IsPartitionedBy (first_passes (is_up_to slot.now)) blocks.now }
-    ensures value { result ≡ prefix_len (first_passes (is_up_to slot.now)) blocks.now }
-    ensures bound { result ≤ length blocks.now }
-{
-    if !has_begun(blocks, slot, near) {
-        return begun(blocks, slot);
-    }
-    if !has_begun(blocks, slot, near + 1) {
-        return near + 1;
-    }
-    begun(blocks, slot)
-}
-
-/// Whether there is that block, and it begins no higher than the path.
-fn has_begun(blocks: &[Block], slot: &Slot, block: usize) -> bool
-    requires { IsPartitionedBy (first_passes (is_up_to slot.now)) blocks.now }
-    ensures begun { result
-        ≡ nat_lt block (prefix_len (first_passes (is_up_to slot.now)) blocks.now) }
-    ensures there { result ≡ true → block < length blocks.now }
-{
-    block < blocks.len() && begins_up_to(&blocks[block], slot)
-}
-
-/// How many of the blocks begin no higher than the path, by halving.
-fn begun(blocks: &[Block], slot: &Slot) -> usize
-    requires { IsPartitionedBy (first_passes (is_up_to slot.now)) blocks.now }
-    ensures value { result ≡ prefix_len (first_passes (is_up_to slot.now)) blocks.now }
-    ensures bound { result ≤ length blocks.now }
-{
-    blocks.partition_point(|block| begins_up_to(block, slot))
-}
-
-/// Whether the block's first path stands no higher than the other.
-fn begins_up_to(block: &Block, slot: &Slot) -> bool
-    ensures { result ≡ first_passes (is_up_to slot.now) block.now }
-{
-    is_up_to(block.first(), slot)
-}
-
-/// How many of the paths, which are in order, stand no higher than this one, by halving.
-fn paths_up_to(slots: &[Slot], slot: &Slot) -> usize
-    requires { IsPartitionedBy (is_up_to slot.now) slots.now }
-    ensures value { result ≡ prefix_len (is_up_to slot.now) slots.now }
-    ensures bound { result ≤ length slots.now }
-{
-    slots.partition_point(|other| is_up_to(other, slot))
-}
-
-/// Whether the first path stands no higher than the second.
-pub(crate) fn is_up_to(other: &Slot, slot: &Slot) -> bool
-    ensures { result ≡ is_up_to slot.now other.now }
-{
-    other.order(slot).is_le()
-}
-
-/// Whether the two paths stand at one rank.
-fn is_tied(other: &Slot, slot: &Slot) -> bool
-    ensures { result ≡ is_tied slot.now other.now }
-{
-    other.order(slot).is_eq()
 }
 
 /// These paths in blocks: none, one, or more where they are too many for one.

@@ -2,8 +2,9 @@ ghost use Rattle.std.specs.Prelude.{◌≡◌, ◌≤◌, ◌<◌, ◌+◌, ◌+
 ghost use Rattle.root_index.specs.Blocks.{all_paths, first_passes, is_up_to};
 ghost use Rattle.root_index.specs.Groups.{IsGroup};
 
-use crate::blocks::{Blocks, is_up_to};
+use crate::blocks::Blocks;
 use crate::group::Group;
+use crate::halving::is_up_to;
 use crate::slot::Slot;
 use std::alloc::{AllocError, Global};
 use std::marker::Model;

@@ -3,10 +3,14 @@
 
 mod block;
 mod blocks;
+mod edited_files;
 mod file_handle;
+mod file_numbers;
+mod file_roots;
 mod group;
 mod group_list;
 mod groups;
+mod halving;
 mod index;
 mod key_heads;
 mod laws;
@@ -16,6 +20,8 @@ mod offers;
 mod seen_files;
 mod slot;
 mod slot_list;
+mod with_files;
+mod without_files;
 
 pub use index::RootIndex;
 pub use laws::rows_have_one_index;

@@ -1,0 +1,10 @@
+use Rattle.std.proofs.Common.{rules}
+use Rattle.std.proofs.lemmas.List.Sorted.{IsPartitionPoint-from_clause}
+use Rattle.partial_path.proofs.Halved.{prefix_from_point}
+use Rattle.root_index.specs.Blocks.{is_up_to}
+use Rattle.root_index.proofs.halving.paths_up_to.Goals as goal
+
+pub returns-clause-value : goal.returns-clause-value
+returns-clause-value c =
+    prefix_from_point (is_up_to c.args.slot.now) _ _ c.partition_point.ensures.bound
+    (IsPartitionPoint-from_clause (is_up_to c.args.slot.now) _ _ c.partition_point.ensures.partitioned c.requires (λ a r q k. search rules))
