@@ -7,6 +7,7 @@ mod asking;
 mod calling;
 mod defining;
 mod found;
+mod in_file;
 mod laws;
 mod links;
 mod listing;
@@ -17,6 +18,7 @@ mod sharing;
 mod source;
 mod twins;
 mod uniting;
+mod viewed;
 
 pub use asked_view::AskedView;
 pub use calling::callers;

@@ -6,7 +6,7 @@ ghost use Rattle.nav_answers.specs.Kept.{HasEdges, IsEdgeOf, are_by, ends_of, is
 ghost use Rattle.nav_answers.specs.Replies.{hit_of};
 ghost use Rattle.nav_answers.specs.Sources.{graphs_seen};
 
-use crate::source::file_in;
+use crate::viewed::file_in;
 use partial_path::EdgeAt;
 use shadowing::{EdgeList, EdgeNo, EdgeStep, unshadowed};
 use stacks_vars::NodeAt;

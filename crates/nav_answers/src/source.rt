@@ -1,17 +1,16 @@
-ghost use Rattle.std.specs.Prelude.{◌≡◌, ◌<◌, ◌^◌, IfSome, [], ◌∷◌, slice_get, option_copied, filter, false, MatchOption, IsPermutation, All};
-ghost use Rattle.partial_path.specs.Inside.{file_of, start_inside};
-ghost use Rattle.partial_path.specs.Offers.{offers_here, is_shared};
-ghost use Rattle.partial_path.specs.Sources.{IsSourceFile, asks_rule, rules_from, rules_offered};
-ghost use Rattle.partial_path.specs.Spots.{node_at};
+//! Where the stored paths of the files that a user sees are looked for: in one file, or among those from the root.
+
+ghost use Rattle.std.specs.Prelude.{◌≡◌, IfSome, [], ◌∷◌, slice_get, option_copied, MatchOption, IsPermutation};
+ghost use Rattle.partial_path.specs.Sources.{rules_from, rules_offered};
 ghost use Rattle.root_index.specs.Offers.{files_of};
 ghost use Rattle.root_index.specs.Offers as roots;
 ghost use Rattle.root_index.specs.Roots.{IsIndexOfView, root};
 ghost use Rattle.root_index.specs.SeenFiles.{AreSeenFiles};
 ghost use Rattle.nav_answers.specs.Sources.{offers_left, seen_of};
 
-use partial_path::{
-    FileOffers, FilePaths, ListOffers, PathSource, Spot, Start, StoredPath, StoredPaths, asks,
-};
+use crate::in_file::{next_inside, offers_inside, path_inside};
+use crate::viewed::{are_sources, file_in};
+use partial_path::{ListOffers, PathSource, Spot, Start, StoredPath};
 use root_index::{RootIndex, RootOffers, SeenFiles};
 use stacks_vars::{LentStack, NodeAt, Symbol};
 use std::marker::Model;
@@ -151,25 +150,6 @@ impl<'a> PathSource for ViewSource<'a> {
     }
 }
 
-/// The paths of the file with that number; None where there is none.
-pub fn file_in(view: &View, file: usize) -> Option<&FilePaths>
-    ensures value { option_copied result ≡ slice_get (files_of view.now) file }
-    ensures small { IfSome result (λ _. file < 2 ^ 32) }
-{
-    if file < view.row_count() as usize {
-        Some(view.paths(file as u32).get())
-    } else {
-        None
-    }
-}
-
-/// Tells that each file that is seen is a checked graph with its path set, which the view says.
-pub fn are_sources(view: &View)
-    ensures { All IsSourceFile (files_of view.now) }
-{
-    view.row_count();
-}
-
 /// The path at place `k` of those that begin at the start and can be met with that symbol in front.
 fn path_at<'a>(
     view: &'a View,
@@ -187,43 +167,6 @@ fn path_at<'a>(
         Start::After(Spot::At(node)) => path_inside(view, start, node, first, k),
         Start::After(Spot::Root) => path_of_root(view, index, first, k),
     }
-}
-
-/// The same at a start that is in the file of this node.
-fn path_inside<'a>(
-    view: &'a View,
-    start: Start,
-    node: NodeAt,
-    first: Option<&Symbol>,
-    k: usize,
-) -> Option<(u32, StoredPath<'a>)>
-    requires alone { is_shared start ≡ false }
-    requires file { node.file ≡ file_of start }
-    ensures { result
-        ≡ slice_get (rules_from (files_of view.now) start (option_copied first.entry)) k }
-{
-    are_sources(view);
-    let file = file_in(view, node.file as usize)?;
-    let path = asked(&file.paths_from(inside(start)), first, k)?;
-    Some((node.file, path))
-}
-
-/// The path at place `k` of those that can be met with that symbol in front.
-fn asked<'a>(run: &StoredPaths<'a>, first: Option<&Symbol>, k: usize) -> Option<StoredPath<'a>>
-    ensures { result ≡ slice_get (filter (asks_rule (option_copied first.entry)) run.now) k }
-{
-    let mut left = k;
-    for place in 0..run.len() {
-        let path = run.at(place);
-        if !asks(&path, first) {
-            continue;
-        }
-        if left == 0 {
-            return Some(path);
-        }
-        left -= 1;
-    }
-    None
 }
 
 /// The same at the root, which all files share.
@@ -264,65 +207,8 @@ fn offers_from(view: &View, index: &RootIndex, start: Start, symbols: &LentStack
     }
 }
 
-/// The same at a start that is in the file of this node.
-fn offers_inside(view: &View, start: Start, node: NodeAt, _symbols: &LentStack<'_>) -> ListOffers
-    requires alone { is_shared start ≡ false }
-    requires file { node.file ≡ file_of start }
-    ensures { offers_here (files_of view.now) _symbols.now result
-        ≡ rules_offered (files_of view.now) start _symbols.now }
-{
-    are_sources(view);
-    ListOffers {
-        file: node.file as usize,
-        inside: FileOffers::at(inside(start)),
-    }
-}
-
-/// The start by the numbers of its own file.
-fn inside(start: Start) -> Start
-    ensures { result ≡ start_inside start }
-{
-    match start {
-        Start::Before(node) => Start::Before(in_file_0(node)),
-        Start::After(Spot::At(node)) => Start::After(Spot::At(in_file_0(node))),
-        Start::After(Spot::Root) => Start::After(Spot::Root),
-    }
-}
-
-/// The node at the same position of file 0.
-fn in_file_0(node: NodeAt) -> NodeAt
-    ensures { result ≡ node_at 0 node.node }
-{
-    NodeAt {
-        file: 0,
-        node: node.node,
-    }
-}
-
-/// The path that comes next in a look-up in one file, with the file's number, and where the look-up stands after it.
-fn next_inside<'a>(
-    view: &'a View,
-    symbols: &LentStack<'_>,
-    at: ListOffers,
-) -> Option<(u32, StoredPath<'a>, ListOffers)>
-    ensures { MatchOption result (offers_here (files_of view.now) symbols.now at ≡ [])
-        (λ found. offers_here (files_of view.now) symbols.now at
-        ≡ (found.0, found.1) ∷ offers_here (files_of view.now) symbols.now found.2) }
-{
-    let file = file_in(view, at.file)?;
-    match file.next_offer(symbols, at.inside) {
-        Some((path, inside)) => {
-            let after = ListOffers {
-                file: at.file,
-                inside,
-            };
-            Some((at.file as u32, path, after))
-        }
-        None => None,
-    }
-}
-
-/// The same among the paths from the root, by the numbers of their files where these were found.
+/// The path that comes next in a look-up among the paths from the root, with its file's number, and where the look-up
+/// stands after it: by the numbers of the files where these were found.
 fn next_root<'a>(
     view: &View,
     index: &'a RootIndex,

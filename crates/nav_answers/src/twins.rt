@@ -5,7 +5,7 @@ ghost use Rattle.nav_answers.specs.Sources.{graphs_seen};
 ghost use Rattle.nav_answers.specs.Twins.{AreKept, BeginsWith, HasKind, HasSink, IsKept, IsLead};
 
 use crate::asking::Query;
-use crate::source::{are_sources, file_in};
+use crate::viewed::{are_sources, file_in};
 use graph_nodes::{Name, NodeKind, Place};
 use partial_path::FilePaths;
 use stacks_vars::NodeAt;

@@ -3,7 +3,7 @@ use Rattle.std.specs.Prelude.{option_copied}
 use Rattle.partial_path.specs.Starts.{rules_at}
 use Rattle.root_index.specs.Offers.{files_of}
 use Rattle.nav_answers.proofs.Own.{asked_in, none_alone}
-use Rattle.nav_answers.proofs.source.path_inside.Goals as goal
+use Rattle.nav_answers.proofs.in_file.path_inside.Goals as goal
 
 pub returns-in_err-file : goal.returns-in_err-file
 returns-in_err-file c =

@@ -1,5 +1,5 @@
 use Rattle.nav_answers.proofs.Numbers.{sources_of}
-use Rattle.nav_answers.proofs.source.are_sources.Goals as goal
+use Rattle.nav_answers.proofs.viewed.are_sources.Goals as goal
 
 pub returns : goal.returns
 returns c = sources_of c.args.view.now c.row_count.ensures.rows.sets

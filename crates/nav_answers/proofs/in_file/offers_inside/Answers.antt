@@ -3,7 +3,7 @@ use Rattle.std.specs.Prelude.{filter}
 use Rattle.partial_path.specs.Sources.{is_offered}
 use Rattle.root_index.specs.Offers.{files_of}
 use Rattle.nav_answers.proofs.Own.{offers_alone}
-use Rattle.nav_answers.proofs.source.offers_inside.Goals as goal
+use Rattle.nav_answers.proofs.in_file.offers_inside.Goals as goal
 
 pub returns : goal.returns
 returns c =
