@@ -9,6 +9,7 @@ mod joining;
 mod joint;
 mod known;
 mod meeting;
+mod sides;
 mod units;
 mod writing;
 
