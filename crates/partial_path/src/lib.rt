@@ -13,6 +13,7 @@ mod halving;
 mod heads;
 mod laws;
 mod lent_config;
+mod list_paths;
 mod matching;
 mod moving;
 mod offers;
@@ -33,7 +34,7 @@ mod stored_paths;
 pub use bounds::{Bounds, MAX_RUNS};
 pub use config::{Config, EdgeAt, Spot};
 pub use fault::PathFault;
-pub use file_list::{FileList, ListOffers, asks};
+pub use file_list::{FileList, ListOffers};
 pub use file_paths::FilePaths;
 pub use laws::{
     applied_paths_are_offered, beginnings_are_cut, counted_runs_are_cut, cut_prefixes_are_closed,
@@ -43,6 +44,7 @@ pub use laws::{
     runs_end_in_files,
 };
 pub use lent_config::LentConfig;
+pub use list_paths::asks;
 pub use moving::file_zero_moves;
 pub use offers::FileOffers;
 pub use path::{PartialPath, PathParts};

@@ -2,7 +2,7 @@ use Rattle.std.proofs.Common.{drop}
 use Rattle.std.specs.Prelude.{option_copied}
 use Rattle.partial_path.specs.Sources.{asks_rule}
 use Rattle.partial_path.proofs.Asking.{IsLeft}
-use Rattle.partial_path.proofs.file_list.asked.Given as goal
+use Rattle.partial_path.proofs.list_paths.asked.Given as goal
 
 -- what is asked for among all is what is left to ask for among those left
 abbrev pub invariant-loop-place : goal.invariant-loop-place

@@ -2,7 +2,7 @@ use Rattle.std.proofs.Common.{sym, ◌∙◌, ap}
 use Rattle.std.specs.Prelude.{option_copied, filter}
 use Rattle.partial_path.specs.Sources.{begins_in}
 use Rattle.partial_path.proofs.Asking.{file_found, file_passed}
-use Rattle.partial_path.proofs.file_list.path_of.Goals as goal
+use Rattle.partial_path.proofs.list_paths.path_of.Goals as goal
 
 pub returns-in-Some : goal.returns-in-Some
 returns-in-Some c =

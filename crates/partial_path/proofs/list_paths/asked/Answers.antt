@@ -2,7 +2,7 @@ use Rattle.std.proofs.Common.{refl, sym, ◌∙◌, ap, Some, arith}
 use Rattle.std.specs.Prelude.{option_copied}
 use Rattle.partial_path.specs.Sources.{asks_rule}
 use Rattle.partial_path.proofs.Asking.{left_skipped, left_counted, left_found, left_none}
-use Rattle.partial_path.proofs.file_list.asked.Goals as goal
+use Rattle.partial_path.proofs.list_paths.asked.Goals as goal
 
 pub loop-place-init : goal.loop-place-init
 loop-place-init c = record { same = refl; passed = refl }
