@@ -1,4 +1,4 @@
-ghost use Rattle.std.specs.Prelude.{◌≡◌, ◌+◌, ◌++◌, [], map, drop, length, All, IfOk, OnOk, slice_get};
+ghost use Rattle.std.specs.Prelude.{◌≡◌, ◌+◌, ◌++◌, [], map, drop, length, All, IfOk, IsTrue, OnOk, slice_get};
 ghost use Rattle.std.specs.Option.{option_map_or};
 ghost use Rattle.partial_path.specs.Apply.{tail_scopes, fill_scopes, fill_item};
 ghost use Rattle.partial_path.specs.Left.{left_attached, left_items, left_by};
@@ -112,9 +112,26 @@ pub fn filled_scopes(
     ensures { IfOk result (λ scopes. scopes ≡ map (moved_node base) made.now
         ++ tail_scopes (left_by met.now.asked.now met.now.fixed.now met.now.at.now.stacks) tail) }
 {
+    // Mostly there are none.
+    if made.is_empty() && stands_for_none(met, tail) {
+        return Ok(ScopeStack::new(alloc));
+    }
     let mut scopes = tail_copy(alloc, met, tail)?;
     put_fixed(base, made, &mut scopes)?;
     Ok(scopes)
+}
+
+/// Whether the variable is seen at once to stand for no scopes.
+#[inline(always)]
+fn stands_for_none(met: &Met<'_, '_>, tail: Tail) -> bool
+    ensures { IsTrue result
+        → tail_scopes (left_by met.now.asked.now met.now.fixed.now met.now.at.now.stacks) tail ≡ [] }
+{
+    match tail {
+        Tail::Nil => true,
+        Tail::Front => met.at.scopes().is_empty(),
+        Tail::Item(_) => false,
+    }
 }
 
 /// A copy of what the variable stands for.
