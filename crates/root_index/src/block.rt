@@ -6,6 +6,9 @@ use std::sync::Arc;
 /// How many paths a block may have.
 pub(crate) const BLOCK_PATHS: usize = 64;
 
+/// How many paths a block has when a long list is put in blocks.
+pub(crate) const MADE_PATHS: usize = 32;
+
 /// From 1 to `BLOCK_PATHS` paths of an index, held by all indexes that have just these. It never
 /// changes. A contract sees the list of its paths.
 #[derive(Drop)]

@@ -1,7 +1,7 @@
 ghost use Rattle.std.specs.Prelude.{◌≡◌, ◌<◌, ◌+◌, ◌++◌, length, take, drop, IfOk, OnOk, All};
 ghost use Rattle.root_index.specs.Blocks.{IsBlock, all_paths};
 
-use crate::block::{BLOCK_PATHS, Block};
+use crate::block::{BLOCK_PATHS, Block, MADE_PATHS};
 use crate::halving::{begun_near, is_tied, paths_up_to};
 use crate::slot::Slot;
 use std::alloc::{AllocError, Global};
@@ -234,7 +234,7 @@ fn in_blocks(alloc: Global, slots: Vec<Slot>) -> Result<Vec<Block>, AllocError>
     let mut slots = slots;
     let mut blocks = Vec::new(alloc);
     while slots.len() > BLOCK_PATHS {
-        let last = slots.split_off(slots.len() - BLOCK_PATHS / 2)?;
+        let last = slots.split_off(slots.len() - MADE_PATHS)?;
         blocks.push(Block::of(alloc, last)?)?;
     }
     if slots.len() > 0 {

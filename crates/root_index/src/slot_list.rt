@@ -5,7 +5,7 @@ ghost use Rattle.partial_path.specs.Keys.{key_size, texts};
 ghost use Rattle.root_index.specs.Blocks.{begins_by, first_passes};
 ghost use Rattle.root_index.specs.Inside.{is_before_key};
 
-use crate::block::Block;
+use crate::block::{Block, MADE_PATHS};
 use crate::blocks::Blocks;
 use crate::slot::Slot;
 use stacks_vars::LentStack;
@@ -84,12 +84,15 @@ impl SlotList {
         self.blocks.blocks()[0].first()
     }
 
-    /// The path at that place, by halving over the blocks.
+    /// The path at that place. It takes constant time where no block was changed since they were made of a list, else
+    /// time that follows the logarithm of the number of blocks.
     pub(crate) fn at(&self, place: usize) -> &Slot
         requires { place < length self.now }
         ensures { slice_get self.now place ≡ Some result.now }
     {
-        let block = blocks_begun(self.starts.as_slice(), place) - 1;
+        // Blocks that are made of a list have so many paths each, and the first one at most twice as many.
+        let near = (place / MADE_PATHS).saturating_sub(1);
+        let block = blocks_near(self.starts.as_slice(), place, near) - 1;
         &self.blocks.blocks()[block].slots()[place - self.starts[block]]
     }
 
