@@ -1,7 +1,8 @@
 -- References that are dealt out to threads, and what is found of them, put together again.
-use Rattle.std.proofs.Common.{◌≡◌, refl, sym, ◌∙◌, ap, subst, ℕ, zero, suc, ◌+◌, ◌/◌, ◌%◌, ◌≤◌, ◌<◌, List, [], ◌∷◌, ◌++◌, length, Bool, true, false, Contains, ◌||◌, ◌&&◌, Some, slice_get, get_or, eqb, eqb-true, eq-eqb, inl, inr, ◌⊎◌, ◌↔◌, arith}
+use Rattle.std.proofs.Common.{◌≡◌, refl, sym, ◌∙◌, ap, subst, ℕ, zero, suc, ◌+◌, ◌-◌, ◌*◌, min, suc-mul, ◌/◌, ◌%◌, ◌≤◌, ◌<◌, List, [], ◌∷◌, ◌++◌, length, Bool, true, false, Contains, ◌||◌, ◌&&◌, Some, slice_get, get_or, inl, inr, ◌⊎◌, ◌↔◌, arith}
 use Rattle.std.proofs.Math.Nat.{mod-lt}
-use Rattle.std.proofs.lemmas.Bool.{and_parts, cases_lt, false≢true}
+use Rattle.std.proofs.lemmas.Nat.{div-mul-add}
+use Rattle.std.proofs.lemmas.Bool.{and_parts, cases_lt}
 use Rattle.std.proofs.lemmas.Option.{none-some, same_Some, slice_get-get_or}
 use Rattle.graph_nodes.specs.Graph.{Graph}
 use Rattle.list_facts.specs.Members.{IsIn}
@@ -35,24 +36,45 @@ in_there [] at m = absurd m
 in_there (a ∷ all) at (inl same) = (0, omega arith, ap Some (sym same))
 in_there (a ∷ all) at (inr m) = let r = in_there all at m in let inside = r.1 in (suc r.0, omega arith, r.2)
 
--- whether a place is in the share, by another name of the run's length
-pub share_is : (place step first run named : ℕ) {b : Bool} → run ≡ named → eqb (place / run % step) first ≡ b → eqb (place / named % step) first ≡ b
-share_is place step first run named {b} same is = subst (λ r. eqb (place / r % step) first ≡ b) same is
+-- where there is more, the run of that number begins
+pub run_begins : (turn len from count : ℕ) → (from ≡ turn * len) ⊎ (count ≤ from) → from < count → from ≡ turn * len
+run_begins turn len from count (inl begun) low = begun
+run_begins turn len from count (inr over) low = absurd (omega arith)
+
+-- behind it the next one begins, or there is no more
+pub run_follows : (turn len from count least : ℕ) → from ≡ turn * len → least ≡ min len (count - from) → from < count
+    → (from + least ≡ (turn + 1) * len) ⊎ (count ≤ from + least)
+run_follows turn len from count least begun is low = by (cases_lt least len)
+  where
+    by : (least < len) ⊎ (len ≤ least) → (from + least ≡ (turn + 1) * len) ⊎ (count ≤ from + least)
+    by (inl less) = inr (omega (arith, is, low, less))
+    by (inr all) =
+        let next : turn + 1 ≡ suc turn = omega arith in
+        let whole : (turn + 1) * len ≡ turn * len + len = ap (λ n. n * len) next ∙ suc-mul turn len in
+        inl (omega (arith, whole, begun, is, all))
+
+-- the places of a run are all in one share
+pub run_share : (all : List NodeAt) (step turn run from k : ℕ) → run ≡ run_of (length all) step → from ≡ turn * run → from ≤ k → k < from + run → share_of all step k ≡ turn % step
+run_share all step turn run from k named is low high =
+    let there : k ≡ turn * run + (k - from) = omega (arith, is, low) in
+    let whole : k / run ≡ turn = ap (λ n. n / run) there ∙ div-mul-add turn run (k - from) (omega (arith, low, high)) in
+    subst (λ r. k / r % step ≡ turn % step) named (ap (λ t. t % step) whole)
 
 module _ (all : List NodeAt) (step first : ℕ) where
   no_place : (at : NodeAt) → IsShareOf all step first 0 at → ⊥
   no_place at h = let low = h.1 in absurd (omega arith)
 
-  -- one place more, which is another share's
-  place_passed : (job : ℕ) → (share_of all step job ≡ first → ⊥) → (at : NodeAt) → IsShareOf all step first job at ↔ IsShareOf all step first (job + 1) at
-  place_passed job other at = (
+  -- more places, which are other shares'
+  run_passed : (from end : ℕ) → from ≤ end → ((k : ℕ) → from ≤ k → k < end → share_of all step k ≡ first → ⊥)
+      → (at : NodeAt) → IsShareOf all step first from at ↔ IsShareOf all step first end at
+  run_passed from end order other at = (
     λ h. let low = h.1 in (h.0, omega arith, h.2, h.3),
-    λ h. back h.0 h.1 h.2 h.3 (cases_lt h.0 job),
+    λ h. back h.0 h.1 h.2 h.3 (cases_lt h.0 from),
   )
     where
-      back : (k : ℕ) → k < job + 1 → share_of all step k ≡ first → slice_get all k ≡ Some at → (k < job) ⊎ (job ≤ k) → IsShareOf all step first job at
+      back : (k : ℕ) → k < end → share_of all step k ≡ first → slice_get all k ≡ Some at → (k < from) ⊎ (from ≤ k) → IsShareOf all step first from at
       back k low mine e (inl h) = (k, h, mine, e)
-      back k low mine e (inr h) = let same : k ≡ job = omega arith in absurd (other (ap (λ j. share_of all step j) (sym same) ∙ mine))
+      back k low mine e (inr h) = absurd (other k h low mine)
 
   -- one that is this share's
   place_added : (job : ℕ) (reference : NodeAt) → share_of all step job ≡ first → slice_get all job ≡ Some reference
@@ -92,20 +114,20 @@ module _ (bounds : Bounds) (files : List Graph) (definitions : List Hit) (all : 
   share_begun first next e f w =
       so_linked (IsShareOf all step first 0) true [] false next e f w (none_linked bounds files (IsHeld true definitions) (IsShareOf all step first 0) (no_place all step first))
 
-  pub share_left : (first job : ℕ) (links : Links) → eqb (share_of all step job) first ≡ false → AreFound bounds files definitions (IsShareOf all step first job) links
-      → AreFound bounds files definitions (IsShareOf all step first (job + 1)) links
-  share_left first job links other are =
-      same_asked bounds files (IsHeld links.whole definitions) (IsShareOf all step first job) (IsShareOf all step first (job + 1)) links.list.items links.limit
-      (place_passed all step first job (λ e. false≢true (sym other ∙ eq-eqb (share_of all step job) first e))) are
+  pub share_left : (first from end : ℕ) (links : Links) → from ≤ end → ((k : ℕ) → from ≤ k → k < end → share_of all step k ≡ first → ⊥)
+      → AreFound bounds files definitions (IsShareOf all step first from) links → AreFound bounds files definitions (IsShareOf all step first end) links
+  share_left first from end links order other are =
+      same_asked bounds files (IsHeld links.whole definitions) (IsShareOf all step first from) (IsShareOf all step first end) links.list.items links.limit
+      (run_passed all step first from end order other) are
 
-  pub share_grown : (first job : ℕ) (d : NodeAt) (old new : Links) → eqb (share_of all step job) first ≡ true → job < length all
+  pub share_grown : (first job : ℕ) (d : NodeAt) (old new : Links) → share_of all step job ≡ first → job < length all
       → AreFound bounds files definitions (IsShareOf all step first job) old → AddsLinks bounds files (get_or all job d) old new
       → AreFound bounds files definitions (IsShareOf all step first (job + 1)) new
   share_grown first job d old new mine inside are adds =
       so_linked (IsShareOf all step first (job + 1)) old.whole (old.list.items ++ links_of (hit_of (get_or all job d)) adds.rows) (old.limit || adds.flag) new adds.list_is adds.limit_is adds.whole_is
       (same_asked bounds files (IsHeld old.whole definitions) (λ (at : NodeAt). IsShareOf all step first job at ⊎ (at ≡ get_or all job d)) (IsShareOf all step first (job + 1))
       (old.list.items ++ links_of (hit_of (get_or all job d)) adds.rows) (old.limit || adds.flag)
-      (place_added all step first job (get_or all job d) (eqb-true (share_of all step job) first mine) (slice_get-get_or all job d inside))
+      (place_added all step first job (get_or all job d) mine (slice_get-get_or all job d inside))
       (both_linked bounds files (IsHeld old.whole definitions) (IsShareOf all step first job) (λ (at : NodeAt). at ≡ get_or all job d) old.list.items (links_of (hit_of (get_or all job d)) adds.rows) old.limit adds.flag are
       (one_linked bounds files (IsHeld old.whole definitions) (get_or all job d) adds.rows adds.flag adds.found)))
 

@@ -1,7 +1,7 @@
-ghost use Rattle.std.specs.Prelude.{◌≡◌, ◌≢◌, ℕ, ◌+◌, ◌/◌, ◌%◌, ◌<◌, ◌≤◌, length, nat_eq, All, Err, IfOk, OnOk, slice_index_or, vec_len, IsTrue};
+ghost use Rattle.std.specs.Prelude.{◌≡◌, ◌≢◌, ℕ, ◌+◌, ◌<◌, ◌≤◌, length, All, Err, IfOk, OnOk, slice_index_or, vec_len, IsTrue};
 ghost use Rattle.graph_nodes.specs.Whole.{is_reference_of};
 ghost use Rattle.list_facts.specs.Members.{IsIn};
-ghost use Rattle.nav_answers.specs.Asking.{AddsLinks, AreFound, AreLinksOf, IsCrowdedAmong, IsDone, IsFound, IsInShares, IsReferenceIn, run_of};
+ghost use Rattle.nav_answers.specs.Asking.{AddsLinks, AreFound, AreLinksOf, IsCrowdedAmong, IsDone, IsFound, IsInShares, IsReferenceIn, IsShareOf, run_of, share_of};
 ghost use Rattle.nav_answers.specs.Sources.{graphs_seen};
 ghost use Rattle.nav_answers.specs.Twins.{AreKept};
 ghost use Rattle.stacks_vars.specs.declared.scopes.NodeAt.{NodeAt};
@@ -24,6 +24,15 @@ const MOST_THREADS: usize = 8;
 /// The most references that follow one another and are one thread's: about those of a module, whose paths then stay in one
 /// processor's cache.
 const MOST_IN_RUN: usize = 128;
+
+/// References that follow one another and are one share's, of so many shares: from one place among all up to another.
+#[derive(Clone, Copy)]
+struct Run {
+    share: usize,
+    shares: usize,
+    from: usize,
+    end: usize,
+}
 
 /// What one thread finds of its references, or why it stopped.
 type Share = Result<Links, StitchFault>;
@@ -101,7 +110,8 @@ fn ask_shares<R: Threads + Sync, G: Gate + Sync>(
     );
 }
 
-/// Asks the references of the runs `first`, `first + step` and so on, where `first` is less than `step`.
+/// Asks the references of the runs `first`, `first + step` and so on, where `first` is less than `step`. The runs of other
+/// shares are passed over as a whole.
 fn ask_share<G: Gate>(
     alloc: Global,
     query: &Query,
@@ -119,16 +129,61 @@ fn ask_share<G: Gate>(
     let mut room = Room::new(alloc);
     let mut links = Links::new(alloc, query.most / step);
     let mut searched = Searched::new(alloc);
-    let run = run_of(all.len(), step);
-    for job in 0..all.len() {
-        if !is_in_share(job, run, first, step) {
-            continue;
+    let len = run_of(all.len(), step);
+    let mut turn = 0;
+    let mut from = 0;
+    while from < all.len() {
+        let end = from + len.min(all.len() - from);
+        if turn % step == first {
+            let run = Run {
+                share: first,
+                shares: step,
+                from,
+                end,
+            };
+            ask_run(&mut room, query, gate, all, run, &mut searched, &mut links)?;
         }
-        add_found(&mut room, query, gate, all, job, &mut searched, &mut links)?;
-        links.hold(alloc, query.definitions)?;
+        from = end;
+        turn += 1;
     }
     // Each thread puts its own in order, so that what is left to do for all of them is to merge.
     Ok(links.in_order())
+}
+
+/// Asks the references of a run, each of them one of its share's, those of the share before it being asked.
+fn ask_run<'a, G: Gate>(
+    room: &mut Room<'a>,
+    query: &Query<'a>,
+    gate: &G,
+    all: &[NodeAt],
+    run: Run,
+    searched: &mut Searched<'a>,
+    links: &mut Links,
+) -> Result<(), StitchFault>
+    requires source { query.now.source.now.rows ≡ query.now.view.now }
+    requires references { All (IsReferenceIn (graphs_seen query.now.view.now)) all.now }
+    requires inside { run.end ≤ length all.now }
+    requires order { run.from ≤ run.end }
+    requires mine { (k : ℕ) → run.from ≤ k → k < run.end
+        → share_of all.now run.shares k ≡ run.share }
+    requires kept { AreKept query.now.bounds
+        (graphs_seen query.now.view.now) searched.old.list.items }
+    requires before { AreFound query.now.bounds
+        (graphs_seen query.now.view.now) query.now.definitions.now
+        (IsShareOf all.now run.shares run.share run.from) links.old }
+    ensures found { OnOk result (AreFound query.now.bounds
+        (graphs_seen query.now.view.now) query.now.definitions.now
+        (IsShareOf all.now run.shares run.share run.end) links.new) }
+    ensures kept { OnOk result (AreKept query.now.bounds
+        (graphs_seen query.now.view.now) searched.new.list.items) }
+    ensures crowded { result ≡ Err StitchFault.Crowded
+        → IsCrowdedAmong query.now.bounds (graphs_seen query.now.view.now) all.now }
+{
+    for job in run.from..run.end {
+        add_found(room, query, gate, all, job, searched, links)?;
+        links.hold(room.alloc(), query.definitions)?;
+    }
+    Ok(())
 }
 
 /// How many references that follow one another are one share's, of so many in so many shares: so few that a share has some
@@ -139,15 +194,6 @@ fn run_of(references: usize, shares: usize) -> usize
     ensures some { 0 < result }
 {
     (references / shares / 4).min(MOST_IN_RUN).max(1)
-}
-
-/// Whether the place is in one of the runs `first`, `first + step` and so on, where `first` is less than `step`.
-fn is_in_share(place: usize, run: usize, first: usize, step: usize) -> bool
-    requires run { 0 < run }
-    requires step { 0 < step }
-    ensures { result ≡ nat_eq (place / run % step) first }
-{
-    place / run % step == first
 }
 
 /// Adds what is found of the reference at the place among all, as the job of that number. Where one was searched lately
