@@ -44,6 +44,20 @@ impl Links {
         }
     }
 
+    /// The same, with memory for so many links; the one error is want of it.
+    pub fn with_capacity(alloc: Global, room: usize, links: usize) -> Result<Links, AllocError>
+        ensures list { IfOk result (λ none. none.list.items ≡ []) }
+        ensures limit { IfOk result (λ none. none.limit ≡ false) }
+        ensures whole { IfOk result (λ none. none.whole ≡ true) }
+    {
+        Ok(Links {
+            list: Vec::with_capacity(alloc, links)?,
+            limit: false,
+            whole: true,
+            room,
+        })
+    }
+
     /// Adds what was found of a reference; the one error is want of memory.
     pub fn add(&mut self, reference: Hit, found: &Found) -> Result<(), AllocError>
         ensures list { OnOk result (self.new.list.items

@@ -302,11 +302,22 @@ fn together(
         → IsCrowdedAmong query.now.bounds (graphs_seen query.now.view.now) all.now }
 {
     let count = shares.len();
-    let mut links = Links::new(alloc, query.most);
+    let mut links = Links::with_capacity(alloc, query.most, links_in(shares))?;
     for place in 0..count {
         add_share(query, all, count, place, &shares[place], &mut links)?;
     }
     Ok(links)
+}
+
+/// How many links the shares tell.
+fn links_in(shares: &[Share]) -> usize {
+    let mut count: usize = 0;
+    for share in shares {
+        if let Ok(found) = share {
+            count = count.saturating_add(found.list.len());
+        }
+    }
+    count
 }
 
 /// Adds what the share at that place of so many tells, those before it being added; the error is the share's, or want

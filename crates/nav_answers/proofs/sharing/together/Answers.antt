@@ -5,8 +5,8 @@ use Rattle.nav_answers.proofs.sharing.together.Goals as goal
 
 pub loop-place-init : goal.loop-place-init
 loop-place-init c =
-    shares_begun c.args.query.now.bounds (graphs_seen c.args.query.now.view.now) c.args.query.now.definitions.now c.args.all.now (length c.args.shares.now) c.new-links.result
-    c.new-links.ensures.list c.new-links.ensures.limit c.new-links.ensures.whole
+    shares_begun c.args.query.now.bounds (graphs_seen c.args.query.now.view.now) c.args.query.now.definitions.now c.args.all.now (length c.args.shares.now) c.in_ok-links.links
+    c.in_ok-links.ensures.list c.in_ok-links.ensures.limit c.in_ok-links.ensures.whole
 
 pub returns-clause-found : goal.returns-clause-found
 returns-clause-found c =
