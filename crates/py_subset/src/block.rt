@@ -1,16 +1,16 @@
-//! Statements with blocks. `depth` bounds how deeply blocks nest, and falls by one with each.
+//! Blocks of statements. `depth` bounds how deeply blocks nest, and falls by one with each.
 
 ghost use Rattle.std.specs.Prelude.{◌≡◌};
 ghost use Rattle.py_subset.specs.Parsers.{Gives, ◌▹◌};
 ghost use Rattle.py_subset.specs.Statements as spec;
 
-use crate::expr::{expr, exprs};
-use crate::header::{bases, begins_stmt, parameters};
+use crate::compound::{class_stmt, def_stmt, for_stmt, if_stmt, while_stmt};
+use crate::header::begins_stmt;
 use crate::items::Items;
 use crate::simple::simple_line;
 use crate::token::Mark;
 use crate::token_list::{Stop, Tokens};
-use crate::tree::{Arm, Stmt};
+use crate::tree::Stmt;
 use std::alloc::Global;
 
 /// The block of a statement: on its line, or on lines of its own.
@@ -38,7 +38,7 @@ fn suite<'a>(
 
 /// A colon and the block behind it.
 #[cycle(blocks)]
-fn colon_suite<'a>(
+pub fn colon_suite<'a>(
     alloc: Global,
     tokens: &mut Tokens<'a>,
     turns: usize,
@@ -54,7 +54,7 @@ fn colon_suite<'a>(
 /// The block behind `else`, empty where there is none.
 #[tactic(auto, unfolding(crate::specs::Statements::otherwise))]
 #[cycle(blocks)]
-fn otherwise<'a>(
+pub fn otherwise<'a>(
     alloc: Global,
     tokens: &mut Tokens<'a>,
     turns: usize,
@@ -67,177 +67,6 @@ fn otherwise<'a>(
     }
     tokens.take(Mark::Else)?;
     colon_suite(alloc, tokens, turns, depth)
-}
-
-/// The blocks of a loop.
-#[tactic(auto, unfolding(crate::specs::Statements::bodies))]
-#[cycle(blocks)]
-fn bodies<'a>(
-    alloc: Global,
-    tokens: &mut Tokens<'a>,
-    turns: usize,
-    depth: usize,
-) -> Result<(Items<Stmt<'a>>, Items<Stmt<'a>>), Stop>
-    ensures { Gives result tokens.new (spec.bodies turns (spec.block turns depth) tokens.old) }
-{
-    let body = colon_suite(alloc, tokens, turns, depth)?;
-    let otherwise = otherwise(alloc, tokens, turns, depth)?;
-    Ok((body, otherwise))
-}
-
-/// A condition and its block.
-#[tactic(auto, unfolding(crate::specs::Statements::arm))]
-#[cycle(blocks)]
-fn arm<'a>(
-    alloc: Global,
-    tokens: &mut Tokens<'a>,
-    turns: usize,
-    depth: usize,
-) -> Result<Arm<'a>, Stop>
-    ensures { Gives result tokens.new (spec.arm turns (spec.block turns depth) tokens.old) }
-{
-    let condition = expr(alloc, tokens, turns, turns)?;
-    let body = colon_suite(alloc, tokens, turns, depth)?;
-    Ok(Arm { condition, body })
-}
-
-/// A further one behind `elif`.
-#[cycle(blocks)]
-fn next_arm<'a>(
-    alloc: Global,
-    tokens: &mut Tokens<'a>,
-    turns: usize,
-    depth: usize,
-) -> Result<Arm<'a>, Stop>
-    ensures { Gives result tokens.new
-        ((Mark.Elif ▹ spec.arm turns (spec.block turns depth)) tokens.old) }
-{
-    tokens.take(Mark::Elif)?;
-    arm(alloc, tokens, turns, depth)
-}
-
-/// All arms of an `if`.
-#[tactic(auto, using(crate::proofs::Turns::turns), unfolding(crate::specs::Statements::arms))]
-#[cycle(blocks)]
-fn arms<'a>(
-    alloc: Global,
-    tokens: &mut Tokens<'a>,
-    turns: usize,
-    depth: usize,
-) -> Result<Items<Arm<'a>>, Stop>
-    ensures { Gives result tokens.new (spec.arms turns (spec.block turns depth) tokens.old) }
-{
-    let mut list = Items::new(alloc);
-    list.push(arm(alloc, tokens, turns, depth)?)?;
-    for _turn in 0..turns {
-        if !tokens.sees(Mark::Elif) {
-            return Ok(list);
-        }
-        list.push(next_arm(alloc, tokens, turns, depth)?)?;
-    }
-    Err(Stop::Refused)
-}
-
-/// `if ..`
-#[tactic(auto, unfolding(crate::specs::Statements::if_stmt))]
-#[cycle(blocks)]
-fn if_stmt<'a>(
-    alloc: Global,
-    tokens: &mut Tokens<'a>,
-    turns: usize,
-    depth: usize,
-) -> Result<Stmt<'a>, Stop>
-    ensures { Gives result tokens.new (spec.if_stmt turns (spec.block turns depth) tokens.old) }
-{
-    tokens.take(Mark::If)?;
-    let arms = arms(alloc, tokens, turns, depth)?;
-    let otherwise = otherwise(alloc, tokens, turns, depth)?;
-    Ok(Stmt::If { arms, otherwise })
-}
-
-/// `while ..`
-#[tactic(auto, unfolding(crate::specs::Statements::while_stmt))]
-#[cycle(blocks)]
-fn while_stmt<'a>(
-    alloc: Global,
-    tokens: &mut Tokens<'a>,
-    turns: usize,
-    depth: usize,
-) -> Result<Stmt<'a>, Stop>
-    ensures { Gives result tokens.new (spec.while_stmt turns (spec.block turns depth) tokens.old) }
-{
-    tokens.take(Mark::While)?;
-    let condition = expr(alloc, tokens, turns, turns)?;
-    let (body, otherwise) = bodies(alloc, tokens, turns, depth)?;
-    Ok(Stmt::While {
-        condition,
-        body,
-        otherwise,
-    })
-}
-
-/// `for ..`
-#[tactic(auto, unfolding(crate::specs::Statements::for_stmt))]
-#[cycle(blocks)]
-fn for_stmt<'a>(
-    alloc: Global,
-    tokens: &mut Tokens<'a>,
-    turns: usize,
-    depth: usize,
-) -> Result<Stmt<'a>, Stop>
-    ensures { Gives result tokens.new (spec.for_stmt turns (spec.block turns depth) tokens.old) }
-{
-    tokens.take(Mark::For)?;
-    let name = tokens.name()?;
-    tokens.take(Mark::In)?;
-    let items = exprs(alloc, tokens, turns, turns)?;
-    let (body, otherwise) = bodies(alloc, tokens, turns, depth)?;
-    Ok(Stmt::For {
-        name,
-        items,
-        body,
-        otherwise,
-    })
-}
-
-/// `def ..`
-#[tactic(auto, unfolding(crate::specs::Statements::def_stmt))]
-#[cycle(blocks)]
-fn def_stmt<'a>(
-    alloc: Global,
-    tokens: &mut Tokens<'a>,
-    turns: usize,
-    depth: usize,
-) -> Result<Stmt<'a>, Stop>
-    ensures { Gives result tokens.new (spec.def_stmt turns (spec.block turns depth) tokens.old) }
-{
-    tokens.take(Mark::Def)?;
-    let name = tokens.name()?;
-    let parameters = parameters(alloc, tokens, turns)?;
-    let body = colon_suite(alloc, tokens, turns, depth)?;
-    Ok(Stmt::Def {
-        name,
-        parameters,
-        body,
-    })
-}
-
-/// `class ..`
-#[tactic(auto, unfolding(crate::specs::Statements::class_stmt))]
-#[cycle(blocks)]
-fn class_stmt<'a>(
-    alloc: Global,
-    tokens: &mut Tokens<'a>,
-    turns: usize,
-    depth: usize,
-) -> Result<Stmt<'a>, Stop>
-    ensures { Gives result tokens.new (spec.class_stmt turns (spec.block turns depth) tokens.old) }
-{
-    tokens.take(Mark::Class)?;
-    let name = tokens.name()?;
-    let bases = bases(alloc, tokens, turns)?;
-    let body = colon_suite(alloc, tokens, turns, depth)?;
-    Ok(Stmt::Class { name, bases, body })
 }
 
 /// A statement with its blocks.

@@ -5,8 +5,8 @@ ghost use Rattle.py_subset.specs.Parsers.{Gives, several, name};
 ghost use Rattle.py_subset.specs.Parsing.{is};
 ghost use Rattle.py_subset.specs.Statements as spec;
 
-use crate::expr::in_round;
 use crate::items::Items;
+use crate::primaries::in_round;
 use crate::symbols::arguments;
 use crate::token::Mark;
 use crate::token_list::{Stop, Tokens};

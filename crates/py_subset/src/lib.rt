@@ -4,6 +4,7 @@
 mod block;
 mod brackets;
 mod bytes;
+mod compound;
 mod expr;
 mod header;
 mod imports;
@@ -15,6 +16,7 @@ mod lex;
 mod making;
 mod mark;
 mod piece;
+mod primaries;
 mod reading;
 mod sign_pieces;
 mod simple;

@@ -4,11 +4,11 @@ use Rattle.py_subset.specs.Marks.{same}
 use Rattle.py_subset.specs.Language.{next}
 use Rattle.py_subset.specs.Parsing as spec
 use Rattle.py_subset.proofs.Turns.{further-keeps}
-use Rattle.py_subset.proofs.expr.+nested.Goals as goal
+use Rattle.py_subset.proofs.+nested.Goals as goal
 
 -- An expression behind a comma is the next of the list.
-pub listed-loop-turn-preserved : goal.listed-loop-turn-preserved
-listed-loop-turn-preserved t c =
+pub expr::listed-loop-turn-preserved : goal.expr::listed-loop-turn-preserved
+expr::listed-loop-turn-preserved t c =
     let comma : same (next c.loop-turn.tokens) m.Comma ≡ true = search rules in
     let begins : spec.begins_expr (next c.pass.new.self) ≡ true = search rules in
     rw c.in_ok-push-2.ensures.ok
