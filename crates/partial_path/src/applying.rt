@@ -1,18 +1,16 @@
 ghost use Rattle.std.specs.Prelude.{◌≡◌, ◌&&◌, IfOk, IsTrue};
 ghost use Rattle.std.specs.Option.{is_some};
-ghost use Rattle.stacks_vars.specs.Enter.{stacks_of};
 ghost use Rattle.partial_path.specs.Same.{spot_eq};
 ghost use Rattle.partial_path.specs.Rules.{start_spot};
-ghost use Rattle.partial_path.specs.Apply.{match_stacks, end_at, apply};
-ghost use Rattle.partial_path.specs.Moved.{moved, moved_spot, moved_start, moved_pre, moved_end, Fits, FitsSpot, FitsEnd};
+ghost use Rattle.partial_path.specs.Apply.{match_stacks, apply};
+ghost use Rattle.partial_path.specs.Moved.{moved, moved_start, moved_pre, Fits};
 
 use crate::config::Spot;
-use crate::filling::{Met, filled_scopes, filled_symbols, moved_node};
+use crate::filling::Met;
 use crate::lent_config::LentConfig;
 use crate::matching::{is_moved, meets_items, meets_scopes};
-use crate::rule::{End, Start};
+use crate::rule::Start;
 use crate::stored::StoredPath;
-use stacks_vars::{LentStack, ScopeStack};
 use std::alloc::{AllocError, Global};
 
 impl<'a> StoredPath<'a> {
@@ -31,17 +29,17 @@ impl<'a> StoredPath<'a> {
         if !self.meets(base, at) {
             return Ok(None);
         }
-        self.apply_met(alloc, LentStack::new(alloc), base, at)
+        self.apply_met(alloc, LentConfig::new(alloc, at.spot())?, base, at)
     }
 
     /// As `apply`, to a configuration that is met, which isn't looked at again: None only where it has no scope
     /// by which the path ends. It costs what the postcondition and copies of what is left cost: of the symbols
-    /// behind those that are asked for, and of those scopes alone that are used. The symbols stand in the room of
-    /// a spare stack, and memory is taken for them where it has less.
+    /// behind those that are asked for, and of those scopes alone that are used. What is made stands in the room of
+    /// a spare configuration, which goes, and memory is taken for the symbols where it has less.
     pub fn apply_met(
         &self,
         alloc: Global,
-        spare: LentStack<'a>,
+        spare: LentConfig<'a>,
         base: u32,
         at: &LentConfig<'a>,
     ) -> Result<Option<LentConfig<'a>>, AllocError>
@@ -56,9 +54,9 @@ impl<'a> StoredPath<'a> {
             fixed: self.fixed(),
             at,
         };
-        let symbols = filled_symbols(alloc, spare, base, &met, self.made())?;
-        let scopes = filled_scopes(alloc, base, &met, self.scopes(), self.tail())?;
-        Ok(end_at(base, self.end(), symbols, scopes))
+        let mut next = spare;
+        next.fill(alloc, base, &met, self.made(), self.scopes(), self.tail())?;
+        Ok(next.ended(base, self.end()))
     }
 
     /// Whether the configuration is at the path's start, moved by `base`, and meets its precondition. It
@@ -83,44 +81,5 @@ fn begins_at(base: u32, start: Start, at: Spot) -> bool
         (Start::After(Spot::At(node)), Spot::At(there)) => is_moved(base, node, there),
         (Start::After(Spot::Root), Spot::Root) => true,
         _ => false,
-    }
-}
-
-/// Where a path with this end, moved by `base`, stands with these stacks; None where it ends by the stack
-/// and there is no scope.
-fn end_at<'a>(
-    base: u32,
-    end: End,
-    symbols: LentStack<'a>,
-    scopes: ScopeStack,
-) -> Option<LentConfig<'a>>
-    requires { FitsEnd base end }
-    ensures { result ≡ end_at (moved_end base end) (stacks_of symbols.entry scopes) }
-{
-    match end {
-        End::At(spot) => Some(LentConfig::of(moved_spot(base, spot), symbols, scopes)),
-        End::ByStack => by_stack(symbols, scopes),
-    }
-}
-
-/// At the scope in front of these, which is taken off; None where there is none.
-fn by_stack<'a>(symbols: LentStack<'a>, scopes: ScopeStack) -> Option<LentConfig<'a>>
-    ensures { result ≡ end_at End.ByStack (stacks_of symbols.entry scopes) }
-{
-    let mut left = scopes;
-    match left.pop() {
-        Some(scope) => Some(LentConfig::of(Spot::At(scope), symbols, left)),
-        None => None,
-    }
-}
-
-/// The spot with `base` added to its file's number.
-pub fn moved_spot(base: u32, spot: Spot) -> Spot
-    requires { FitsSpot base spot }
-    ensures { result ≡ moved_spot base spot }
-{
-    match spot {
-        Spot::Root => Spot::Root,
-        Spot::At(node) => Spot::At(moved_node(base, node)),
     }
 }

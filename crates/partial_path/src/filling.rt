@@ -18,28 +18,23 @@ pub struct Met<'r, 'a> {
     pub at: &'r LentConfig<'a>,
 }
 
-/// The symbols that a rule makes, moved by `base`, and those that it leaves, of which alone there are copies, in the room
-/// of a spare stack. The one error is want of memory.
-pub fn filled_symbols<'a>(
+/// Writes the symbols that a rule makes, moved by `base`, and those that it leaves, of which alone there are copies, over
+/// a stack. The one error is want of memory.
+pub fn fill_symbols<'a>(
     alloc: Global,
-    spare: LentStack<'a>,
     base: u32,
     met: &Met<'_, 'a>,
     outs: &'a [SymOut],
-) -> Result<LentStack<'a>, AllocError>
+    symbols: &mut LentStack<'a>,
+) -> Result<(), AllocError>
     requires { All (FitsSymbol base) outs.now }
-    ensures { IfOk result
-        (λ symbols. symbols
+    ensures { OnOk result (symbols.new
         ≡ map (fill_item (left_by met.now.asked.now met.now.fixed.now met.now.at.now.stacks))
         (map (moved_symbol_out base) outs.now) ++ drop
         (length met.now.asked.now) met.now.at.now.stacks.symbols) }
 {
-    let mut symbols = met
-        .at
-        .symbols()
-        .rest(alloc, spare, met.asked.len(), outs.len())?;
-    put_made(alloc, base, met, outs, &mut symbols)?;
-    Ok(symbols)
+    symbols.fill_rest(alloc, met.at.symbols(), met.asked.len(), outs.len())?;
+    put_made(alloc, base, met, outs, symbols)
 }
 
 /// Puts the symbols that a rule makes, moved by `base`, before those of the stack. The one error is want of memory.
@@ -99,9 +94,31 @@ fn filled_held(
     filled_scopes(alloc, base, met, out.scopes.items(), out.tail)
 }
 
+/// Writes the scopes that a rule makes, with a copy of what its variable stands for, over a stack. The one error is want
+/// of memory.
+pub fn fill_scopes(
+    alloc: Global,
+    base: u32,
+    met: &Met<'_, '_>,
+    made: &[NodeAt],
+    tail: Tail,
+    scopes: &mut ScopeStack,
+) -> Result<(), AllocError>
+    requires { All (FitsNode base) made.now }
+    ensures { OnOk result (scopes.new ≡ map (moved_node base) made.now
+        ++ tail_scopes (left_by met.now.asked.now met.now.fixed.now met.now.at.now.stacks) tail) }
+{
+    // Mostly there are none.
+    if made.is_empty() && stands_for_none(met, tail) {
+        scopes.clear();
+        return Ok(());
+    }
+    *scopes = filled_scopes(alloc, base, met, made, tail)?;
+    Ok(())
+}
+
 /// The scopes that a rule makes, with a copy of what its variable stands for.
-#[inline(always)]
-pub fn filled_scopes(
+fn filled_scopes(
     alloc: Global,
     base: u32,
     met: &Met<'_, '_>,
@@ -112,17 +129,12 @@ pub fn filled_scopes(
     ensures { IfOk result (λ scopes. scopes ≡ map (moved_node base) made.now
         ++ tail_scopes (left_by met.now.asked.now met.now.fixed.now met.now.at.now.stacks) tail) }
 {
-    // Mostly there are none.
-    if made.is_empty() && stands_for_none(met, tail) {
-        return Ok(ScopeStack::new(alloc));
-    }
     let mut scopes = tail_copy(alloc, met, tail)?;
     put_fixed(base, made, &mut scopes)?;
     Ok(scopes)
 }
 
 /// Whether the variable is seen at once to stand for no scopes.
-#[inline(always)]
 fn stands_for_none(met: &Met<'_, '_>, tail: Tail) -> bool
     ensures { IsTrue result
         → tail_scopes (left_by met.now.asked.now met.now.fixed.now met.now.at.now.stacks) tail ≡ [] }

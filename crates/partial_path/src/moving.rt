@@ -3,9 +3,9 @@ ghost use Rattle.partial_path.specs.Moved.{moved, moved_node, moved_edge, moved_
 ghost use Rattle.partial_path.specs.Pooled.{pre_of, post_of};
 ghost use Rattle.partial_path.specs.FileNumbers.{FitsFile, own_edge, StartIn, AskedIn, MadeIn, CanMove, FileZeroMoves};
 
-use crate::applying::moved_spot;
 use crate::config::EdgeAt;
 use crate::filling::moved_node;
+use crate::lent_config::moved_spot;
 use crate::path::PartialPath;
 use crate::rule::{End, Start};
 use crate::stored::StoredPath;

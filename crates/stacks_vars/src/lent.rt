@@ -141,26 +141,32 @@ impl<'a> LentStack<'a> {
         Ok(())
     }
 
-    /// The stack without its first symbols, so many, once more, in the room of a spare stack, whose symbols go, and with
-    /// room for `room` symbols to be put in front. It costs what is left, and takes memory where the spare one has less;
-    /// the one error is want of memory.
-    pub fn rest(
-        &self,
+    /// Becomes the other stack without its first symbols, so many, in the room that it has, and with room for `room`
+    /// symbols to be put in front. Its own symbols go. It costs what is left, and takes memory where it has less room; the
+    /// one error is want of memory.
+    pub fn fill_rest(
+        &mut self,
         alloc: Global,
-        spare: LentStack<'a>,
+        other: &LentStack<'a>,
         but: usize,
         room: usize,
-    ) -> Result<LentStack<'a>, AllocError>
-        ensures { IfOk result (λ rest. rest ≡ drop but self.now) }
+    ) -> Result<(), AllocError>
+        ensures { OnOk result (self.new ≡ drop but other.now) }
     {
-        let left = self.items.len().saturating_sub(but);
-        let mut items = spare.items;
-        items.clear();
-        items.reserve(left.saturating_add(room))?;
-        for item in &self.items[..left] {
-            items.push(item.copy(alloc)?)?;
+        let left = other.items.len().saturating_sub(but);
+        self.items.clear();
+        self.items.reserve(left.saturating_add(room))?;
+        for item in &other.items[..left] {
+            self.items.push(item.copy(alloc)?)?;
         }
-        Ok(LentStack { items })
+        Ok(())
+    }
+
+    /// Takes all symbols off.
+    pub fn clear(&mut self)
+        ensures { self.new ≡ [] }
+    {
+        self.items.clear();
     }
 
     /// Whether both have the same symbols, with the same scopes, in the same order. It begins at the front, where two

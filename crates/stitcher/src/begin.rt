@@ -13,8 +13,7 @@ use crate::open::Open;
 use crate::query::Query;
 use crate::room::Room;
 use crate::tally::Tally;
-use partial_path::{LentConfig, PathSource, Spot, Start};
-use stacks_vars::{LentStack, ScopeStack};
+use partial_path::{PathSource, Spot, Start};
 
 /// Joins each path that is offered before the reference, and notes what comes of them.
 pub fn begin<'a, P: PathSource>(
@@ -38,9 +37,10 @@ pub fn begin<'a, P: PathSource>(
         → IsOverfull (asked (P.files source.now) query)
         (none_joined (asked (P.files source.now) query)) tally.old.counted }
 {
-    let spot = Spot::At(query.node);
-    let alloc = room.alloc();
-    let at = LentConfig::of(spot, LentStack::new(alloc), ScopeStack::new(alloc));
+    let mut at = room.take()?;
+    at.put(Spot::At(query.node));
     let begin = Start::Before(query.node);
-    extend(room, source, query, begin, &[], &at, 0, work, tally)
+    extend(room, source, query, begin, &[], &at, 0, work, tally)?;
+    room.give(at);
+    Ok(())
 }

@@ -88,13 +88,13 @@ pub fn landing_of<'a, P: PathSource>(
     joined_paths_are_runs();
     runs_end_in_files();
     returns_are_starts();
-    let spare = room.take();
+    let spare = room.take()?;
     let Some(next) = path.apply_met(room.alloc(), spare, file, at)? else {
         return Ok(None);
     };
     let is_cut = is_at_cut(source, cut, &next);
     if comes_back(query.node, trail, is_cut, &next) {
-        room.give(next.into_symbols());
+        room.give(next);
         return Ok(None);
     }
     Ok(Some(Landing {

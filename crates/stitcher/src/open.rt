@@ -18,7 +18,7 @@ pub struct Open<'a> {
     pub level: Level<'a>,
 }
 
-/// Adds the trail with the level to the open ones, where more paths are joined to it; else its stack is a spare one. It
+/// Adds the trail with the level to the open ones, where more paths are joined to it; else where it landed is spare. It
 /// takes memory for an open one alone.
 pub fn push_if<'a>(
     room: &mut Room<'a>,
@@ -37,7 +37,7 @@ pub fn push_if<'a>(
     ensures memory { goes_on ≡ false → IsOk result }
 {
     if !goes_on {
-        room.give(level.at.into_symbols());
+        room.give(level.at);
         return Ok(());
     }
     let depth = trail.len();

@@ -4,20 +4,19 @@ ghost use Rattle.std.specs.Prelude.{◌≡◌, take, []};
 use crate::found::EdgePath;
 use crate::open::Open;
 use crate::trail::Level;
-use partial_path::EdgeAt;
-use stacks_vars::LentStack;
-use std::alloc::Global;
+use partial_path::{EdgeAt, LentConfig, Spot};
+use std::alloc::{AllocError, Global};
 use std::mem;
 
-/// How many spare stacks are kept: as many as the runs of a usual reference need at once.
+/// How many spare configurations are kept: as many as the runs of a usual reference need at once.
 const MOST_SPARE: usize = 64;
 
-/// Memory that serves again: the stacks of runs that aren't gone on from any more, and the lists of a search. Whoever asks
+/// Memory that serves again: where runs stood that aren't gone on from any more, and the lists of a search. Whoever asks
 /// many references hands the same room to each search, so that most take no memory. What is found doesn't depend on it.
 #[derive(Drop)]
 pub struct Room<'a> {
     alloc: Global,
-    spare: Vec<LentStack<'a>>,
+    spare: Vec<LentConfig<'a>>,
     work: Vec<Open<'a>>,
     trail: Vec<Level<'a>>,
     edges: Vec<Vec<EdgeAt>>,
@@ -44,18 +43,18 @@ impl<'a> Room<'a> {
         self.alloc
     }
 
-    /// A stack to be written over: a spare one, where there is one.
-    pub(crate) fn take(&mut self) -> LentStack<'a> {
+    /// A configuration to be written over: a spare one, where there is one. The one error is want of memory.
+    pub(crate) fn take(&mut self) -> Result<LentConfig<'a>, AllocError> {
         match self.spare.pop() {
-            Some(stack) => stack,
-            None => LentStack::new(self.alloc),
+            Some(spare) => Ok(spare),
+            None => LentConfig::new(self.alloc, Spot::Root),
         }
     }
 
-    /// Keeps the stack as a spare one, unless there are enough or memory is refused.
-    pub(crate) fn give(&mut self, stack: LentStack<'a>) {
+    /// Keeps the configuration as a spare one, unless there are enough or memory is refused.
+    pub(crate) fn give(&mut self, spare: LentConfig<'a>) {
         if self.spare.len() < MOST_SPARE {
-            let _kept = self.spare.push(stack);
+            let _kept = self.spare.push(spare);
         }
     }
 
@@ -111,7 +110,7 @@ impl<'a> Room<'a> {
         self.complete = runs;
     }
 
-    /// Keeps the lists of a search, and the stacks of its last runs.
+    /// Keeps the lists of a search, and where its last runs stood.
     pub(crate) fn keep(&mut self, trail: Vec<Level<'a>>, work: Vec<Open<'a>>) {
         let mut trail = trail;
         cut_back(self, &mut trail, 0);
@@ -120,13 +119,13 @@ impl<'a> Room<'a> {
     }
 }
 
-/// Cuts the trail back to so many levels. The stacks of the others are spare ones then.
+/// Cuts the trail back to so many levels. Where the others landed is spare then.
 pub fn cut_back<'a>(room: &mut Room<'a>, trail: &mut Vec<Level<'a>>, depth: usize)
     ensures { trail.new.items ≡ take depth trail.old.items }
 {
     while trail.len() > depth {
         if let Some(level) = trail.pop() {
-            room.give(level.at.into_symbols());
+            room.give(level.at);
         }
     }
 }

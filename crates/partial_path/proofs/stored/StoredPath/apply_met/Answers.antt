@@ -14,8 +14,8 @@ returns c =
     let made = c.made.ensures.value in
     let scopes = c.scopes.ensures.value in
     let tail = c.tail.ensures.value in
-    c.end_at.ensures
-    ∙ (λ i. end_at (moved_end c.args.base (c.end.ensures.value i)) (stacks_of (c.in_ok-symbols.ensures i) (c.in_ok-scopes.ensures i)))
+    c.ended.ensures
+    ∙ (λ i. end_at (moved_end c.args.base (c.end.ensures.value i)) (stacks_of (c.in_ok-fill.ensures.symbols i) (c.in_ok-fill.ensures.scopes i)))
     ∙ (λ i. end_at (moved_end c.args.base c.args.self.now.end)
     (stacks_of (map (fill_item (left_by (asked i) (fixed i) c.args.at.now.stacks)) (map (moved_symbol_out c.args.base) (made i)) ++ drop (length (asked i)) c.args.at.now.stacks.symbols)
     (map (moved_node c.args.base) (scopes i) ++ tail_scopes (left_by (asked i) (fixed i) c.args.at.now.stacks) (tail i))))
