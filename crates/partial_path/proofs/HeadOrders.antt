@@ -4,7 +4,7 @@ use Rattle.std.proofs.Common.{◌≡◌, refl, sym, ◌∙◌, ap, subst, ℕ, �
 use Rattle.std.specs.Prelude.{slice_index}
 use Rattle.std.specs.List.{AllWithin}
 use Rattle.std.specs.Str.{bytes_eq}
-use Rattle.std.proofs.lemmas.Bool.{cases_lt, and_left, and_right, and_from, false_from_ne_true}
+use Rattle.std.proofs.lemmas.Bool.{false≢true, cases_lt, and_left, and_right, and_from, false_from_ne_true}
 use Rattle.std.proofs.lemmas.Bool.Decides.{nat_tests}
 use Rattle.std.proofs.lemmas.Cmp.{nat_list_cmp_total, lists_total, tied_itself}
 use Rattle.std.proofs.lemmas.List.{get_or_read, get_or_push, get_or_append_left}
@@ -22,12 +22,12 @@ use Rattle.partial_path.specs.Rules.{Rule}
 use Rattle.partial_path.specs.Starts.{start_cmp, begins_at}
 use Rattle.partial_path.specs.Keys.{key, key_cmp, texts, IsByKey}
 use Rattle.partial_path.specs.Heads.{IsHeadAt, AreHeadsBelow, AreFirstHeads, AreLess, AreNoLess, Rise}
-use Rattle.partial_path.specs.Inside.{slot_side}
+use Rattle.partial_path.specs.Inside.{slot_side, IsAfter}
 use Rattle.partial_path.specs.Sources.{stand_first, is_offered}
 use Rattle.partial_path.proofs.Orders.{start_eq_is}
 use Rattle.partial_path.proofs.Halved.{side}
 use Rattle.partial_path.proofs.KeyOrders.{key_step_suc, slots_rise}
-use Rattle.partial_path.proofs.Standing.{equal_then}
+use Rattle.partial_path.proofs.Standing.{equal_then, first_of, second_of}
 
 -- no head is 0
 pub some_head : (n : ℕ) (text : List ℕ) → IsHead n text → 0 < n
@@ -93,6 +93,36 @@ head_tells n w rule start symbols p q other some = and_right (begins_at start ru
     by (t ∷ asked) [] f g = refl
     by (t ∷ asked) (s ∷ items) f g = and_left (bytes_eq t s.symbol) (stand_first asked items) (false_from_ne_true (bytes_eq t s.symbol) (λ e.
         other (f.value ∙ ap head ((bytes_eq-Decides t s.symbol).0 e) ∙ sym g.value)))
+
+-- two that are offered and ask for symbols have one head
+pub same_head : (n m : ℕ) (a b : Rule) (start : Start) (symbols : List SymbolItem) → IsHeadAt n (slice_get (key a) 0) → IsHeadAt m (slice_get (key b) 0)
+    → 1 ≤ n → 1 ≤ m → is_offered start symbols a ≡ true → is_offered start symbols b ≡ true → n ≡ m
+same_head n m a b start symbols p q some more one two =
+    by (key a) (key b) symbols p q (second_of (begins_at start a) (stand_first (key a) symbols) one) (second_of (begins_at start b) (stand_first (key b) symbols) two)
+  where
+    by : (xs ys : List (List ℕ)) (items : List SymbolItem) → IsHeadAt n (slice_get xs 0) → IsHeadAt m (slice_get ys 0) → stand_first xs items ≡ true → stand_first ys items ≡ true → n ≡ m
+    by [] ys items f g h k = absurd (omega (arith, f, some))
+    by (t ∷ xs) [] items f g h k = absurd (omega (arith, g, more))
+    by (t ∷ xs) (u ∷ ys) [] f g h k = absurd (false≢true h)
+    by (t ∷ xs) (u ∷ ys) (s ∷ items) f g h k =
+        f.value ∙ ap head ((bytes_eq-Decides t s.symbol).0 (first_of (bytes_eq t s.symbol) (stand_first xs items) h))
+        ∙ sym (g.value ∙ ap head ((bytes_eq-Decides u s.symbol).0 (first_of (bytes_eq u s.symbol) (stand_first ys items) k)))
+
+-- behind a rule that asks for a symbol none is offered where the next one has another head
+pub head_after : (start : Start) (rules : List Rule) (heads : List ℕ) (place high next : ℕ) → place < high → high ≤ length rules → next ≡ length rules
+    → AreHeadsBelow (length rules) heads rules → Rise heads place high → (slice_index heads place ≡ 0 → ⊥)
+    → (slice_index heads (place + 1) ≡ slice_index heads place → ⊥) → IsAfter start rules place high next
+head_after start rules heads place high next some within is are rise asks other = record {
+  least = omega (arith, is, some, within);
+  most = omega (arith, is);
+  none = λ symbols offered k d far below early.
+      let one : slice_index heads place ≤ slice_index heads (place + 1) = rise place (place + 1) (omega arith) (omega arith) (omega (arith, far, early)) in
+      let two : slice_index heads (place + 1) ≤ slice_index heads k = rise (place + 1) k (omega arith) (omega (arith, far)) early in
+      false_from_ne_true (is_offered start symbols (get_or rules k d)) (λ also.
+      absurd (let same = same_head (slice_index heads place) (slice_index heads k) (get_or rules place d) (get_or rules k d) start symbols
+      (are place d (omega (arith, some, within))) (are k d (omega (arith, early, within))) (omega (arith, asks)) (omega (arith, asks, one, two))
+      (offered d) also in omega (arith, one, two, other, same)));
+}
 
 -- one of head 0 asks for nothing
 pub none_asked : (n : ℕ) (rule : Rule) (start : Start) (symbols : List SymbolItem) → IsHeadAt n (slice_get (key rule) 0) → n ≡ 0 → begins_at start rule ≡ true

@@ -14,7 +14,7 @@ filter_each q (x ∷ xs) all =
     ap (λ b. cond b (x ∷ filter q xs) (filter q xs)) (all zero x (omega arith)) ∙ ap (λ ys. x ∷ ys) (filter_each q xs (λ k d h. all (suc k) d (omega arith)))
 
 -- those from one place on and before another fail
-skip_none : {X : Type 0} (p : X → Bool) (xs : List X) (a b : ℕ) → a ≤ b → b ≤ length xs → AllWithin (λ x. p x ≡ false) xs a b → filter p (drop a xs) ≡ filter p (drop b xs)
+pub skip_none : {X : Type 0} (p : X → Bool) (xs : List X) (a b : ℕ) → a ≤ b → b ≤ length xs → AllWithin (λ x. p x ≡ false) xs a b → filter p (drop a xs) ≡ filter p (drop b xs)
 skip_none p [] a b le within none = let same : a ≡ b = omega (arith, le, within) in ap (λ n. filter p (drop n [])) same
 skip_none p (x ∷ xs) zero zero le within none = refl
 skip_none p (x ∷ xs) zero (suc b) le within none =

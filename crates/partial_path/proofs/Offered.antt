@@ -2,7 +2,7 @@
 -- head of the stack's first one.
 use Rattle.std.proofs.Common.{◌≡◌, refl, sym, ◌∙◌, ap, ℕ, zero, suc, ◌+◌, ◌-◌, ◌<◌, ◌≤◌, List, [], ◌∷◌, length, take, drop, get_or, true, false, Option, Some, None, arith, min, slice_get, inl, inr}
 use Rattle.std.specs.Prelude.{filter, ◌&&◌, nat_eq, slice_index, MatchOption, All}
-use Rattle.std.specs.List.{AllWithin, prefix_len}
+use Rattle.std.specs.List.{AllWithin, HoldsAt, prefix_len}
 use Rattle.std.specs.Ordering.{is_lt, is_eq, ordering_index}
 use Rattle.std.specs.declared.cmp.Ordering.{Ordering}
 use Rattle.std.specs.declared.cmp.Ordering.TheVariants.{Less, Equal, Greater}
@@ -17,13 +17,13 @@ use Rattle.partial_path.specs.Rules.{Rule}
 use Rattle.partial_path.specs.Starts.{start_cmp, begins_at, rules_at}
 use Rattle.partial_path.specs.Keys.{key, key_cmp, texts, IsByKey}
 use Rattle.partial_path.specs.Heads.{IsHeadAt, AreHeadsBelow, Rise, AreLess, AreNoLess}
-use Rattle.partial_path.specs.Inside.{slot_side, is_at_slot, is_before_slot, meets_text, NoneOffered, IsFirstOffered, IsNextOffer, IsFirstAtSlot}
+use Rattle.partial_path.specs.Inside.{slot_side, is_at_slot, is_before_slot, meets_text, NoneOffered, IsFirstOffered, IsNextOffer, IsAfter, IsFirstAtSlot}
 use Rattle.partial_path.specs.Sources.{stand_first, is_offered}
 use Rattle.partial_path.proofs.Orders.{start_eq_is}
 use Rattle.partial_path.proofs.Halved.{side, before_not_at}
 use Rattle.partial_path.proofs.KeyOrders.{drop_none, key_short, key_over, slots_rise}
 use Rattle.partial_path.proofs.Standing.{first_of, second_of, equal_then, stands_is, stands_behind, stands_short}
-use Rattle.partial_path.proofs.Kept.{rest_none, next_kept, in_piece, run_inside, run_before, run_behind}
+use Rattle.partial_path.proofs.Kept.{skip_none, rest_none, next_kept, in_piece, run_inside, run_before, run_behind}
 use Rattle.partial_path.proofs.HeadOrders.{head_tells, none_asked}
 
 -- one symbol after the other
@@ -264,11 +264,22 @@ none_left start symbols rules low high place from le within run one two none =
       | inr late ↦ none_begins start symbols (get_or rules k d) (run_behind (begins_at start) rules low high le within run k d late below)
     ])
 
-pub first_left : (start : Start) (symbols : List SymbolItem) (rules : List Rule) (low high place from next : ℕ) (x : Rule) → low ≤ high → high ≤ length rules
+-- behind a rule that is offered
+left_after : (start : Start) (symbols : List SymbolItem) (rules : List Rule) (low high place next : ℕ) → low ≤ high → high ≤ length rules
+    → take (high - low) (drop low rules) ≡ rules_at start rules → HoldsAt (λ rule. is_offered start symbols rule ≡ true) rules place → IsAfter start rules place high next
+    → filter (is_offered start symbols) (drop (place + 1) rules) ≡ filter (is_offered start symbols) (drop next rules)
+left_after start symbols rules low high place next le within run is after =
+    skip_none (is_offered start symbols) rules (place + 1) next after.least after.most (λ k d far below. elim (cases_lt k high) [
+      | inl early ↦ after.none symbols is k d (omega (arith, far)) below early
+      | inr late ↦ none_begins start symbols (get_or rules k d) (run_behind (begins_at start) rules low high le within run k d late (omega (arith, below, after.most)))
+    ])
+
+pub first_left : (start : Start) (symbols : List SymbolItem) (rules : List Rule) (low high place from first next : ℕ) (x : Rule) → low ≤ high → high ≤ length rules
     → take (high - low) (drop low rules) ≡ rules_at start rules → (low ≤ place → from ≤ place) → (place < low → from ≤ low) → place ≤ from
-    → IsFirstOffered start symbols rules from high next → x ≡ get_or rules next x
-    → filter (is_offered start symbols) (drop place rules) ≡ x ∷ filter (is_offered start symbols) (drop (next + 1) rules)
-first_left start symbols rules low high place from next x le within run one two least first is =
-    next_kept (is_offered start symbols) rules place next x (omega (arith, least, first.from)) (omega (arith, first.within, within))
-    (none_early start symbols rules low high place from next le within run one two first.none) (first.is x)
-    ∙ ap (λ r. r ∷ filter (is_offered start symbols) (drop (next + 1) rules)) (sym is)
+    → IsFirstOffered start symbols rules from high first → IsAfter start rules first high next → x ≡ get_or rules first x
+    → filter (is_offered start symbols) (drop place rules) ≡ x ∷ filter (is_offered start symbols) (drop next rules)
+first_left start symbols rules low high place from first next x le within run one two least here after is =
+    next_kept (is_offered start symbols) rules place first x (omega (arith, least, here.from)) (omega (arith, here.within, within))
+    (none_early start symbols rules low high place from first le within run one two here.none) (here.is x)
+    ∙ ap (λ r. r ∷ filter (is_offered start symbols) (drop (first + 1) rules)) (sym is)
+    ∙ ap (λ rs. x ∷ rs) (left_after start symbols rules low high first next le within run here.is after)

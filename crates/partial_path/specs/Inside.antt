@@ -1,5 +1,5 @@
 -- What a `FilePaths` and a `FileList` keep of their parts, and how a rule is found. No public clause cites this.
-use Rattle.std.specs.Prelude.{◌≡◌, ℕ, ◌≤◌, ◌<◌, ◌^◌, List, length, take, All, Bool, true, false, Option, Some, None, MatchOption}
+use Rattle.std.specs.Prelude.{◌≡◌, ℕ, ◌+◌, ◌≤◌, ◌<◌, ◌^◌, List, length, take, All, Bool, true, false, Option, Some, None, MatchOption, slice_index_or}
 use Rattle.std.specs.List.{AllWithin, HoldsAt}
 use Rattle.std.specs.Str.{bytes_eq}
 use Rattle.std.specs.Ordering.{is_lt, is_eq}
@@ -73,6 +73,14 @@ pub record IsFirstOffered (start : Start) (symbols : List SymbolItem) (rules : L
 abbrev pub IsNextOffer : Start → List SymbolItem → List Rule → ℕ → ℕ → Option ℕ → Type 0
 IsNextOffer start symbols rules low high next =
     MatchOption next (NoneOffered start symbols rules low high) (λ place. IsFirstOffered start symbols rules low high place)
+
+-- a look-up that found the rule at `place`, of a run of rules before `high`, may go on at `next`: no rule between these
+-- is offered where that one is
+pub record IsAfter (start : Start) (rules : List Rule) (place high next : ℕ) : Type 0 where
+  pub least : place + 1 ≤ next
+  pub most : next ≤ length rules
+  pub none : (symbols : List SymbolItem) → HoldsAt (λ rule. is_offered start symbols rule ≡ true) rules place
+      → (k : ℕ) (d : Rule) → place < k → k < next → k < high → is_offered start symbols (slice_index_or rules k d) ≡ false
 
 -- the first of the rules that stands at that start and key has that place
 pub record IsFirstAtSlot (start : Start) (asked : List (List ℕ)) (rules : List Rule) (place : ℕ) : Type 0 where

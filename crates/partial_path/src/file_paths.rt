@@ -3,7 +3,7 @@ use crate::path::PartialPath;
 use crate::rule::Start;
 use crate::slots::run_asking;
 use crate::sorting::sort_paths;
-use crate::start_table::StartTable;
+use crate::start_table::{StartTable, halved_run};
 use crate::stored::StoredPath;
 use crate::stored_paths::{KeptPaths, StoredPaths};
 use graph_nodes::{EdgeIter, FileGraph, NodeKind, NodeSpan, Place, Span};
@@ -98,8 +98,13 @@ impl FilePaths {
         ensures sets { AreFileRules self.now }
     {
         let paths = self.paths.lent();
-        let (low, high) = self.starts.run(&paths, &start);
-        paths.between(low, high)
+        match self.starts.told(&paths, start) {
+            Some((low, high)) => paths.between(low, high),
+            None => {
+                let (low, high) = halved_run(&paths, &start);
+                paths.between(low, high)
+            }
+        }
     }
 
     /// The paths that begin there and whose key is made of the texts of the stack's first symbols, so many

@@ -1,8 +1,8 @@
 //! Taking what a file offers at a start to a stack of symbols, path by path.
-ghost use Rattle.std.specs.Prelude.{◌≡◌, ◌≤◌, [], ◌∷◌, length, slice_get, true, IfSome, MatchOption};
+ghost use Rattle.std.specs.Prelude.{◌≡◌, ◌≤◌, ◌<◌, [], ◌∷◌, length, slice_get, true, IfSome, MatchOption};
 ghost use Rattle.std.specs.List.{AllWithin};
 ghost use Rattle.partial_path.specs.Heads.{AreFirstHeads, AreHeadsBelow, AreNoLess, IsHeadAt};
-ghost use Rattle.partial_path.specs.Inside.{IsNextOffer};
+ghost use Rattle.partial_path.specs.Inside.{IsAfter, IsNextOffer};
 ghost use Rattle.partial_path.specs.Keys.{IsByKey, texts};
 ghost use Rattle.partial_path.specs.Offers.{offers_left};
 ghost use Rattle.partial_path.specs.Starts.{begins_at};
@@ -61,25 +61,58 @@ pub fn next_offer<'a>(
         ≡ found.0 ∷ offers_left found.1 symbols.now paths.now) }
     ensures start { IfSome result (λ found. found.1.start ≡ at.start) }
 {
+    if at.place >= paths.len() {
+        return None;
+    }
     let (low, high) = starts.run(paths, &at.start);
     let from = at.place.max(low);
-    match offered_in_run(
-        paths,
-        starts.heads.as_slice(),
-        from,
-        high,
-        at.start,
-        symbols,
-    ) {
+    let heads = starts.heads.as_slice();
+    match offered_in_run(paths, heads, from, high, at.start, symbols) {
         Some(place) => {
-            let after = FileOffers {
-                start: at.start,
-                place: place + 1,
-            };
+            let after = offers_after(paths, heads, place, high, at.start);
             Some((paths.at(place), after))
         }
         None => None,
     }
+}
+
+/// Where a look-up stands after the path at that place, of those before another place, all of which begin there:
+/// before the next one, or behind all where none of the others is offered if that one is. The heads, which rise, tell
+/// it: all behind a path that asks for a symbol ask for another one where the next path has another head.
+fn offers_after(
+    paths: &StoredPaths<'_>,
+    heads: &[u64],
+    place: usize,
+    high: usize,
+    start: Start,
+) -> FileOffers
+    requires order { IsByKey paths.now }
+    requires heads { AreFirstHeads heads.now paths.now }
+    requires bounds { (place < high) × (high ≤ length paths.now) }
+    requires begin { AllWithin (λ rule. begins_at start rule ≡ true) paths.now place high }
+    ensures start { result.start ≡ start }
+    ensures after { IsAfter start paths.now place high result.place }
+{
+    let size = paths.len();
+    let next = place + 1;
+    let ended = FileOffers { start, place: size };
+    if next >= high {
+        return ended;
+    }
+    let goes_on = FileOffers { start, place: next };
+    let count = heads.len();
+    if count != size {
+        return goes_on;
+    }
+    let head = heads[place];
+    if head == 0 {
+        return goes_on;
+    }
+    let next_head = heads[next];
+    if next_head == head {
+        return goes_on;
+    }
+    ended
 }
 
 /// The place of the first path that is offered, of those between two places, all of which begin there. Those

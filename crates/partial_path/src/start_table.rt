@@ -25,7 +25,7 @@ pub struct StartTable {
 }
 
 impl StartTable {
-    ghost use Rattle.std.specs.Prelude.{◌≡◌, ◌≤◌, ◌-◌, length, take, drop};
+    ghost use Rattle.std.specs.Prelude.{◌≡◌, ◌≤◌, ◌-◌, length, take, drop, IfSome};
     ghost use Rattle.partial_path.specs.Heads.{AreFirstHeads};
     ghost use Rattle.partial_path.specs.Starts.{IsByStart, rules_at};
     ghost use Rattle.partial_path.specs.Tables.{IsTable};
@@ -55,9 +55,24 @@ impl StartTable {
             ≡ rules_at start.now paths.now }
         ensures bounds { (result.0 ≤ result.1) × (result.1 ≤ length paths.now) }
     {
-        match told(self.before.as_slice(), self.nodes, *start) {
+        match self.told(paths, *start) {
             Some(found) => found,
             None => halved_run(paths, start),
+        }
+    }
+
+    /// The same where the table tells it; None where it doesn't.
+    #[inline(always)]
+    pub fn told(&self, _paths: &StoredPaths<'_>, start: Start) -> Option<(usize, usize)>
+        requires table { IsTable self.now.before.items self.now.nodes _paths.now }
+        ensures run { IfSome result (λ run. take (run.1 - run.0) (drop run.0 _paths.now)
+            ≡ rules_at start _paths.now) }
+        ensures bounds { IfSome result (λ run.
+            (run.0 ≤ run.1) × (run.1 ≤ length _paths.now)) }
+    {
+        match told(self.before.as_slice(), self.nodes, start) {
+            Some(found) => Some(found),
+            None => None,
         }
     }
 }
@@ -187,11 +202,11 @@ fn place_in(start: Start, nodes: u32) -> usize
     }
 }
 
-/// Where the paths of the start stand, found by halving. It is seldom called, and stands apart so that a look-up in the
-/// table is a few instructions where it is used.
+/// Where the paths of the start stand, found by halving. It is seldom called, and is called in two places so that it
+/// stands apart and a look-up in the table is a few instructions where it is used.
 #[cold]
 #[inline(never)]
-fn halved_run(paths: &StoredPaths<'_>, start: &Start) -> (usize, usize)
+pub fn halved_run(paths: &StoredPaths<'_>, start: &Start) -> (usize, usize)
     requires { IsByStart paths.now }
     ensures run { take (result.1 - result.0) (drop result.0 paths.now)
         ≡ rules_at start.now paths.now }
