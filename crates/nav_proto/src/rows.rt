@@ -1,67 +1,113 @@
-ghost use Rattle.std.specs.Prelude.{◌≡◌, string_bytes, IfOk};
-ghost use Rattle.nav_proto.specs.Rows.{answer_text, callers_text, rows_text, row_text, span_text};
+ghost use Rattle.std.specs.Prelude.{◌≡◌, ◌++◌, codes, decimal, string_bytes, IfOk, OnOk};
+ghost use Rattle.nav_proto.specs.Rows.{answer_text, callers_text, flag_text, rows_text, row_text, span_text};
 
 use graph_nodes::Span;
+use itoa::Buffer;
 use json_values::quoted_text;
 use std::alloc::{AllocError, Global};
 use version_tree::{Answer, Row, Rows};
+
+/// So many bytes a row has whose path is of usual length, and an answer without rows.
+const ROW_ROOM: usize = 96;
 
 /// The answer to a query.
 pub fn answer_text(alloc: Global, answer: &Answer) -> Result<String, AllocError>
     ensures { IfOk result (λ s. string_bytes s ≡ answer_text answer.now) }
 {
-    let limit = answer.limit;
-    let rows = rows_text(alloc, answer.rows.items())?;
-    format!(in alloc; "{{\"limit\":{limit},\"rows\":[{rows}]}}")
+    let rows = answer.rows.items();
+    let mut text = String::with_capacity(alloc, room_for(rows))?;
+    text.push_str("{\"limit\":")?;
+    text.push_str(flag_text(answer.limit))?;
+    text.push_str(",\"rows\":[")?;
+    put_rows(alloc, rows, &mut text)?;
+    text.push_str("]}")?;
+    Ok(text)
 }
 
 /// The rows that `callers` finds.
 pub fn callers_text(alloc: Global, rows: &Rows) -> Result<String, AllocError>
     ensures { IfOk result (λ s. string_bytes s ≡ callers_text rows.now) }
 {
-    let rows = rows_text(alloc, rows.items())?;
-    format!(in alloc; "{{\"rows\":[{rows}]}}")
-}
-
-/// The rows with a comma between each and the next.
-fn rows_text(alloc: Global, rows: &[Row]) -> Result<String, AllocError>
-    ensures { IfOk result (λ s. string_bytes s ≡ rows_text rows.now) }
-{
-    let Some((first, rest)) = rows.split_first() else {
-        return Ok(String::new(alloc));
-    };
-    let mut text = row_text(alloc, first)?;
-    for row in rest {
-        text.push_str(",")?;
-        text.push_str(row_text(alloc, row)?.as_str())?;
-    }
+    let rows = rows.items();
+    let mut text = String::with_capacity(alloc, room_for(rows))?;
+    text.push_str("{\"rows\":[")?;
+    put_rows(alloc, rows, &mut text)?;
+    text.push_str("]}")?;
     Ok(text)
 }
 
-/// One row.
-fn row_text(alloc: Global, row: &Row) -> Result<String, AllocError>
-    ensures { IfOk result (λ s. string_bytes s ≡ row_text row.now) }
-{
-    let node = row.node;
-    let path = quoted_text(alloc, row.path.as_str())?;
-    let span = span_text(alloc, row.span)?;
-    format!(in alloc; "{{\"node\":{node},\"path\":{path},\"span\":{span}}}")
+/// How many bytes an answer of these rows has, about, so that its text seldom grows.
+fn room_for(rows: &[Row]) -> usize {
+    rows.len().saturating_add(1).saturating_mul(ROW_ROOM)
 }
 
-/// A span, or `null`.
-fn span_text(alloc: Global, span: Option<Span>) -> Result<String, AllocError>
-    ensures { IfOk result (λ s. string_bytes s ≡ span_text span) }
+/// The flag as JSON.
+fn flag_text(flag: bool) -> &'static str
+    ensures { result.now ≡ flag_text flag }
 {
-    let Some(
-        Span {
-            from_line,
-            from_column,
-            to_line,
-            to_column,
-        },
-    ) = span
-    else {
-        return String::from_str(alloc, "null");
+    if flag { "true" } else { "false" }
+}
+
+/// Adds the rows with a comma between each and the next.
+fn put_rows(alloc: Global, rows: &[Row], text: &mut String) -> Result<(), AllocError>
+    ensures { OnOk result
+        (string_bytes text.new ≡ string_bytes text.old ++ rows_text rows.now) }
+{
+    let Some((first, rest)) = rows.split_first() else {
+        return Ok(());
     };
-    format!(in alloc; "[{from_line},{from_column},{to_line},{to_column}]")
+    put_row(alloc, first, text)?;
+    for row in rest {
+        text.push_str(",")?;
+        put_row(alloc, row, text)?;
+    }
+    Ok(())
+}
+
+/// Adds one row.
+fn put_row(alloc: Global, row: &Row, text: &mut String) -> Result<(), AllocError>
+    ensures { OnOk result (string_bytes text.new ≡ string_bytes text.old ++ row_text row.now) }
+{
+    text.push_str("{\"node\":")?;
+    put_number(row.node, text)?;
+    text.push_str(",\"path\":")?;
+    text.push_str(quoted_text(alloc, row.path.as_str())?.as_str())?;
+    text.push_str(",\"span\":")?;
+    put_span(row.span, text)?;
+    text.push_str("}")?;
+    Ok(())
+}
+
+/// Adds a span, or `null`.
+fn put_span(span: Option<Span>, text: &mut String) -> Result<(), AllocError>
+    ensures { OnOk result (string_bytes text.new ≡ string_bytes text.old ++ span_text span) }
+{
+    let Some(span) = span else {
+        text.push_str("null")?;
+        return Ok(());
+    };
+    put_place("[", span.from_line, span.from_column, text)?;
+    put_place(",", span.to_line, span.to_column, text)?;
+    text.push_str("]")?;
+    Ok(())
+}
+
+/// Adds a line and a column behind what comes before them.
+fn put_place(before: &str, line: u32, column: u32, text: &mut String) -> Result<(), AllocError>
+    ensures { OnOk result (string_bytes text.new ≡ string_bytes text.old
+        ++ (before.now ++ (decimal line ++ (codes "," ++ decimal column)))) }
+{
+    text.push_str(before)?;
+    put_number(line, text)?;
+    text.push_str(",")?;
+    put_number(column, text)
+}
+
+/// Adds the number in decimal digits.
+fn put_number(n: u32, text: &mut String) -> Result<(), AllocError>
+    ensures { OnOk result (string_bytes text.new ≡ string_bytes text.old ++ decimal n) }
+{
+    let mut buffer = Buffer::new();
+    text.push_str(buffer.format(n))?;
+    Ok(())
 }

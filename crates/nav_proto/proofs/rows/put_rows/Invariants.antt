@@ -1,6 +1,6 @@
 use Rattle.std.proofs.Common.{◌≡◌, ◌++◌, string_bytes, take, flat_map}
 use Rattle.nav_proto.specs.Rows.{next_text}
-use Rattle.nav_proto.proofs.rows.rows_text.Given as goal
+use Rattle.nav_proto.proofs.rows.put_rows.Given as goal
 
 -- the first row and those so far
 abbrev pub invariant-loop-row : goal.invariant-loop-row
