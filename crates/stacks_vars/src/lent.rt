@@ -4,6 +4,7 @@ use crate::scopes::ScopeStack;
 use crate::symbol::Symbol;
 use std::alloc::{AllocError, Global};
 use std::marker::Model;
+use std::mem;
 
 /// A symbol on a stack of a search: plain, or with an attached scope stack. The symbol itself is lent, so that a copy
 /// counts no holder more. A contract sees a `SymbolItem`.
@@ -154,11 +155,14 @@ impl<'a> LentStack<'a> {
         ensures { OnOk result (self.new ≡ drop but other.now) }
     {
         let left = other.items.len().saturating_sub(but);
-        self.items.clear();
-        self.items.reserve(left.saturating_add(room))?;
+        // Taken out for the while, since behind a reference each push would go through memory.
+        let mut items = mem::replace(&mut self.items, Vec::new(alloc));
+        items.clear();
+        items.reserve(left.saturating_add(room))?;
         for item in &other.items[..left] {
-            self.items.push(item.copy(alloc)?)?;
+            items.push(item.copy(alloc)?)?;
         }
+        self.items = items;
         Ok(())
     }
 

@@ -7,6 +7,6 @@ use Rattle.stacks_vars.proofs.lent.LentStack.fill_rest.Goals as goal
 pub returns : goal.returns
 returns c =
     let stored : c.args.other.now ≡ reverse c.deref.result.now = search rules in
-    behind_stored c.deref.result.now c.loop-item.self-inside.items.items c.args.but c.saturating_sub-left.result (search rules)
+    behind_stored c.deref.result.now c.loop-item.items.items c.args.but c.saturating_sub-left.result (search rules)
     (c.loop-item.invariant ∙ take_all c.loop-item.item-index _ c.loop-item-test.false)
     ∙ ap (drop c.args.but) (sym stored)
