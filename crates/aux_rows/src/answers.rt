@@ -10,7 +10,7 @@ use stacks_vars::NodeAt;
 use std::alloc::{AllocError, Global};
 use std::marker::Brand;
 use std::sync::ledger::{Blank, Ledger};
-use stitcher::{EdgePath, Room, StitchFault, Stitched, stitch};
+use stitcher::{CompleteRun, Room, StitchFault, Stitched, stitch};
 use whole_search::{Hit, SearchFault, is_reference, search};
 
 /// Rows, each as its file and its node, and a flag, as a text.
@@ -75,9 +75,14 @@ pub fn list_of(alloc: Global, text: &str) -> Result<FileList, TextFault> {
 }
 
 /// The edges with their precedences; fewer where there is no such edge.
-fn steps_of(alloc: Global, files: &[FileGraph], path: &EdgePath) -> Result<EdgeList, AllocError> {
+fn steps_of(
+    alloc: Global,
+    files: &[FileGraph],
+    run: &CompleteRun<'_>,
+) -> Result<EdgeList, AllocError> {
     let mut steps = Vec::new(alloc);
-    for at in &path.edges {
+    let edges = run.edges(alloc)?;
+    for at in &edges {
         let Some(edge) = edge_at(files, *at) else {
             continue;
         };
@@ -109,7 +114,11 @@ fn end_of(files: &[FileGraph], path: &EdgeList) -> Option<Hit> {
 }
 
 /// The rows of what a stitching found: where those of its paths end that no other of them shadows, each once.
-fn rows_of(alloc: Global, files: &[FileGraph], found: &Stitched) -> Result<Vec<Hit>, AllocError> {
+fn rows_of(
+    alloc: Global,
+    files: &[FileGraph],
+    found: &Stitched<'_>,
+) -> Result<Vec<Hit>, AllocError> {
     let mut paths = Vec::new(alloc);
     for path in &found.complete {
         paths.push(steps_of(alloc, files, path)?)?;
@@ -126,12 +135,12 @@ fn rows_of(alloc: Global, files: &[FileGraph], found: &Stitched) -> Result<Vec<H
 }
 
 /// Whether each path ends where its last edge leads.
-fn end_there(alloc: Global, files: &[FileGraph], found: &Stitched) -> Result<bool, AllocError> {
+fn end_there(alloc: Global, files: &[FileGraph], found: &Stitched<'_>) -> Result<bool, AllocError> {
     for path in &found.complete {
         let end = end_of(files, &steps_of(alloc, files, path)?);
         let wanted = Hit {
-            file: path.end.file,
-            node: path.end.node,
+            file: path.end().file,
+            node: path.end().node,
         };
         if end != Some(wanted) {
             return Ok(false);

@@ -58,7 +58,7 @@ fn leads(alloc: Global, list: &FileList, from: NodeAt, to: NodeAt) -> Result<boo
         from.node,
         Bounds::usual(),
     ) {
-        Ok(found) => Ok(found.complete.iter().any(|path| path.end == to)),
+        Ok(found) => Ok(found.complete.iter().any(|path| path.end() == to)),
         Err(StitchFault::Crowded) => Ok(false),
         Err(StitchFault::NoMemory) => Err(AllocError),
     }

@@ -5,7 +5,7 @@ use Rattle.std.proofs.lemmas.Bool.{false≢true}
 use Rattle.graph_nodes.specs.Graph.{Graph}
 use Rattle.shadowing.specs.declared.paths.EdgeStep.{EdgeStep}
 use Rattle.shadowing.specs.Shadow.{same_step, shadows, is_shadowed}
-use Rattle.stitcher.specs.declared.found.EdgePath.{EdgePath}
+use Rattle.stitcher.specs.Found.{EdgePath}
 use Rattle.whole_search.specs.declared.found.Hit.{Hit}
 use Rattle.whole_search.specs.Answers.{IsRising}
 use Rattle.list_facts.proofs.Members.{passing_member}

@@ -16,7 +16,7 @@ use Rattle.partial_path.specs.Counted.{IsBoundedComplete}
 use Rattle.partial_path.proofs.Followed.{followed_by}
 use Rattle.shadowing.specs.declared.paths.EdgeStep.{EdgeStep}
 use Rattle.shadowing.specs.Shadow.{shadows, is_shadowed}
-use Rattle.stitcher.specs.declared.found.EdgePath.{EdgePath}
+use Rattle.stitcher.specs.Found.{EdgePath}
 use Rattle.stitcher.specs.Answers.{kept_edges, EndsThere, AreCompleteRuns}
 use Rattle.whole_search.specs.declared.found.Hit.{Hit}
 use Rattle.whole_search.specs.Answers.{path_of, EndsAt, IsUnshadowed, IsDefinitionFrom, IsRising, AreDefinitions}
@@ -56,20 +56,20 @@ ends_so (Some end) p hit h k =
 
 module _ (bounds : Bounds) (files : List Graph) (c : Config) (runs : List EdgePath) (are : AreCompleteRuns bounds files c runs) where
   edges_of : EdgePath → List EdgeAt
-  edges_of p = p.edges.items
+  edges_of p = p.edges
 
-  member_complete : (p : EdgePath) → IsIn p runs → IsBoundedComplete bounds files c p.edges.items
+  member_complete : (p : EdgePath) → IsIn p runs → IsBoundedComplete bounds files c p.edges
   member_complete p m =
-      (are.exact p.edges.items).0 (Contains-from_IsIn (kept_edges runs) p.edges.items (IsIn-map (λ (p : EdgePath). p.edges.items) p runs m))
+      (are.exact p.edges).0 (Contains-from_IsIn (kept_edges runs) p.edges (IsIn-map (λ (p : EdgePath). p.edges) p runs m))
 
-  complete_member : (es : List EdgeAt) → IsBoundedComplete bounds files c es → (p : EdgePath) × IsIn p runs × (p.edges.items ≡ es)
+  complete_member : (es : List EdgeAt) → IsBoundedComplete bounds files c es → (p : EdgePath) × IsIn p runs × (p.edges ≡ es)
   complete_member es h =
-      IsIn-map_from (λ (p : EdgePath). p.edges.items) es runs (IsIn-from_Contains (kept_edges runs) es ((are.exact es).1 h))
+      IsIn-map_from (λ (p : EdgePath). p.edges) es runs (IsIn-from_Contains (kept_edges runs) es ((are.exact es).1 h))
 
   pub has_edges : All (HasEdges files) runs
   has_edges =
       All-from_recursion (HasEdges files) runs
-      (each_member (HasEdges files) runs (λ p m. All-from_recursion (IsEdgeOf files) p.edges.items (run_edges files c p.edges.items (ends_run files (run files c p.edges.items) (member_complete p m).complete.ends))))
+      (each_member (HasEdges files) runs (λ p m. All-from_recursion (IsEdgeOf files) p.edges (run_edges files c p.edges (ends_run files (run files c p.edges) (member_complete p m).complete.ends))))
 
   member_ends : (p : EdgePath) → IsIn p runs → EndsThere files c p
   member_ends p m = at_member (EndsThere files c) p runs (recursion_from_All (EndsThere files c) runs are.ends) m
@@ -81,7 +81,7 @@ module _ (bounds : Bounds) (files : List Graph) (c : Config) (runs : List EdgePa
   definition_from hit h =
       let p = IsIn-map_from end_of hit (filter (λ (p : EdgePath). stays (run_paths files runs) (run_path files p)) runs) h in
       let f = IsIn-filter_from (λ (p : EdgePath). stays (run_paths files runs) (run_path files p)) p.0 runs p.1 in (
-        p.0.edges.items,
+        p.0.edges,
         record {
           bounded_complete = member_complete p.0 f.0;
           unshadowed = λ others complete over.
@@ -91,10 +91,10 @@ module _ (bounds : Bounds) (files : List Graph) (c : Config) (runs : List EdgePa
               (ap (λ es. shadows (path_of files es) (run_path files p.0)) q.2 ∙ over) in
               absurd (false≢true (sym (ap not shadowed) ∙ f.1));
         },
-        subst (EndsAt files c p.0.edges.items) p.2 (ends_at (run files c p.0.edges.items) p.0.end (member_ends p.0 f.0)),
+        subst (EndsAt files c p.0.edges) p.2 (ends_at (run files c p.0.edges) p.0.end (member_ends p.0 f.0)),
       )
 
-  unshadowed_stays : (p : EdgePath) → IsUnshadowed bounds files c p.edges.items → stays (run_paths files runs) (run_path files p) ≡ true
+  unshadowed_stays : (p : EdgePath) → IsUnshadowed bounds files c p.edges → stays (run_paths files runs) (run_path files p) ≡ true
   unshadowed_stays p h = by (is_shadowed (run_paths files runs) (run_path files p)) refl
     where
       by : (b : Bool) → is_shadowed (run_paths files runs) (run_path files p) ≡ b → stays (run_paths files runs) (run_path files p) ≡ true
@@ -102,14 +102,14 @@ module _ (bounds : Bounds) (files : List Graph) (c : Config) (runs : List EdgePa
       by true e =
           let m = passing_member (λ (other : List EdgeStep). shadows other (run_path files p)) (run_paths files runs) e in
           let q = IsIn-map_from (run_path files) m.0 runs m.1 in
-          absurd (h.unshadowed q.0.edges.items (member_complete q.0 q.1) (ap (λ other. shadows other (run_path files p)) q.2 ∙ m.2))
+          absurd (h.unshadowed q.0.edges (member_complete q.0 q.1) (ap (λ other. shadows other (run_path files p)) q.2 ∙ m.2))
 
   from_definition : (hit : Hit) → IsDefinitionFrom bounds files c hit → IsIn hit (ends_of files runs)
   from_definition hit h =
       let p = complete_member h.0 h.1.bounded_complete in
-      let un : IsUnshadowed bounds files c p.0.edges.items = subst (IsUnshadowed bounds files c) (sym p.2) h.1 in
-      let ends : EndsAt files c p.0.edges.items hit = subst (λ es. EndsAt files c es hit) (sym p.2) h.2 in
-      subst (λ x. IsIn x (ends_of files runs)) (ends_so (run files c p.0.edges.items) p.0.end hit (member_ends p.0 p.1) ends)
+      let un : IsUnshadowed bounds files c p.0.edges = subst (IsUnshadowed bounds files c) (sym p.2) h.1 in
+      let ends : EndsAt files c p.0.edges hit = subst (λ es. EndsAt files c es hit) (sym p.2) h.2 in
+      subst (λ x. IsIn x (ends_of files runs)) (ends_so (run files c p.0.edges) p.0.end hit (member_ends p.0 p.1) ends)
       (IsIn-map end_of p.0 (filter (λ (p : EdgePath). stays (run_paths files runs) (run_path files p)) runs)
       (IsIn-filter (λ (p : EdgePath). stays (run_paths files runs) (run_path files p)) p.0 runs p.1 (unshadowed_stays p.0 un)))
 

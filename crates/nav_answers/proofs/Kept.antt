@@ -9,7 +9,7 @@ use Rattle.std.proofs.lemmas.Option.{none-some, same_Some}
 use Rattle.graph_nodes.specs.Graph.{Graph}
 use Rattle.partial_path.specs.declared.config.EdgeAt.{EdgeAt}
 use Rattle.shadowing.specs.declared.paths.EdgeStep.{EdgeStep}
-use Rattle.stitcher.specs.declared.found.EdgePath.{EdgePath}
+use Rattle.stitcher.specs.Found.{EdgePath}
 use Rattle.whole_search.specs.declared.found.Hit.{Hit}
 use Rattle.whole_search.specs.Answers.{path_of, step_of}
 use Rattle.list_facts.specs.Members.{IsIn}
@@ -56,33 +56,33 @@ drop_next (x ∷ xs) (suc n) y ys e =
 module _ (files : List Graph) (all : List (List EdgeStep)) where
   -- the path after those that were gone over is by the run's edges exactly where the run is kept
   next_kept : (kept : List (List EdgeStep)) (place : ℕ) (run : EdgePath) (rest : List EdgePath)
-      → drop place kept ≡ filter (stays all) (run_paths files (run ∷ rest)) → is_next kept place run.edges.items ≡ stays all (run_path files run)
+      → drop place kept ≡ filter (stays all) (run_paths files (run ∷ rest)) → is_next kept place run.edges ≡ stays all (run_path files run)
   next_kept kept place run rest left = by (stays all (run_path files run)) refl
     where
-      by : (b : Bool) → stays all (run_path files run) ≡ b → is_next kept place run.edges.items ≡ stays all (run_path files run)
+      by : (b : Bool) → stays all (run_path files run) ≡ b → is_next kept place run.edges ≡ stays all (run_path files run)
       by true e =
           let there : drop place kept ≡ run_path files run ∷ filter (stays all) (run_paths files rest)
           = left ∙ ap (λ b. cond b (run_path files run ∷ filter (stays all) (run_paths files rest)) (filter (stays all) (run_paths files rest))) e in
-          ap (λ o. option_map_or (λ (path : List EdgeStep). are_by path run.edges.items) o false) (get_drop kept place ∙ ap (λ xs. slice_get xs 0) there)
-          ∙ by_its_own files run.edges.items ∙ sym e
+          ap (λ o. option_map_or (λ (path : List EdgeStep). are_by path run.edges) o false) (get_drop kept place ∙ ap (λ xs. slice_get xs 0) there)
+          ∙ by_its_own files run.edges ∙ sym e
       by false e = elsewhere (slice_get kept place) refl
         where
           left_there : drop place kept ≡ filter (stays all) (run_paths files rest)
           left_there = left ∙ ap (λ b. cond b (run_path files run ∷ filter (stays all) (run_paths files rest)) (filter (stays all) (run_paths files rest))) e
 
-          other : (path : List EdgeStep) → slice_get kept place ≡ Some path → (b : Bool) → are_by path run.edges.items ≡ b → b ≡ false
+          other : (path : List EdgeStep) → slice_get kept place ≡ Some path → (b : Bool) → are_by path run.edges ≡ b → b ≡ false
           other path there true h =
               let member = IsIn-filter_from (stays all) path (run_paths files rest) (head_in (filter (stays all) (run_paths files rest)) path (sym (ap (λ xs. slice_get xs 0) left_there) ∙ sym (get_drop kept place) ∙ there)) in
               let from = IsIn-map_from (run_path files) path rest member.0 in
-              let same : from.0.edges.items ≡ run.edges.items = by_no_other files from.0.edges.items run.edges.items (ap (λ p. are_by p run.edges.items) from.2 ∙ h) in
+              let same : from.0.edges ≡ run.edges = by_no_other files from.0.edges run.edges (ap (λ p. are_by p run.edges) from.2 ∙ h) in
               absurd (false≢true (sym e ∙ ap (λ es. stays all (path_of files es)) (sym same) ∙ ap (stays all) from.2 ∙ member.1))
           other path there false h = refl
 
-          elsewhere : (o : Option (List EdgeStep)) → slice_get kept place ≡ o → is_next kept place run.edges.items ≡ stays all (run_path files run)
-          elsewhere None there = ap (λ o. option_map_or (λ (path : List EdgeStep). are_by path run.edges.items) o false) there ∙ sym e
+          elsewhere : (o : Option (List EdgeStep)) → slice_get kept place ≡ o → is_next kept place run.edges ≡ stays all (run_path files run)
+          elsewhere None there = ap (λ o. option_map_or (λ (path : List EdgeStep). are_by path run.edges) o false) there ∙ sym e
           elsewhere (Some path) there =
-              ap (λ o. option_map_or (λ (path : List EdgeStep). are_by path run.edges.items) o false) there
-              ∙ other path there (are_by path run.edges.items) refl ∙ sym e
+              ap (λ o. option_map_or (λ (path : List EdgeStep). are_by path run.edges) o false) there
+              ∙ other path there (are_by path run.edges) refl ∙ sym e
 
   ends_more : (runs : List EdgePath) (i : ℕ) (d : EdgePath) → i < length runs
       → ends_in files all (take (i + 1) runs) ≡ ends_in files all (take i runs) ++ cond (stays all (run_path files (get_or runs i d))) (end_of (get_or runs i d) ∷ []) []
@@ -108,7 +108,7 @@ module _ (files : List Graph) (runs : List EdgePath) (kept : List (List EdgeStep
       way.left ∙ ap (λ rs. filter (stays (run_paths files runs)) (run_paths files rs)) (drop_more runs i run inside)
       ∙ ap (λ r. filter (stays (run_paths files runs)) (run_paths files (r ∷ drop (i + 1) runs))) (sym is)
 
-  told : is_next kept place run.edges.items ≡ stays (run_paths files runs) (run_path files run)
+  told : is_next kept place run.edges ≡ stays (run_paths files runs) (run_path files run)
   told = next_kept files (run_paths files runs) kept place run (drop (i + 1) runs) here
 
   more : (b : Bool) → stays (run_paths files runs) (run_path files run) ≡ b
@@ -119,7 +119,7 @@ module _ (files : List Graph) (runs : List EdgePath) (kept : List (List EdgeStep
       ∙ ap (λ t. ends_in files (run_paths files runs) (take i runs) ++ cond t (end_of run ∷ []) []) e
 
   -- the run is kept
-  pub taken : is_next kept place run.edges.items ≡ true → IsUnderWay files runs kept (i + 1) (place + 1) (ends ++ end_of run ∷ [])
+  pub taken : is_next kept place run.edges ≡ true → IsUnderWay files runs kept (i + 1) (place + 1) (ends ++ end_of run ∷ [])
   taken t =
       let keeps = sym told ∙ t in
       record {
@@ -129,7 +129,7 @@ module _ (files : List Graph) (runs : List EdgePath) (kept : List (List EdgeStep
       }
 
   -- it isn't
-  pub passed : is_next kept place run.edges.items ≡ false → IsUnderWay files runs kept (i + 1) place ends
+  pub passed : is_next kept place run.edges ≡ false → IsUnderWay files runs kept (i + 1) place ends
   passed t =
       let keeps = sym told ∙ t in
       record {

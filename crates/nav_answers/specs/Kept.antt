@@ -9,7 +9,7 @@ use Rattle.graph_nodes.specs.Whole.{edge_of}
 use Rattle.partial_path.specs.declared.config.EdgeAt.{EdgeAt}
 use Rattle.shadowing.specs.declared.paths.EdgeStep.{EdgeStep}
 use Rattle.shadowing.specs.Shadow.{is_shadowed}
-use Rattle.stitcher.specs.declared.found.EdgePath.{EdgePath}
+use Rattle.stitcher.specs.Found.{EdgePath}
 use Rattle.whole_search.specs.declared.found.Hit.{Hit}
 use Rattle.whole_search.specs.Answers.{path_of}
 use Rattle.nav_answers.specs.Replies.{hit_of}
@@ -20,11 +20,11 @@ IsEdgeOf files e = IsSome (edge_of files e.file e.edge)
 
 -- the edges of the run are there
 abbrev pub HasEdges : List Graph → EdgePath → Type 0
-HasEdges files p = All (IsEdgeOf files) p.edges.items
+HasEdges files p = All (IsEdgeOf files) p.edges
 
 -- the runs as paths with precedences
 abbrev pub run_path : List Graph → EdgePath → List EdgeStep
-run_path files p = path_of files p.edges.items
+run_path files p = path_of files p.edges
 
 abbrev pub run_paths : List Graph → List EdgePath → List (List EdgeStep)
 run_paths files runs = map (run_path files) runs

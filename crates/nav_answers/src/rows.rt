@@ -11,13 +11,13 @@ use partial_path::EdgeAt;
 use shadowing::{EdgeList, EdgeNo, EdgeStep, unshadowed};
 use stacks_vars::NodeAt;
 use std::alloc::{AllocError, Global};
-use stitcher::EdgePath;
+use stitcher::CompleteRun;
 use version_tree::View;
 use whole_search::Hit;
 
 /// The nodes at which those of the runs end that no other of them shadows, each once in file order; the one error
 /// is want of memory.
-pub fn rows_of(alloc: Global, view: &View, runs: &[EdgePath]) -> Result<Vec<Hit>, AllocError>
+pub fn rows_of(alloc: Global, view: &View, runs: &[CompleteRun<'_>]) -> Result<Vec<Hit>, AllocError>
     requires { All (HasEdges (graphs_seen view.now)) runs.now }
     ensures rising { IfOk result (λ rows. IsRising rows.items) }
     ensures exact { IfOk result (λ rows. (hit : Hit) → Contains rows.items hit
@@ -32,7 +32,7 @@ pub fn rows_of(alloc: Global, view: &View, runs: &[EdgePath]) -> Result<Vec<Hit>
 }
 
 /// The same of at most one run, which nothing shadows.
-fn ends_alone(alloc: Global, _view: &View, runs: &[EdgePath]) -> Result<Vec<Hit>, AllocError>
+fn ends_alone(alloc: Global, _view: &View, runs: &[CompleteRun<'_>]) -> Result<Vec<Hit>, AllocError>
     requires { length runs.now < 2 }
     ensures rising { IfOk result (λ rows. IsRising rows.items) }
     ensures exact { IfOk result (λ rows. (hit : Hit) → Contains rows.items hit
@@ -40,7 +40,7 @@ fn ends_alone(alloc: Global, _view: &View, runs: &[EdgePath]) -> Result<Vec<Hit>
 {
     let mut rows = Vec::new(alloc);
     for run in runs {
-        rows.push(hit_of(run.end))?;
+        rows.push(hit_of(run.end()))?;
     }
     Ok(rows)
 }
@@ -60,7 +60,7 @@ pub fn in_order(rows: Vec<Hit>) -> Vec<Hit>
 fn ends_of(
     alloc: Global,
     _view: &View,
-    runs: &[EdgePath],
+    runs: &[CompleteRun<'_>],
     kept: &[EdgeList],
 ) -> Result<Vec<Hit>, AllocError>
     requires { kept.now ≡ unshadowed (run_paths (graphs_seen _view.now) runs.now) }
@@ -69,8 +69,9 @@ fn ends_of(
     let mut ends = Vec::new(alloc);
     let mut place = 0;
     for run in runs {
-        if is_next(kept, place, run.edges.as_slice()) {
-            ends.push(hit_of(run.end))?;
+        let edges = run.edges(alloc)?;
+        if is_next(kept, place, edges.as_slice()) {
+            ends.push(hit_of(run.end()))?;
             place += 1;
         }
     }
@@ -121,13 +122,18 @@ pub fn hit_of(node: NodeAt) -> Hit
 }
 
 /// The runs as paths with precedences; the one error is want of memory.
-fn paths_of(alloc: Global, view: &View, runs: &[EdgePath]) -> Result<Vec<EdgeList>, AllocError>
+fn paths_of(
+    alloc: Global,
+    view: &View,
+    runs: &[CompleteRun<'_>],
+) -> Result<Vec<EdgeList>, AllocError>
     requires { All (HasEdges (graphs_seen view.now)) runs.now }
     ensures { IfOk result (λ paths. paths.items ≡ run_paths (graphs_seen view.now) runs.now) }
 {
     let mut paths = Vec::with_capacity(alloc, runs.len())?;
     for run in runs {
-        paths.push(path_of(alloc, view, run.edges.as_slice())?)?;
+        let edges = run.edges(alloc)?;
+        paths.push(path_of(alloc, view, edges.as_slice())?)?;
     }
     Ok(paths)
 }

@@ -15,7 +15,7 @@ use Rattle.partial_path.specs.Step.{start}
 use Rattle.partial_path.specs.Runs.{run, IsApart}
 use Rattle.partial_path.specs.Counted.{IsBoundedComplete, IsCrowded, HasLimit}
 use Rattle.partial_path.specs.Sources.{IsSourceFile, graphs_of}
-use Rattle.stitcher.specs.declared.found.EdgePath.{EdgePath}
+use Rattle.stitcher.specs.Found.{EdgePath}
 use Rattle.stitcher.specs.declared.open.Open.{Open}
 use Rattle.stitcher.specs.declared.tally.Tally.{Tally}
 use Rattle.stitcher.specs.declared.trail.Level.{Level}
@@ -250,7 +250,7 @@ module _ (laws : CutLaws) (q : Asked) (sources : All IsSourceFile q.files) (begi
   -- the kept runs, once none is open
   edges_kept : (paths : List EdgePath) → map (λ (r : List EdgeAt × Spot). r.0) (kept_runs paths) ≡ kept_edges paths
   edges_kept [] = refl
-  edges_kept (p ∷ paths) = ap (λ es. p.edges.items ∷ es) (edges_kept paths)
+  edges_kept (p ∷ paths) = ap (λ es. p.edges ∷ es) (edges_kept paths)
 
   edges_joined : (xs : List Joined) → map (λ (r : List EdgeAt × Spot). r.0) (map joined_run xs) ≡ map joined_edges xs
   edges_joined [] = refl
@@ -265,7 +265,7 @@ module _ (laws : CutLaws) (q : Asked) (sources : All IsSourceFile q.files) (begi
       let there = all.same.there m.0 (IsIn-filter_from (is_bounded_complete q) m.0 done m.1).0 in
       let s = met_stands laws q sources begins m.0 there in
       let r = laws.runs q.files q.node q.start m.0.at m.0.paths sources begins (met_some laws q sources begins m.0 there) s.leads in
-      ends_at p m.0 (run (graphs_of q.files) q.start p.edges.items)
+      ends_at p m.0 (run (graphs_of q.files) q.start p.edges)
       (ap (λ (x : List EdgeAt × Spot). run (graphs_of q.files) q.start x.0) (sym m.2) ∙ r.runs)
       (ap (λ (x : List EdgeAt × Spot). x.1) m.2)
 

@@ -7,15 +7,15 @@ use Rattle.partial_path.specs.declared.config.Spot.TheVariants.{At}
 use Rattle.partial_path.specs.declared.bounds.Bounds.{Bounds}
 use Rattle.partial_path.specs.Runs.{run, IsApart}
 use Rattle.partial_path.specs.Counted.{IsBoundedComplete}
-use Rattle.stitcher.specs.declared.found.EdgePath.{EdgePath}
+use Rattle.stitcher.specs.Found.{EdgePath}
 
 -- the edges of the runs
 abbrev pub kept_edges : List EdgePath → List (List EdgeAt)
-kept_edges paths = map (λ (p : EdgePath). p.edges.items) paths
+kept_edges paths = map (λ (p : EdgePath). p.edges) paths
 
 -- the run of its edges leads to its end
 abbrev pub EndsThere : List Graph → Config → EdgePath → Type 0
-EndsThere files c p = MatchOption (run files c p.edges.items) ⊥ (λ (end : Config). end.spot ≡ At p.end)
+EndsThere files c p = MatchOption (run files c p.edges) ⊥ (λ (end : Config). end.spot ≡ At p.end)
 
 -- they are the bounded complete runs from there, each once, and each with its end
 pub record AreCompleteRuns (bounds : Bounds) (files : List Graph) (c : Config) (paths : List EdgePath) : Type 0 where

@@ -1,5 +1,6 @@
 pub mod Answers
 pub mod Ends
+pub mod Found
 pub mod Joins
 pub mod Laws
 pub mod Opens

@@ -11,7 +11,7 @@ use Rattle.partial_path.specs.Cutting.{edge_count}
 use Rattle.partial_path.specs.Counted.{IsCrowded, HasLimit}
 use Rattle.partial_path.specs.Sources.{graphs_of}
 use Rattle.stitcher.specs.Answers.{AreCompleteRuns}
-use Rattle.stitcher.specs.declared.found.EdgePath.{EdgePath}
+use Rattle.stitcher.specs.Found.{EdgePath}
 use Rattle.stitcher.specs.declared.open.Open.{Open}
 use Rattle.stitcher.specs.declared.tally.Tally.{Tally}
 use Rattle.stitcher.specs.declared.trail.Level.{Level}
@@ -37,7 +37,7 @@ those passes x = if passes then x ∷ [] else []
 
 -- the edges of a run that is kept, and where it ends
 abbrev pub kept_run : EdgePath → List EdgeAt × Spot
-kept_run p = (p.edges.items, At p.end)
+kept_run p = (p.edges, At p.end)
 
 -- the same of each run that is kept
 abbrev pub kept_runs : List EdgePath → List (List EdgeAt × Spot)

@@ -24,7 +24,7 @@ pub fn advance<'a, P: PathSource>(
     from: Open<'a>,
     trail: &mut Vec<Level<'a>>,
     work: &mut Vec<Open<'a>>,
-    tally: &mut Tally,
+    tally: &mut Tally<'a>,
 ) -> Result<(), StitchFault>
     requires sources { All IsSourceFile (P.files source.now) }
     requires begins { start (graphs_of (P.files source.now)) query.node

@@ -21,7 +21,7 @@ pub fn begin<'a, P: PathSource>(
     source: &'a P,
     query: Query,
     work: &mut Vec<Open<'a>>,
-    tally: &mut Tally,
+    tally: &mut Tally<'a>,
 ) -> Result<(), StitchFault>
     requires sources { All IsSourceFile (P.files source.now) }
     requires begins { start (graphs_of (P.files source.now)) query.node

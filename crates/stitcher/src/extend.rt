@@ -23,11 +23,11 @@ pub fn extend<'a, P: PathSource>(
     source: &'a P,
     query: Query,
     begin: Start,
-    trail: &[Level],
+    trail: &[Level<'a>],
     at: &LentConfig<'a>,
     edges: usize,
     work: &mut Vec<Open<'a>>,
-    tally: &mut Tally,
+    tally: &mut Tally<'a>,
 ) -> Result<(), StitchFault>
     requires sources { All IsSourceFile (P.files source.now) }
     requires begins { start (graphs_of (P.files source.now)) query.node

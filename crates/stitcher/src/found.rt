@@ -1,23 +1,15 @@
 ghost use Rattle.std.specs.Prelude.{◌≡◌};
 ghost use Rattle.stitcher.specs.declared.found.StitchFault.TheVariants.{NoMemory};
 
-use partial_path::EdgeAt;
-use stacks_vars::NodeAt;
+use crate::complete::CompleteRun;
 use std::alloc::{AllocError, AllocFailed};
 use std::fmt;
 
-/// A complete run: its edges, the first first, and the definition at which it ends.
-#[derive(Debug, Drop)]
-pub struct EdgePath {
-    pub edges: Vec<EdgeAt>,
-    pub end: NodeAt,
-}
-
 /// The bounded complete runs of a reference, each once, and whether a counted run was left out for its length or
 /// depth.
-#[derive(Debug, Drop)]
-pub struct Stitched {
-    pub complete: Vec<EdgePath>,
+#[derive(Drop)]
+pub struct Stitched<'a> {
+    pub complete: Vec<CompleteRun<'a>>,
     pub limit: bool,
 }
 

@@ -110,13 +110,13 @@ pub fn join<'a, P: PathSource>(
     room: &mut Room<'a>,
     source: &P,
     query: Query,
-    trail: &[Level],
+    trail: &[Level<'a>],
     at: &LentConfig<'a>,
     edges: usize,
     file: u32,
     path: &StoredPath<'a>,
     work: &mut Vec<Open<'a>>,
-    tally: &mut Tally,
+    tally: &mut Tally<'a>,
 ) -> Result<(), StitchFault>
     requires sources { All IsSourceFile (P.files source.now) }
     requires begins { start (graphs_of (P.files source.now)) query.node

@@ -5,40 +5,41 @@ ghost use Rattle.stitcher.specs.Joins.{with_path};
 ghost use Rattle.stitcher.specs.Opens.{kept_runs, those};
 ghost use Rattle.stitcher.specs.Trail.{Moves, paths_of, path_of};
 
-use crate::found::EdgePath;
+use crate::complete::{CompleteRun, RunPath};
 use crate::room::Room;
-use crate::trail::{Level, push_all, push_edges};
-use partial_path::{EdgeAt, Spot};
+use crate::trail::Level;
+use partial_path::Spot;
 use std::alloc::AllocError;
 
-/// The edges of the trail and of one path more, which are so many together.
-fn edges_with(
-    room: &mut Room<'_>,
-    trail: &[Level],
-    level: &Level,
-    count: usize,
-) -> Result<Vec<EdgeAt>, AllocError>
+/// The paths of the trail, and one path more.
+fn paths_with<'a>(
+    room: &mut Room<'a>,
+    trail: &[Level<'a>],
+    level: &Level<'a>,
+) -> Result<Vec<RunPath<'a>>, AllocError>
     requires trail { All (λ l. Moves l.file l.path) trail.now }
     requires level { Moves level.now.file level.now.path }
     ensures { IfOk result
-        (λ edges. edges.items ≡ path_edges (with_path (paths_of trail.now) (path_of level.now))) }
+        (λ paths. paths.items ≡ with_path (paths_of trail.now) (path_of level.now)) }
 {
-    let mut edges = room.take_edges();
+    let mut paths = room.take_paths();
     // For all of them at once, so that the vector never grows.
-    edges.reserve(count)?;
-    push_all(&mut edges, trail)?;
-    push_edges(&mut edges, level.file, &level.path)?;
-    Ok(edges)
+    paths.reserve(trail.len().saturating_add(1))?;
+    for joined in trail {
+        paths.push(RunPath::of(joined))?;
+    }
+    paths.push(RunPath::of(level))?;
+    Ok(paths)
 }
 
-/// Keeps the run of the trail and the level, which has so many edges, where it is complete: its edges, and the node where
+/// Keeps the run of the trail and the level, which has so many edges, where it is complete: its paths, and the node where
 /// it ends. It takes memory for a complete one alone.
-pub fn keep_if(
-    room: &mut Room<'_>,
-    complete: &mut Vec<EdgePath>,
+pub fn keep_if<'a>(
+    room: &mut Room<'a>,
+    complete: &mut Vec<CompleteRun<'a>>,
     is_complete: bool,
-    trail: &[Level],
-    level: &Level,
+    trail: &[Level<'a>],
+    level: &Level<'a>,
     count: usize,
 ) -> Result<(), AllocError>
     requires trail { All (λ l. Moves l.file l.path) trail.now }
@@ -59,7 +60,7 @@ pub fn keep_if(
     let Spot::At(end) = level.at.spot() else {
         return Ok(());
     };
-    let edges = edges_with(room, trail, level, count)?;
-    complete.push(EdgePath { edges, end })?;
+    let paths = paths_with(room, trail, level)?;
+    complete.push(CompleteRun::of(paths, count, end))?;
     Ok(())
 }

@@ -3,6 +3,7 @@
 
 mod advance;
 mod begin;
+mod complete;
 mod extend;
 mod found;
 mod join;
@@ -18,7 +19,8 @@ mod stitching;
 mod tally;
 mod trail;
 
-pub use found::{EdgePath, StitchFault, Stitched};
+pub use complete::CompleteRun;
+pub use found::{StitchFault, Stitched};
 pub use laws::joined_paths_tell;
 pub use room::Room;
 pub use stitching::stitch;

@@ -24,13 +24,13 @@ pub fn note<'a, P: PathSource>(
     room: &mut Room<'a>,
     source: &P,
     query: Query,
-    trail: &[Level],
+    trail: &[Level<'a>],
     edges: usize,
     bounded: bool,
     cut: bool,
     level: Level<'a>,
     work: &mut Vec<Open<'a>>,
-    tally: &mut Tally,
+    tally: &mut Tally<'a>,
 ) -> Result<(), StitchFault>
     requires spot { IsSpotOf (graphs_of (P.files source.now)) level.at.spot }
     requires bounded { bounded

@@ -1,10 +1,10 @@
 //! Memory that serves one search after another.
 ghost use Rattle.std.specs.Prelude.{◌≡◌, take, []};
 
-use crate::found::EdgePath;
+use crate::complete::{CompleteRun, RunPath};
 use crate::open::Open;
 use crate::trail::Level;
-use partial_path::{EdgeAt, LentConfig, Spot};
+use partial_path::{LentConfig, Spot};
 use std::alloc::{AllocError, Global};
 use std::mem;
 
@@ -19,8 +19,8 @@ pub struct Room<'a> {
     spare: Vec<LentConfig<'a>>,
     work: Vec<Open<'a>>,
     trail: Vec<Level<'a>>,
-    edges: Vec<Vec<EdgeAt>>,
-    complete: Vec<EdgePath>,
+    paths: Vec<Vec<RunPath<'a>>>,
+    complete: Vec<CompleteRun<'a>>,
 }
 
 impl<'a> Room<'a> {
@@ -33,7 +33,7 @@ impl<'a> Room<'a> {
             spare: Vec::new(alloc),
             work: Vec::new(alloc),
             trail: Vec::new(alloc),
-            edges: Vec::new(alloc),
+            paths: Vec::new(alloc),
             complete: Vec::new(alloc),
         }
     }
@@ -76,22 +76,22 @@ impl<'a> Room<'a> {
         trail
     }
 
-    /// A list of edges, with none in it: a spare one, where there is one.
-    pub(crate) fn take_edges(&mut self) -> Vec<EdgeAt>
+    /// A list of the paths of a run, with none in it: a spare one, where there is one.
+    pub(crate) fn take_paths(&mut self) -> Vec<RunPath<'a>>
         ensures { result.items ≡ [] }
     {
-        match self.edges.pop() {
-            Some(edges) => {
-                let mut edges = edges;
-                edges.clear();
-                edges
+        match self.paths.pop() {
+            Some(paths) => {
+                let mut paths = paths;
+                paths.clear();
+                paths
             }
             None => Vec::new(self.alloc),
         }
     }
 
     /// The list of complete runs, with none in it.
-    pub(crate) fn take_complete(&mut self) -> Vec<EdgePath>
+    pub(crate) fn take_complete(&mut self) -> Vec<CompleteRun<'a>>
         ensures { result.items ≡ [] }
     {
         let mut complete = mem::replace(&mut self.complete, Vec::new(self.alloc));
@@ -100,11 +100,11 @@ impl<'a> Room<'a> {
     }
 
     /// Keeps the lists of runs that were told and aren't needed any more.
-    pub fn give_back(&mut self, runs: Vec<EdgePath>) {
+    pub fn give_back(&mut self, runs: Vec<CompleteRun<'a>>) {
         let mut runs = runs;
         while let Some(run) = runs.pop() {
-            if self.edges.len() < MOST_SPARE {
-                let _kept = self.edges.push(run.edges);
+            if self.paths.len() < MOST_SPARE {
+                let _kept = self.paths.push(run.into_paths());
             }
         }
         self.complete = runs;

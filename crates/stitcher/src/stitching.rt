@@ -33,7 +33,7 @@ pub fn stitch<'a, P: PathSource>(
     file: u32,
     node: u32,
     bounds: Bounds,
-) -> Result<Stitched, StitchFault>
+) -> Result<Stitched<'a>, StitchFault>
     requires reference { IsTrue (is_reference_of (graphs_of (P.files source.now)) file node) }
     ensures complete { IfOk result
         (λ found. IsSomeAnd (start (graphs_of (P.files source.now)) (node_at file node))
@@ -63,7 +63,7 @@ fn join_all<'a, P: PathSource>(
     room: &mut Room<'a>,
     source: &'a P,
     query: Query,
-) -> Result<Tally, StitchFault>
+) -> Result<Tally<'a>, StitchFault>
     requires begins { start (graphs_of (P.files source.now)) query.node
         ≡ Some (asked (P.files source.now) query).start }
     ensures ended { IfOk result (λ tally. IsEnded (asked (P.files source.now) query) tally) }

@@ -1,24 +1,25 @@
 ghost use Rattle.std.specs.Prelude.{◌≡◌, ◌≢◌, ◌≤◌, ◌+◌, ◌&&◌, ◌||◌, not, [], false, IsTrue, OnOk, if◌then◌else◌};
 ghost use Rattle.partial_path.specs.Limits.{max_runs};
 
-use crate::found::{EdgePath, StitchFault};
+use crate::complete::CompleteRun;
+use crate::found::StitchFault;
 use partial_path::MAX_RUNS;
 
 /// What was found so far.
-#[derive(Debug, Drop)]
-pub struct Tally {
+#[derive(Drop)]
+pub struct Tally<'a> {
     /// The bounded complete runs.
-    pub complete: Vec<EdgePath>,
+    pub complete: Vec<CompleteRun<'a>>,
     /// How many bounded counted runs there are.
     pub counted: usize,
     /// Whether some counted run isn't bounded.
     pub limit: bool,
 }
 
-impl Tally {
+impl<'a> Tally<'a> {
     /// Nothing found yet but these runs.
-    pub fn with(complete: Vec<EdgePath>) -> Tally
-        ensures complete { result.complete ≡ complete }
+    pub fn with(complete: Vec<CompleteRun<'a>>) -> Tally<'a>
+        ensures complete { result.complete ≡ complete.entry }
         ensures counted { result.counted ≡ 0 }
         ensures limit { result.limit ≡ false }
     {

@@ -1,10 +1,10 @@
 //! The paths that are joined at the moment, in their order.
-ghost use Rattle.std.specs.Prelude.{◌≡◌, ◌↔◌, ◌++◌, map, IsTrue, IfOk, OnOk, All};
+ghost use Rattle.std.specs.Prelude.{◌≡◌, ◌↔◌, ◌++◌, map, IsTrue, IfOk};
 ghost use Rattle.std.specs.List.{list_any};
 ghost use Rattle.partial_path.specs.Same.{config_eq};
 ghost use Rattle.partial_path.specs.Laws.{IsAtStart};
-ghost use Rattle.partial_path.specs.Cutting.{path_edges, edges_in};
-ghost use Rattle.stitcher.specs.Trail.{Moves, paths_of, landed_at};
+ghost use Rattle.partial_path.specs.Cutting.{edges_in};
+ghost use Rattle.stitcher.specs.Trail.{Moves, landed_at};
 
 use partial_path::{EdgeAt, LentConfig, Spot, StoredPath};
 use stacks_vars::NodeAt;
@@ -49,17 +49,6 @@ pub fn push_edges(
 {
     for edge in path.edge_numbers() {
         edges.push(EdgeAt { file, edge: *edge })?;
-    }
-    Ok(())
-}
-
-/// Adds the edges of the paths, in their order.
-pub fn push_all(edges: &mut Vec<EdgeAt>, levels: &[Level]) -> Result<(), AllocError>
-    requires { All (λ l. Moves l.file l.path) levels.now }
-    ensures { OnOk result (edges.new.items ≡ edges.old.items ++ path_edges (paths_of levels.now)) }
-{
-    for level in levels {
-        push_edges(edges, level.file, &level.path)?;
     }
     Ok(())
 }

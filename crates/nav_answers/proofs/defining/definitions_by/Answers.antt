@@ -1,7 +1,7 @@
 -- The complete runs that were found tell the definitions.
 use Rattle.std.proofs.Common.{sym, subst, IsSomeAnd, All, List}
 use Rattle.partial_path.specs.Step.{start}
-use Rattle.stitcher.specs.declared.found.EdgePath.{EdgePath}
+use Rattle.stitcher.specs.Found.{EdgePath}
 use Rattle.stitcher.specs.Answers.{AreCompleteRuns}
 use Rattle.version_tree.specs.Contents.{FileRow}
 use Rattle.whole_search.specs.declared.found.Hit.{Hit}

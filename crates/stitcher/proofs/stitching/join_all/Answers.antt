@@ -2,7 +2,7 @@
 -- is too much tells that the reference is crowded.
 use Rattle.std.proofs.Common.{◌≡◌, ◌<◌, ◌-◌, ◌∙◌, ℕ, Err, List, Vec, Global, [], take, length, flat_map, append-nil, ap, sym, subst}
 use Rattle.std.proofs.lemmas.Result.{err_from_is_err_and}
-use Rattle.stitcher.specs.declared.found.EdgePath.{EdgePath}
+use Rattle.stitcher.specs.Found.{EdgePath}
 use Rattle.stitcher.specs.declared.found.StitchFault.TheVariants.{Crowded}
 use Rattle.stitcher.specs.declared.open.Open.{Open}
 use Rattle.stitcher.specs.declared.trail.Level.{Level}
