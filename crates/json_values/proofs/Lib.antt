@@ -1,5 +1,8 @@
--- Which clause rests on which file. `parse`: ok and bad on Text. `items` and `into_items` on Arrays. `has_only` and
--- `other_member` on Members.
+-- Which clause rests on which file. `parse`: ok and bad on Text. `shape_of` and `shape_of_text` on Checks, that on Fitting.
+-- `made`, which `parse_object` calls, on Others. `items` and `into_items` on Arrays. `has_only` and `other_member` on Members.
 mod Text
+mod Fitting
+mod Checks
+mod Others
 mod Arrays
 mod Members

@@ -2,14 +2,18 @@
 //! no member but those of a form.
 #![tactic(auto)]
 
+mod checking;
 mod forms;
 mod lists;
 mod numbers;
+mod objects;
 mod parsing;
+mod ranges;
 mod strings;
 
 pub use forms::{Form, has_only, other_member};
 pub use lists::{into_items, items};
 pub use numbers::{number, u16_of, u32_of};
+pub use objects::parse_object;
 pub use parsing::{JsonFault, parse};
 pub use strings::{into_string, quoted_text};
