@@ -10,15 +10,15 @@ use crate::members::Form;
 use crate::pieces::wrong;
 use crate::words::request;
 use crate::{ProtoFault, Request};
-use json_values::{JsonFault, has_only, parse, u32_of};
+use json_values::{JsonFault, has_only, parse, parse_object, u32_of};
 use serde_json::Value;
 use std::alloc::Global;
 
 /// The request that the line is, or its first fault, as `docs/FORMATS.md` tells them.
 ///
-/// `NoMemory` may come in place of any answer. The line is gone over once to make a value of it,
-/// which copies each text once; the documents of a commit are taken out of that value and not
-/// copied again.
+/// `NoMemory` may come in place of any answer. A line that begins as an object is gone over once to
+/// make a value of it, which copies each text once; the documents of a commit are taken out of that
+/// value and not copied again. Any other line is gone over three times, and no value is made of it.
 #[tactic(auto, using(crate::proofs::Causes::causes))]
 pub fn read_request(alloc: Global, line: &[u8]) -> Result<Request, ProtoFault>
     ensures ok { IfOk result (λ request. request_from line.now ≡ Ok request) }
@@ -28,13 +28,17 @@ pub fn read_request(alloc: Global, line: &[u8]) -> Result<Request, ProtoFault>
     read(alloc, line)
 }
 
-#[tactic(auto, unfolding(crate::specs::Requests::request_from))]
+#[tactic(auto, using(crate::proofs::Whole::whole))]
 fn read(alloc: Global, line: &[u8]) -> Result<Request, ProtoFault>
     ensures gives { LineGives result (request_from line.now) }
     ensures bounded { IfOk result IsBounded }
 {
-    let value = value_of(alloc, line)?;
-    request(alloc, value)
+    match parse_object(alloc, line) {
+        Ok(Some(value)) => request(alloc, value),
+        // What is no object has no member `do`.
+        Ok(None) => Err(wrong(alloc, "do")),
+        Err(fault) => Err(fault_of(fault)),
+    }
 }
 
 /// The node that the line of `once` asks for: `{"node":n}`, n a whole number of 32 bits, with no
