@@ -2,7 +2,6 @@ ghost use Rattle.std.specs.Prelude.{◌≡◌, ◌<◌, length, is_some, IfOk, O
 ghost use Rattle.std.specs.List.{list_all};
 ghost use Rattle.json.specs.Lex.{tokens};
 ghost use Rattle.json.specs.Reads.{token_of};
-ghost use Rattle.json.specs.Scratch.{room};
 ghost use Rattle.serde_json.specs.Read.{read};
 ghost use Rattle.json_values.specs.Text.{json_of};
 ghost use Rattle.json_values.specs.Checks.{Tells, opens_object, one_value, token_fits};
