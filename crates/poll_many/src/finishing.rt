@@ -7,7 +7,7 @@ ghost use Rattle.poll_many.specs.Settling.{SettlesBehindRounds};
 ghost use Rattle.poll_many.specs.Places.{is_lost};
 ghost use Rattle.poll_many.specs.Rounds.{IsUnderWay, AreFinished, AreNamed, ServesAll};
 
-use crate::call::Call;
+use crate::call::{Call, Means};
 use crate::closing::close_all;
 use crate::place::{NO_MEMORY, Place};
 use crate::port::Port;
@@ -56,17 +56,20 @@ where
     let Ok(mut places) = places_of(alloc, seats) else {
         return NO_MEMORY;
     };
-    let status = serve_places(rt, alloc, cx, &call, places.as_mut_slice(), port, steps);
+    let means = Means {
+        rt,
+        alloc,
+        call: &call,
+    };
+    let status = serve_places(&means, cx, places.as_mut_slice(), port, steps);
     take_apart(places, seats);
     status
 }
 
 /// Serves the links for the seats at these places, all of which are free.
 fn serve_places<R: Threads + Wait + Sync, B: Commits<R> + Drop, P: Port, L: Ledger>(
-    rt: &R,
-    alloc: Global,
+    means: &Means<'_, R, P, B>,
     cx: &mut Context<'_>,
-    call: &Call<P, B>,
     places: &mut [Place<B, P::K>],
     port: &mut P,
     steps: &mut Steps<L>,
@@ -74,21 +77,21 @@ fn serve_places<R: Threads + Wait + Sync, B: Commits<R> + Drop, P: Port, L: Ledg
 where
     P::K: Drop,
     requires some { 0 < length places.old }
-    requires at_first { call.now.port.value ≡ port.old }
+    requires at_first { means.now.call.now.port.value ≡ port.old }
     requires under_way { IsUnderWay (outside P.Port P.K.Link B.Pins)
-        call.now 0 call.now.most port.old places.old }
+        means.now.call.now 0 means.now.call.now.most port.old places.old }
     ensures finished { AreFinished (outside P.Port P.K.Link B.Pins)
-        call.now port.new places.new result }
+        means.now.call.now port.new places.new result }
     ensures len { length places.new ≡ length places.old }
     ensures settled { SettlesBehindRounds (outside P.Port P.K.Link B.Pins)
-        call.now.port.value port.new }
+        means.now.call.now.port.value port.new }
     ensures kept { Keeps cx.old cx.new }
 {
-    let mut wanted = call.most;
-    match go_on(rt, alloc, cx, call, places, port, &mut wanted, steps) {
+    let mut wanted = means.call.most;
+    match go_on(means, cx, places, port, &mut wanted, steps) {
         Ok(()) => status_of(any_lost(places), SERVED),
         Err(_) => {
-            close_all(call, places, port, wanted);
+            close_all(means.call, places, port, wanted);
             status_of(any_lost(places), PORT_FAILED)
         }
     }

@@ -8,7 +8,7 @@ ghost use Rattle.poll_many.specs.Places.{is_busy, is_free};
 ghost use Rattle.poll_many.specs.Waiting.{GaveNone, OneMoreWaits, AllHaveWaited, SettlesOn};
 ghost use Rattle.poll_many.specs.Rounds.{IsUnderWay, GoesRound, AreOver, still_wanted};
 
-use crate::call::Call;
+use crate::call::{Call, Means};
 use crate::place::{Asked, Place, Turn, take_link, take_turn};
 use crate::port::Port;
 use futures::task::Context;
@@ -95,9 +95,8 @@ where
 
 /// Polls the session at the n-th place, if one is there.
 fn take_turn_at<R: Threads + Sync, B: Commits<R> + Drop, P: Port, L: Ledger>(
-    rt: &R,
+    means: &Means<'_, R, P, B>,
     cx: &mut Context<'_>,
-    call: &Call<P, B>,
     places: &mut [Place<B, P::K>],
     n: usize,
     port: &mut P,
@@ -108,23 +107,22 @@ where
     P::K: Drop,
     requires inside { n < length places.old }
     requires under_way { IsUnderWay (outside P.Port P.K.Link B.Pins)
-        call.now 0 wanted port.old places.old }
+        means.now.call.now 0 wanted port.old places.old }
     ensures goes { GoesRound (outside P.Port P.K.Link B.Pins)
-        call.now wanted port.old port.new places.old places.new }
+        means.now.call.now wanted port.old port.new places.old places.new }
     ensures waits { result ≡ Turn.Waits
         → OneMoreWaits (outside P.Port P.K.Link B.Pins) n port.old port.new places.old places.new }
     ensures unsettled { P.settles port.new ≡ P.settles port.old }
     ensures kept { Keeps cx.old cx.new }
 {
     let _ = wanted;
-    take_turn(rt, cx, &mut places[n], port, steps)
+    take_turn(means.rt, cx, &mut places[n], port, steps)
 }
 
 /// Polls each open session once, in the order of the seats. True where one ended.
 fn take_turns<R: Threads + Sync, B: Commits<R> + Drop, P: Port, L: Ledger>(
-    rt: &R,
+    means: &Means<'_, R, P, B>,
     cx: &mut Context<'_>,
-    call: &Call<P, B>,
     places: &mut [Place<B, P::K>],
     port: &mut P,
     wanted: u32,
@@ -133,9 +131,9 @@ fn take_turns<R: Threads + Sync, B: Commits<R> + Drop, P: Port, L: Ledger>(
 where
     P::K: Drop,
     requires under_way { IsUnderWay (outside P.Port P.K.Link B.Pins)
-        call.now 0 wanted port.old places.old }
+        means.now.call.now 0 wanted port.old places.old }
     ensures goes { GoesRound (outside P.Port P.K.Link B.Pins)
-        call.now wanted port.old port.new places.old places.new }
+        means.now.call.now wanted port.old port.new places.old places.new }
     ensures waits { result ≡ false
         → AllHaveWaited (outside P.Port P.K.Link B.Pins) port.old port.new places.old places.new }
     ensures unsettled { P.settles port.new ≡ P.settles port.old }
@@ -143,7 +141,7 @@ where
 {
     let mut any = false;
     for n in 0..places.len() {
-        let turn = take_turn_at(rt, cx, call, places, n, port, wanted, steps);
+        let turn = take_turn_at(means, cx, places, n, port, wanted, steps);
         any = has_ended(any, turn);
     }
     any
@@ -166,10 +164,8 @@ fn is_quiet(given: bool, ended: bool) -> bool
 
 /// One round. True where it came to nothing.
 fn go_round<R: Threads + Sync, B: Commits<R> + Drop, P: Port, L: Ledger>(
-    rt: &R,
-    alloc: Global,
+    means: &Means<'_, R, P, B>,
     cx: &mut Context<'_>,
-    call: &Call<P, B>,
     places: &mut [Place<B, P::K>],
     port: &mut P,
     wanted: &mut u32,
@@ -178,17 +174,17 @@ fn go_round<R: Threads + Sync, B: Commits<R> + Drop, P: Port, L: Ledger>(
 where
     P::K: Drop,
     requires under_way { IsUnderWay (outside P.Port P.K.Link B.Pins)
-        call.now 0 wanted.old port.old places.old }
+        means.now.call.now 0 wanted.old port.old places.old }
     ensures goes { GoesRound (outside P.Port P.K.Link B.Pins)
-        call.now wanted.new port.old port.new places.old places.new }
+        means.now.call.now wanted.new port.old port.new places.old places.new }
     ensures failed { OnErr result (HasRisen (P.faults port.old) (P.faults port.new)) }
     ensures quiet { result ≡ Ok true
         → AllHaveWaited (outside P.Port P.K.Link B.Pins) port.old port.new places.old places.new }
     ensures unsettled { P.settles port.new ≡ P.settles port.old }
     ensures kept { Keeps cx.old cx.new }
 {
-    let given = take_links(alloc, call, places, port, wanted)?;
-    let ended = take_turns(rt, cx, call, places, port, *wanted, steps);
+    let given = take_links(means.alloc, means.call, places, port, wanted)?;
+    let ended = take_turns(means, cx, places, port, *wanted, steps);
     Ok(is_quiet(given, ended))
 }
 
@@ -244,10 +240,8 @@ fn is_free<B: Pins + Drop, K: Drop>(place: &Place<B, K>) -> bool
 
 /// Goes round until the sessions are over, or the port fails.
 pub(crate) fn go_on<R: Threads + Wait + Sync, B: Commits<R> + Drop, P: Port, L: Ledger>(
-    rt: &R,
-    alloc: Global,
+    means: &Means<'_, R, P, B>,
     cx: &mut Context<'_>,
-    call: &Call<P, B>,
     places: &mut [Place<B, P::K>],
     port: &mut P,
     wanted: &mut u32,
@@ -256,17 +250,17 @@ pub(crate) fn go_on<R: Threads + Wait + Sync, B: Commits<R> + Drop, P: Port, L: 
 where
     P::K: Drop,
     requires under_way { IsUnderWay (outside P.Port P.K.Link B.Pins)
-        call.now 0 wanted.old port.old places.old }
+        means.now.call.now 0 wanted.old port.old places.old }
     ensures goes { GoesRound (outside P.Port P.K.Link B.Pins)
-        call.now wanted.new port.old port.new places.old places.new }
+        means.now.call.now wanted.new port.old port.new places.old places.new }
     ensures over { OnOk result (AreOver wanted.new places.new) }
     ensures failed { OnErr result (HasRisen (P.faults port.old) (P.faults port.new)) }
     ensures settled { SettlesOn (outside P.Port P.K.Link B.Pins)
-        call.now.port.value port.old port.new }
+        means.now.call.now.port.value port.old port.new }
     ensures kept { Keeps cx.old cx.new }
 {
-    for _ in rt.forever() {
-        let is_quiet = go_round(rt, alloc, cx, call, places, port, wanted, steps)?;
+    for _ in means.rt.forever() {
+        let is_quiet = go_round(means, cx, places, port, wanted, steps)?;
         if are_over(places, *wanted) {
             return Ok(());
         }

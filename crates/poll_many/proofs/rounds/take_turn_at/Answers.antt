@@ -15,13 +15,13 @@ take_turn-requires-clause-standing g c _ _ =
 pub take_turn-requires-clause-out : goal.take_turn-requires-clause-out
 take_turn-requires-clause-out g c _ _ =
     busy_out (outside g.P.Port g.P.K.Link g.B.Pins)
-    c.args.call.now 0 c.args.wanted c.args.port.now c.args.places.now c.args.n (slice_index_or c.args.places.now c.args.n c.index-places-n.result)
+    c.args.means.now.call.now 0 c.args.wanted c.args.port.now c.args.places.now c.args.n (slice_index_or c.args.places.now c.args.n c.index-places-n.result)
     (slice_get-get_or c.args.places.now c.args.n c.index-places-n.result c.requires.inside) c.requires.under_way
 
 pub returns-clause-goes : goal.returns-clause-goes
 returns-clause-goes g c = record {
   under_way = turned (outside g.P.Port g.P.K.Link g.B.Pins)
-      c.args.call.now c.args.wanted c.args.port.now c.take_turn.new.port c.args.places.now c.args.n
+      c.args.means.now.call.now c.args.wanted c.args.port.now c.take_turn.new.port c.args.places.now c.args.n
       (slice_index_or c.args.places.now c.args.n c.index-places-n.result) c.take_turn.new.place c.take_turn.result
       (slice_get-get_or c.args.places.now c.args.n c.index-places-n.result c.requires.inside) c.take_turn.ensures.count c.take_turn.ensures.takes c.requires.under_way;
   len = length-set c.args.places.now c.args.n c.take_turn.new.place;

@@ -7,7 +7,7 @@ use Rattle.poll_many.proofs.rounds.take_turns.Given as goal
 
 abbrev pub invariant-loop-n : goal.invariant-loop-n
 invariant-loop-n g l = record {
-  under_way : IsUnderWay (outside g.P.Port g.P.K.Link g.B.Pins) l.call 0 l.wanted l.port l.places;
+  under_way : IsUnderWay (outside g.P.Port g.P.K.Link g.B.Pins) l.means.call.now 0 l.wanted l.port l.places;
   len : length l.places ≡ length l.fn.places;
   count : g.P.Port.faults l.fn.port ≤ g.P.Port.faults l.port;
   unsettled : g.P.Port.settles l.port ≡ g.P.Port.settles l.fn.port;
