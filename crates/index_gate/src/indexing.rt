@@ -56,36 +56,38 @@ pub fn index_all<R: Threads + Sync, G: Gate + Sync, L: Ledger>(
     ensures fewer { (total : ℕ) → AreDocWeights (missing (docs_of store.old) docs.now) total
         → steps.new ≤ steps.old + total }
 {
-    let ahead = Ahead::of(rt, alloc, docs, store, gate)?;
+    let jobs = Ahead::of(rt, alloc, docs, store, gate)?;
+    let means = Means {
+        alloc,
+        jobs: &jobs,
+        gate,
+    };
     let mut fresh = PathStore::new(alloc);
     let mut files = Vec::new(alloc);
     for doc in docs {
-        let paths = paths_for(
-            alloc,
-            doc,
-            files.len(),
-            store,
-            &ahead,
-            &mut fresh,
-            gate,
-            steps,
-        )?;
+        let paths = paths_for(&means, doc, files.len(), store, &mut fresh, steps)?;
         files.push(paths)?;
     }
     store.append(alloc, fresh)?;
     Ok(files)
 }
 
+/// What each document is worked on with: the allocator, the work that is done ahead, and the gate.
+#[derive(Drop)]
+struct Means<'a, 'd, G> {
+    alloc: Global,
+    jobs: &'a Ahead<'d>,
+    gate: &'a G,
+}
+
 /// The paths of the document at that place: those that a store keeps, else the ones that are found now and kept
 /// among the fresh ones.
 fn paths_for<G: Gate, L: Ledger>(
-    alloc: Global,
+    means: &Means<'_, '_, G>,
     doc: &Document,
     place: usize,
     store: &PathStore,
-    ahead: &Ahead,
     fresh: &mut PathStore,
-    gate: &G,
     steps: &mut Steps<L>,
 ) -> Result<SharedPaths, IndexFault>
     requires store { AreIndexed store.now }
@@ -98,41 +100,21 @@ fn paths_for<G: Gate, L: Ledger>(
         → steps.new ≡ steps.old }
     ensures fewer { (weight : ℕ) → IsDocWeight doc.now weight → steps.new ≤ steps.old + weight }
 {
-    match ahead.find(place, doc) {
-        Some(worked) => paths_by(
-            alloc,
-            worked.doc(),
-            worked.done(),
-            ahead,
-            store,
-            fresh,
-            gate,
-            steps,
-        ),
-        None => paths_by(
-            alloc,
-            &Digested::of(doc),
-            None,
-            ahead,
-            store,
-            fresh,
-            gate,
-            steps,
-        ),
+    match means.jobs.find(place, doc) {
+        Some(worked) => paths_by(means, worked.doc(), worked.done(), store, fresh, steps),
+        None => paths_by(means, &Digested::of(doc), None, store, fresh, steps),
     }
 }
 
 /// The paths of the document, on which the work came to this where it was done ahead; else it is the next job behind
-/// those of `jobs`.
+/// those of `means.jobs`.
 #[tactic(auto, using(crate::proofs::Adding::held_adds, crate::proofs::Adding::fresh_adds, crate::proofs::Adding::new_adds, crate::proofs::Adding::not_held, crate::proofs::Adding::weight_none))]
 fn paths_by<G: Gate, L: Ledger>(
-    alloc: Global,
+    means: &Means<'_, '_, G>,
     doc: &Digested,
     ahead: Option<&Done>,
-    jobs: &Ahead,
     store: &PathStore,
     fresh: &mut PathStore,
-    gate: &G,
     steps: &mut Steps<L>,
 ) -> Result<SharedPaths, IndexFault>
     requires ahead { IfSome ahead (λ done. IsDone doc.now done.now) }
@@ -152,8 +134,8 @@ fn paths_by<G: Gate, L: Ledger>(
     if let Some(paths) = find_shared(fresh, doc)? {
         return Ok(paths);
     }
-    let paths = index_new(alloc, doc.doc(), ahead, jobs, gate, steps)?;
-    fresh.keep(alloc, doc, paths.share()?)?;
+    let paths = index_new(means, doc.doc(), ahead, steps)?;
+    fresh.keep(means.alloc, doc, paths.share()?)?;
     Ok(paths)
 }
 
@@ -172,11 +154,9 @@ fn find_shared(store: &PathStore, doc: &Digested) -> Result<Option<SharedPaths>,
 /// The paths of a document that no store keeps: those of the work ahead, or, where it was left out there, of the work
 /// that is done now, as the next job.
 fn index_new<G: Gate, L: Ledger>(
-    alloc: Global,
+    means: &Means<'_, '_, G>,
     doc: &Document,
     ahead: Option<&Done>,
-    jobs: &Ahead,
-    gate: &G,
     steps: &mut Steps<L>,
 ) -> Result<SharedPaths, IndexFault>
     requires { IfSome ahead (λ done. IsDone doc.now done.now) }
@@ -185,6 +165,7 @@ fn index_new<G: Gate, L: Ledger>(
     ensures fault { IfErr result (Refuses doc.now) }
     ensures fewer { (weight : ℕ) → IsDocWeight doc.now weight → steps.new ≤ steps.old + weight }
 {
+    let Means { alloc, jobs, gate } = *means;
     match ahead {
         Some(done) => take_up(alloc, doc, done, steps),
         None => take_up(alloc, doc, &work(alloc, doc, jobs.next_job(), gate), steps),
