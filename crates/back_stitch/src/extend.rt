@@ -62,7 +62,8 @@ fn try_path<P: BackSource>(
         → IsBehind (P.files source.now) d paths at (option_copied behind.entry)
         → may_end_at (graphs_of (P.files source.now)) at (moved file path.now) ≡ true
         → HasExtended (P.files source.now) d paths
-        ((file, path.now) ∷ []) tally.old.count tally.new.count tally.old.rows.items tally.new.rows.items work.old.items work.new.items) }
+        ((file, path.now) ∷ []) tally.old.count tally.new.count
+        tally.old.rows.items tally.new.rows.items work.old.items work.new.items) }
     ensures few { OnOk result (tally.new.count ≤ most_lists) }
     ensures full { result ≡ Err BackFault.Many → tally.old.count ≡ most_lists }
     ensures back { result ≡ Err BackFault.Many → (d : NodeAt) (paths : List (ℕ × Rule)) (at : Spot)
@@ -103,7 +104,8 @@ pub fn extend<P: BackSource>(
     requires open { IfSome (option_copied behind) IsOpen }
     requires few { tally.old.count ≤ most_lists }
     ensures tried { OnOk result (HasTried (P.files source.now) spot
-        (option_copied behind.entry) tally.old.count tally.new.count tally.old.rows.items tally.new.rows.items work.old.items work.new.items) }
+        (option_copied behind.entry) tally.old.count tally.new.count
+        tally.old.rows.items tally.new.rows.items work.old.items work.new.items) }
     ensures few { OnOk result (tally.new.count ≤ most_lists) }
     ensures many { result ≡ Err BackFault.Many
         → IsTriedPast (P.files source.now) spot (option_copied behind.entry) tally.old.count }

@@ -104,7 +104,8 @@ fn go_on<P: BackSource>(
     requires few { tally.old.count ≤ most_lists }
     ensures gone { OnOk result
         (HasGoneOn
-        (P.files source.now) path.now tally.old.count tally.new.count tally.old.rows.items tally.new.rows.items work.old.items work.new.items) }
+        (P.files source.now) path.now tally.old.count tally.new.count
+        tally.old.rows.items tally.new.rows.items work.old.items work.new.items) }
     ensures few { OnOk result (tally.new.count ≤ most_lists) }
     ensures many { result ≡ Err BackFault.Many
         → IsGonePast (P.files source.now) path.now tally.old.count }

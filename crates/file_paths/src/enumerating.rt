@@ -121,7 +121,8 @@ fn follow(
     requires begun { AllByRecursion (IsShort (MAX_WEIGHT + 1)) found.old.begun.items }
     requires light { found.old.weight ≤ MAX_WEIGHT }
     ensures finding { OnOk result
-        (IsFinding graph.now found.new.paths.items found.new.begun.items found.new.weight steps.new) }
+        (IsFinding graph.now found.new.paths.items found.new.begun.items
+        found.new.weight steps.new) }
     ensures begun { OnOk result (AllByRecursion (IsShort (MAX_WEIGHT + 1)) found.new.begun.items) }
     ensures light { OnOk result (found.new.weight ≤ MAX_WEIGHT) }
     ensures heavier { OnOk result (found.old.weight < found.new.weight) }

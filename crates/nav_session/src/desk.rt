@@ -167,7 +167,8 @@ impl Desk {
     /// memory.
     pub(crate) fn sweep_after(&mut self, reply: &Reply)
         ensures { self.new ≡ record self.old {
-          store = if is_accepted reply.now then swept self.old.keeps self.old.store else self.old.store;
+          store = if is_accepted reply.now then swept self.old.keeps self.old.store
+              else self.old.store;
         } }
     {
         if let Reply::Version(_) = reply {

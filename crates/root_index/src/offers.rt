@@ -25,7 +25,8 @@ pub struct RootOffers {
 }
 
 /// The path that comes next, whoever may see it, and where the look-up stands after it, which is right behind its place;
-/// None where there is no more. The paths are in order: one that isn't offered tells by how it stands to the stack's symbols which may come next.
+/// None where there is no more. The paths are in order: one that isn't offered tells by how it stands to the stack's
+/// symbols which may come next.
 pub(crate) fn next_slot<'a>(
     slots: &'a GroupList,
     symbols: &LentStack<'_>,

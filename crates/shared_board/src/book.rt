@@ -71,7 +71,10 @@ pub trait Naming {
 }
 
 impl Naming for Brand {
-    ghost board = { record { book = record { number = 0; log_name = 0; cells_name = 0 }; seats = 0 } };
+    ghost board = { record {
+      book = record { number = 0; log_name = 0; cells_name = 0 };
+      seats = 0;
+    } };
 }
 
 /// A board with an empty log, which has no name yet. Contracts see which board it is.

@@ -55,7 +55,10 @@ fn fitting(base: Option<u32>, head: u32) -> Result<(), CommitFault>
 fn amended(alloc: Global, head: &Version, edits: &[Edit]) -> Result<Version, CommitFault>
     ensures fit { IfOk result (λ _. edit_fault head.now.number head.now.content edits.now ≡ None) }
     ensures version { IfOk result (λ version. version
-        ≡ record { number = head.now.number + 1; content = edited_all edits.now head.now.content }) }
+        ≡ record {
+          number = head.now.number + 1;
+          content = edited_all edits.now head.now.content;
+        }) }
     ensures refused { (e : Faults) → result ≡ Err (why.Edit e)
         → (edit_fault head.now.number head.now.content edits.now ≡ Some e) × (e ≢ faults.NoMemory) }
     ensures stale { (n : ℕ) → result ≢ Err (why.Stale n) }

@@ -15,14 +15,16 @@ pub trait Shows<O> {
     /// with the next one.
     fn show(&mut self, value: O) -> Result<(), AllocError>
         ensures ok { OnOk result (shows self.new value) }
-        ensures stays { OnErr result ((before : O) → shows self.old before → shows self.new before) };
+        ensures stays { OnErr result ((before : O)
+            → shows self.old before → shows self.new before) };
 }
 
 impl<T: Absorb<O> + Drop, O: Drop, R: Wait + Drop> Shows<O> for WriteHandle<T, O, R> {
     ghost use Rattle.std.specs.Prelude.{◌≡◌};
     ghost use Rattle.left_right.specs.Handles.{published};
 
-    ghost shows = { λ w value. (before : T.State) × (T.state (published w) ≡ T.applied before value) };
+    ghost shows = { λ w value. (before : T.State)
+        × (T.state (published w) ≡ T.applied before value) };
 
     fn show(&mut self, value: O) -> Result<(), AllocError>
         ensures ok { OnOk result ((before : T.State)
