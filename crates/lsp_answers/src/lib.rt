@@ -9,6 +9,7 @@ mod querying;
 mod referring;
 
 pub use laws::places_have_one_outcome;
+pub use outcomes::Project;
 pub use paths::path_under;
 pub use querying::{Place, place_of, tell_definitions};
-pub use referring::tell_references;
+pub use referring::{ReferencesOf, tell_references};

@@ -10,32 +10,41 @@ use nav_answers::AskFault;
 use std::alloc::{AllocError, Global};
 use version_tree::Row;
 
+/// What an editor has: the root of its project, and the texts that are open there.
+#[derive(Drop)]
+pub struct Project<'a> {
+    pub root: &'a [u8],
+    pub texts: &'a OpenTexts,
+}
+
 /// The rows as parts of documents. The one error is want of memory. Its time follows the number of rows.
 pub(crate) fn located(
     alloc: Global,
-    root: &[u8],
-    texts: &OpenTexts,
+    project: &Project<'_>,
     rows: &[Row],
 ) -> Result<Outcome, AllocError>
-    ensures { IfOk result (λ outcome. outcome ≡ located root.now (texts_in texts.now) rows.now) }
+    ensures { IfOk result (λ outcome. outcome
+        ≡ located project.now.root.now (texts_in project.now.texts.now) rows.now) }
 {
     let mut found = Vec::with_capacity(alloc, rows.len())?;
     for row in rows {
-        found.push(location_of(alloc, root, texts, row)?)?;
+        found.push(location_of(alloc, project, row)?)?;
     }
     Ok(Outcome::Locations(Locations::of(found)))
 }
 
 #[tactic(auto, unfolding(crate::specs::Queries::location_of))]
-fn location_of(
-    alloc: Global,
-    root: &[u8],
-    texts: &OpenTexts,
-    row: &Row,
-) -> Result<Location, AllocError>
-    ensures { IfOk result (λ l. l ≡ location_of root.now (texts_in texts.now) row.now) }
+fn location_of(alloc: Global, project: &Project<'_>, row: &Row) -> Result<Location, AllocError>
+    ensures { IfOk result (λ l. l
+        ≡ location_of project.now.root.now (texts_in project.now.texts.now) row.now) }
 {
-    location(alloc, root, texts, row.path.as_str(), row.span)
+    location(
+        alloc,
+        project.root,
+        project.texts,
+        row.path.as_str(),
+        row.span,
+    )
 }
 
 /// What an editor is told where there are no rows; the one error is want of memory.

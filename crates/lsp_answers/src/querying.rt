@@ -9,9 +9,8 @@ ghost use Rattle.version_tree.specs.Graphs.{graph_rows};
 ghost use Rattle.lsp_answers.specs.Placing.{IsPlace};
 ghost use Rattle.lsp_answers.specs.Queries.{AreDefinitions, TellsDefinitions, usual};
 
-use crate::outcomes::{located, outcome_of_fault};
+use crate::outcomes::{Project, located, outcome_of_fault};
 use crate::paths::path_under;
-use lsp_texts::OpenTexts;
 use lsp_wire::{Outcome, Position};
 use nav_answers::{AskFault, At, define};
 use partial_path::Bounds;
@@ -40,17 +39,17 @@ impl Place {
 /// line. The one error is want of memory.
 pub fn place_of(
     alloc: Global,
-    root: &[u8],
-    texts: &OpenTexts,
+    project: &Project<'_>,
     uri: &str,
     position: Position,
 ) -> Result<Option<Place>, AllocError>
-    ensures { IfOk result (λ place. IsPlace root.now (texts_in texts.now) uri.now position place) }
+    ensures { IfOk result (λ place. IsPlace project.now.root.now
+        (texts_in project.now.texts.now) uri.now position place) }
 {
-    let Some(path) = path_under(alloc, root, uri)? else {
+    let Some(path) = path_under(alloc, project.root, uri)? else {
         return Ok(None);
     };
-    let Some(text) = texts.at(path.as_str()) else {
+    let Some(text) = project.texts.at(path.as_str()) else {
         return Ok(None);
     };
     let line = position.line;
@@ -106,16 +105,16 @@ pub fn tell_definitions(
     alloc: Global,
     view: &View,
     index: &RootIndex,
-    root: &[u8],
-    texts: &OpenTexts,
+    project: &Project<'_>,
     place: &Place,
 ) -> Result<Outcome, AllocError>
     requires index { IsIndexOfView index.now view.now }
-    ensures { IfOk result (TellsDefinitions (graph_rows view.now) root.now (texts_in texts.now)
+    ensures { IfOk result (TellsDefinitions (graph_rows view.now) project.now.root.now
+        (texts_in project.now.texts.now)
         place.now.path (at.Point place.now.line place.now.column)) }
 {
     match definitions(alloc, view, index, place) {
-        Ok(rows) => located(alloc, root, texts, rows.items()),
+        Ok(rows) => located(alloc, project, rows.items()),
         Err(fault) => outcome_of_fault(fault),
     }
 }

@@ -14,10 +14,9 @@ ghost use Rattle.root_index.specs.Roots.{IsIndexOfView};
 ghost use Rattle.version_tree.specs.Graphs.{GraphRow, graph_rows};
 ghost use Rattle.lsp_answers.specs.Queries.{AreTargets, IsUnion, TellsReferences, TellsTargets, usual};
 
-use crate::outcomes::{located, outcome_of_fault};
+use crate::outcomes::{Project, located, outcome_of_fault};
 use crate::querying::{Place, definitions};
 use graph_nodes::Span;
-use lsp_texts::OpenTexts;
 use lsp_wire::Outcome;
 use nav_answers::{AskFault, AskedView, definition_at, references_of_any};
 use nav_io::Gate;
@@ -27,6 +26,14 @@ use row_sets::in_order;
 use std::alloc::{AllocError, Global};
 use std::thread::Threads;
 use version_tree::{PathText, Row, Rows, View};
+
+/// What references are asked for: those of what stands at the place, and with them the targets where the declaration is
+/// asked for.
+#[derive(Drop)]
+pub struct ReferencesOf<'a> {
+    pub place: &'a Place,
+    pub declaration: bool,
+}
 
 /// The row of the node in the file with the path; without a span where there is no such node.
 fn row_at(alloc: Global, view: &View, path: &str, node: u32) -> Result<Row, AllocError>
@@ -138,41 +145,40 @@ pub fn tell_references<R: Threads + Sync, G: Gate + Sync>(
     seen: &mut AskedView,
     index: &RootIndex,
     gate: &G,
-    root: &[u8],
-    texts: &OpenTexts,
-    place: &Place,
-    declaration: bool,
+    project: &Project<'_>,
+    asked: &ReferencesOf<'_>,
 ) -> Result<Outcome, AllocError>
     requires index { IsIndexOfView index.now seen.old }
     ensures told { IfOk result
-        (TellsReferences (graph_rows seen.old) root.now (texts_in texts.now) declaration
-        place.now.path (at.Point place.now.line place.now.column)) }
+        (TellsReferences (graph_rows seen.old) project.now.root.now
+        (texts_in project.now.texts.now) asked.now.declaration asked.now.place.now.path
+        (at.Point asked.now.place.now.line asked.now.place.now.column)) }
     ensures same { seen.new ≡ seen.old }
 {
-    match targets(alloc, seen.view(), index, place) {
+    match targets(alloc, seen.view(), index, asked.place) {
         Ok(targets) => {
-            let asked = refer_to_all(rt, alloc, seen, index, gate, targets.items());
-            tell_asked(alloc, root, texts, targets, asked, declaration)
+            let found = refer_to_all(rt, alloc, seen, index, gate, targets.items());
+            tell_found(alloc, project, targets, found, asked.declaration)
         }
         Err(fault) => outcome_of_fault(fault),
     }
 }
 
 /// The references of the targets as an editor is told of them, or why there are none. The one error is want of memory.
-fn tell_asked(
+fn tell_found(
     alloc: Global,
-    root: &[u8],
-    texts: &OpenTexts,
+    project: &Project<'_>,
     targets: Rows,
-    asked: Result<Rows, AskFault>,
+    found: Result<Rows, AskFault>,
     declaration: bool,
 ) -> Result<Outcome, AllocError>
     ensures { (files : List GraphRow)
-        → (asked ≢ Err ask.NoMemory → IsReferencesOfAnyReply usual files targets asked)
-        → IfOk result (TellsTargets files root.now (texts_in texts.now) targets declaration) }
+        → (found ≢ Err ask.NoMemory → IsReferencesOfAnyReply usual files targets found)
+        → IfOk result (TellsTargets files project.now.root.now
+        (texts_in project.now.texts.now) targets declaration) }
 {
-    match asked {
-        Ok(rows) => tell_all(alloc, root, texts, targets, rows, declaration),
+    match found {
+        Ok(rows) => tell_all(alloc, project, targets, rows, declaration),
         Err(fault) => outcome_of_fault(fault),
     }
 }
@@ -181,18 +187,18 @@ fn tell_asked(
 /// once in file order. The one error is want of memory.
 fn tell_all(
     alloc: Global,
-    root: &[u8],
-    texts: &OpenTexts,
+    project: &Project<'_>,
     targets: Rows,
     found: Rows,
     declaration: bool,
 ) -> Result<Outcome, AllocError>
     ensures { (files : List GraphRow) → ReferToAny usual files targets found
         → IfOk result
-        (λ outcome. IsUnion files root.now (texts_in texts.now) targets declaration outcome) }
+        (λ outcome. IsUnion files project.now.root.now
+        (texts_in project.now.texts.now) targets declaration outcome) }
 {
     let rows = in_order(with_targets(found, targets, declaration)?);
-    located(alloc, root, texts, &rows)
+    located(alloc, project, &rows)
 }
 
 /// The references, and behind them the targets where the declaration is asked for. A target may be a reference too, so the

@@ -7,6 +7,7 @@ ghost use Rattle.nav_lsp.specs.declared.phase.Phase.TheVariants as phase;
 ghost use Rattle.nav_lsp.specs.Editing.{operator};
 
 use crate::phase::Phase;
+use lsp_answers::Project;
 use lsp_texts::OpenTexts;
 use nav_answers::AskedView;
 use nav_session::Desk;
@@ -34,7 +35,12 @@ impl Editor {
         ensures phase { result.phase ≡ phase.Before }
         ensures root { result.root.items ≡ [] }
         ensures texts { AreSame no_texts (texts_in result.texts) }
-        ensures desk { result.desk ≡ record { store = []; user = None; view = None; keeps = max_cost } }
+        ensures desk { result.desk ≡ record {
+          store = [];
+          user = None;
+          view = None;
+          keeps = max_cost;
+        } }
         ensures view { result.view ≡ None }
     {
         Editor {
@@ -43,6 +49,17 @@ impl Editor {
             texts: OpenTexts::new(alloc),
             desk: Desk::new(alloc),
             view: None,
+        }
+    }
+
+    /// The project as queries are told of it.
+    pub(crate) fn project(&self) -> Project<'_>
+        ensures root { result.root.now ≡ self.now.root.items }
+        ensures texts { result.texts.now ≡ self.now.texts }
+    {
+        Project {
+            root: self.root.as_slice(),
+            texts: &self.texts,
         }
     }
 

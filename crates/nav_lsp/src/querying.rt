@@ -7,7 +7,7 @@ ghost use Rattle.nav_lsp.specs.Held.{HoldsAll, IsReady};
 
 use crate::editor::Editor;
 use crate::means::Means;
-use lsp_answers::{place_of, tell_definitions, tell_references};
+use lsp_answers::{ReferencesOf, place_of, tell_definitions, tell_references};
 use lsp_wire::{Outcome, Position};
 use nav_io::Gate;
 use std::alloc::{AllocError, Global};
@@ -32,18 +32,11 @@ pub(crate) fn definition<B: Pins>(
     ensures ready { IfOk result (λ _. IsReady editor.new (B.log board.now) (B.pin_at board.now)) }
 {
     let pinned = board.pinned();
-    let Some(place) = place_of(alloc, &editor.root, &editor.texts, uri, at)? else {
+    let Some(place) = place_of(alloc, &editor.project(), uri, at)? else {
         return Ok(Outcome::Null);
     };
     let view = editor.take_view(alloc, &pinned.version)?;
-    let outcome = tell_definitions(
-        alloc,
-        view.view(),
-        &pinned.index,
-        &editor.root,
-        &editor.texts,
-        &place,
-    )?;
+    let outcome = tell_definitions(alloc, view.view(), &pinned.index, &editor.project(), &place)?;
     editor.keep_view(view);
     Ok(outcome)
 }
@@ -68,21 +61,22 @@ pub(crate) fn reference<R: Threads + Sync, B: Pins, G: Gate + Sync>(
 {
     let Means { rt, alloc, gate } = *means;
     let pinned = board.pinned();
-    let Some(place) = place_of(alloc, &editor.root, &editor.texts, uri, at)? else {
+    let Some(place) = place_of(alloc, &editor.project(), uri, at)? else {
         return Ok(Outcome::Null);
     };
     let mut view = editor.take_view(alloc, &pinned.version)?;
-    let (root, texts) = (&editor.root, &editor.texts);
+    let asked = ReferencesOf {
+        place: &place,
+        declaration,
+    };
     let outcome = tell_references(
         rt,
         alloc,
         &mut view,
         &pinned.index,
         gate,
-        root,
-        texts,
-        &place,
-        declaration,
+        &editor.project(),
+        &asked,
     )?;
     editor.keep_view(view);
     Ok(outcome)

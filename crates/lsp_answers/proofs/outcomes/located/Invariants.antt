@@ -5,4 +5,4 @@ use Rattle.lsp_answers.proofs.outcomes.located.Given as goal
 
 -- the rows so far
 abbrev pub invariant-loop-row : goal.invariant-loop-row
-invariant-loop-row l = l.found.items ≡ map (location_of l.root (texts_in l.texts)) (take l.row-index l.rows)
+invariant-loop-row l = l.found.items ≡ map (location_of l.project.root.now (texts_in l.project.texts.now)) (take l.row-index l.rows)
