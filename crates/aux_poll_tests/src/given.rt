@@ -6,7 +6,7 @@ use futures::test::MockTask;
 use graph_nodes::Steps;
 use nav_io::{MemSink, MemSource, Unguarded};
 use nav_poll::{MemLink, NotStarted, Polled};
-use nav_session::{Desk, serve_session};
+use nav_session::{Desk, Means, serve_session};
 use std::alloc::{AllocError, AllocGlobal, Global};
 use std::marker::Brand;
 use std::random::RandomSource;
@@ -103,9 +103,12 @@ fn serves_on<R: Threads + Sync, L: Ledger>(
     let mut board = PlainBoard::new(alloc)?;
     let mut desk = Desk::new(alloc);
     let mut steps = Steps::<L>::new(blank);
-    let status = serve_session(
-        rt, alloc, &mut desk, &mut board, &Unguarded, source, sink, &mut steps,
-    );
+    let means = Means {
+        rt,
+        alloc,
+        gate: &Unguarded,
+    };
+    let status = serve_session(&means, &mut desk, &mut board, source, sink, &mut steps);
     let_go(desk, board);
     Ok(status)
 }

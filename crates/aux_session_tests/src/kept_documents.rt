@@ -4,7 +4,7 @@ ghost use Rattle.nav_session.specs.Desks.{HasItsView};
 
 use graph_nodes::Steps;
 use nav_io::Gate;
-use nav_session::{Desk, answer_line};
+use nav_session::{Desk, Means, answer_line};
 use std::alloc::Global;
 use std::marker::Brand;
 use std::sync::atomic::{AtomicU64, Ordering};
@@ -42,7 +42,12 @@ fn jobs_of<R: Threads + Sync, B: Commits<R>, L: Ledger>(
     let gate = Counting {
         jobs: AtomicU64::new(0),
     };
-    answer_line(rt, alloc, desk, board, &gate, line.as_bytes(), steps)?;
+    let means = Means {
+        rt,
+        alloc,
+        gate: &gate,
+    };
+    answer_line(&means, desk, board, line.as_bytes(), steps)?;
     Ok(gate.jobs.load(Ordering::SeqCst))
 }
 

@@ -11,7 +11,7 @@ use crate::tree::Tree;
 use graph_nodes::Steps;
 use nav_io::Unguarded;
 use nav_proto::{Bounds, Point, Request};
-use nav_session::{Desk, reply_to};
+use nav_session::{Desk, Means, reply_to};
 use std::alloc::{AllocError, Global};
 use std::sync::ledger::Ledger;
 use std::thread::Threads;
@@ -61,10 +61,15 @@ pub(crate) fn commit_all<R: Threads + Sync, B: Commits<R>, L: Ledger>(
         (moment (B.seat board.new) (B.log board.new) (B.pin_at board.new) desk.new)) }
 {
     let mut tree = Tree::new(files, start);
-    reply_to(rt, alloc, desk, board, &Unguarded, hello(alloc)?, steps)?;
+    let means = Means {
+        rt,
+        alloc,
+        gate: &Unguarded,
+    };
+    reply_to(&means, desk, board, hello(alloc)?, steps)?;
     for _ in 0..tree.commit_count() {
         let request = tree.commit(alloc)?;
-        reply_to(rt, alloc, desk, board, &Unguarded, request, steps)?;
+        reply_to(&means, desk, board, request, steps)?;
     }
     Ok(())
 }
@@ -87,10 +92,15 @@ pub(crate) fn query_all<R: Threads + Sync, B: Commits<R>, L: Ledger>(
         (moment (B.seat board.old) (B.log board.old) (B.pin_at board.old) desk.old)
         (moment (B.seat board.new) (B.log board.new) (B.pin_at board.new) desk.new) totals) }
 {
+    let means = Means {
+        rt,
+        alloc,
+        gate: &Unguarded,
+    };
     let mut totals = Totals::nothing();
     for k in 0..files {
         let request = query(alloc, k)?;
-        let reply = reply_to(rt, alloc, desk, board, &Unguarded, request, steps)?;
+        let reply = reply_to(&means, desk, board, request, steps)?;
         totals = totals.with(alloc, files, k, &reply)?;
     }
     Ok(totals)

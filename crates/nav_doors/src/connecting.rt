@@ -6,8 +6,7 @@ ghost use Rattle.nav_doors.specs.Inside.{ServesNext, FailsNext};
 
 use graph_nodes::Steps;
 use nav_io::{Door, Failed, Gate};
-use nav_session::{Desk, serve_session};
-use std::alloc::Global;
+use nav_session::{Desk, Means, serve_session};
 use std::sync::ledger::Ledger;
 use std::thread::Threads;
 use version_board::Commits;
@@ -16,12 +15,10 @@ use version_board::Commits;
 /// pair goes back however the session ended, since that closes the connection. `Failed` where the door
 /// failed in place of a connection.
 pub(crate) fn serve_next<R: Threads + Sync, B: Commits<R>, D: Door, G: Gate + Sync, L: Ledger>(
-    rt: &R,
-    alloc: Global,
+    means: &Means<'_, R, G>,
     desk: &mut Desk,
     door: &mut D,
     seat: &mut B,
-    gate: &G,
     steps: &mut Steps<L>,
 ) -> Result<u8, Failed>
     ensures served { IfOk result (λ status. ServesNext
@@ -36,7 +33,7 @@ pub(crate) fn serve_next<R: Threads + Sync, B: Commits<R>, D: Door, G: Gate + Sy
     ensures seat { B.seat seat.new ≡ B.seat seat.old }
 {
     let (mut source, mut sink) = door.accept()?;
-    let status = serve_session(rt, alloc, desk, seat, gate, &mut source, &mut sink, steps);
+    let status = serve_session(means, desk, seat, &mut source, &mut sink, steps);
     door.done(source, sink);
     Ok(status)
 }

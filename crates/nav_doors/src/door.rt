@@ -6,8 +6,7 @@ ghost use Rattle.nav_doors.specs.Connections.{outside, ServesDoor};
 use crate::connecting::serve_next;
 use graph_nodes::Steps;
 use nav_io::{Door, Failed, Gate};
-use nav_session::Desk;
-use std::alloc::Global;
+use nav_session::{Desk, Means};
 use std::sync::ledger::Ledger;
 use std::thread::Threads;
 use version_board::Commits;
@@ -28,12 +27,10 @@ pub const ACCEPT_FAILED: u8 = 8;
 /// - 5: a session ended for want of memory; no further connection is asked for.
 /// - 8: the door failed where it was asked for a connection; its count rose.
 pub fn serve_door<R: Threads + Sync, B: Commits<R>, D: Door, G: Gate + Sync, L: Ledger>(
-    rt: &R,
-    alloc: Global,
+    means: &Means<'_, R, G>,
     desk: &mut Desk,
     door: &mut D,
     seat: &mut B,
-    gate: &G,
     connections: u32,
     steps: &mut Steps<L>,
 ) -> u8
@@ -45,7 +42,7 @@ pub fn serve_door<R: Threads + Sync, B: Commits<R>, D: Door, G: Gate + Sync, L: 
     ensures seat { B.seat seat.new ≡ B.seat seat.old }
 {
     for _ in 0..connections {
-        match serve_next(rt, alloc, desk, door, seat, gate, steps) {
+        match serve_next(means, desk, door, seat, steps) {
             Ok(NO_MEMORY) => return NO_MEMORY,
             Ok(_) => {}
             Err(Failed) => return ACCEPT_FAILED,

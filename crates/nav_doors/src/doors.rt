@@ -12,7 +12,7 @@ use crate::place::Place;
 use crate::placing::{places_of, take_apart};
 use graph_nodes::Steps;
 use nav_io::{Door, Unguarded};
-use nav_session::Desk;
+use nav_session::{Desk, Means};
 use shared_board::{Naming, Seat, tie};
 use std::alloc::{AllocError, Global};
 use std::marker::Brand;
@@ -69,16 +69,12 @@ fn serve_counted<R: Threads + Sync, B: Commits<R>, D: Door, L: Ledger>(
 {
     let mut steps = Steps::<L>::new(blank);
     let mut desk = Desk::sharing(alloc, doors);
-    serve_door(
+    let means = Means {
         rt,
         alloc,
-        &mut desk,
-        door,
-        seat,
-        &Unguarded,
-        connections,
-        &mut steps,
-    )
+        gate: &Unguarded,
+    };
+    serve_door(&means, &mut desk, door, seat, connections, &mut steps)
 }
 
 /// Each door is served on a thread of its own where one can be made, and else by this one.
@@ -163,7 +159,7 @@ where
 
 /// Serves all doors, each for the seat that stands where it does, with so many connections each, and then brings the
 /// seats together. The seats are all seats of a board, in the order of their names. The desks of all doors together keep
-/// at most as much as the desk of one session that shares with none.
+/// at most half as much as the desk of one session that shares with none.
 ///
 /// Each door is served as `serve_door` does it, on a thread of its own where one can be made; where none can be made the
 /// doors are served one after the other. A fault of one door, or of a connection of it, leaves the others as they are.

@@ -8,13 +8,13 @@ ghost use Rattle.nav_lsp.specs.Replies.{IsCarriedOut, IsMessage, IsNoted, IsNoti
 
 use crate::committing::{change, close, put};
 use crate::editor::Editor;
-use crate::means::Means;
 use crate::phase::Phase;
 use crate::querying::{definition, reference};
 use crate::refusals::refusal_of;
 use graph_nodes::Steps;
 use lsp_wire::{Asks, Body, Id, Message, Outcome, Refusal, Reply, Text, root_of};
 use nav_io::Gate;
+use nav_session::Means;
 use std::alloc::{AllocError, Global};
 use std::sync::ledger::Ledger;
 use std::thread::Threads;
@@ -33,11 +33,9 @@ use version_board::{Commits, Pins};
 /// A change costs by the text that it brings. The first query after it looks at all files of the version once; an answer
 /// costs by its rows, each of which costs by the lengths of its path and of two lines.
 pub fn answer_message<R: Threads + Sync, B: Commits<R>, G: Gate + Sync, L: Ledger>(
-    rt: &R,
-    alloc: Global,
+    means: &Means<'_, R, G>,
     editor: &mut Editor,
     board: &mut B,
-    gate: &G,
     body: Body,
     steps: &mut Steps<L>,
 ) -> Result<Option<Reply>, AllocError>
@@ -55,10 +53,7 @@ pub fn answer_message<R: Threads + Sync, B: Commits<R>, G: Gate + Sync, L: Ledge
         Body::NotJson => Ok(Some(refused(None, Refusal::ParseError))),
         Body::Invalid => Ok(Some(refused(None, Refusal::InvalidRequest))),
         Body::Passed => Ok(None),
-        Body::Message(Message { id, asks }) => {
-            let means = Means { rt, alloc, gate };
-            answer_asked(&means, editor, board, id, asks, steps)
-        }
+        Body::Message(Message { id, asks }) => answer_asked(means, editor, board, id, asks, steps),
     }
 }
 

@@ -9,14 +9,13 @@ ghost use Rattle.nav_lsp.specs.Editing.{operator};
 ghost use Rattle.nav_lsp.specs.Replies.{IsChanged, IsClosed, IsPut};
 
 use crate::editor::Editor;
-use crate::means::Means;
 use graph_nodes::Steps;
 use lsp_answers::path_under;
 use lsp_texts::{OpenText, OpenTexts};
 use lsp_wire::Text;
 use nav_io::Gate;
 use nav_proto::{DocText, Edits, FileEdit, Reply, Request};
-use nav_session::{Desk, reply_to};
+use nav_session::{Desk, Means, reply_to};
 use std::alloc::AllocError;
 use std::sync::ledger::Ledger;
 use std::thread::Threads;
@@ -46,14 +45,13 @@ fn commit<R: Threads + Sync, B: Commits<R>, G: Gate + Sync, L: Ledger>(
     ensures none { OnErr result (own (B.seat board.old) (B.log board.new)
         ≡ own (B.seat board.old) (B.log board.old)) }
 {
-    let Means { rt, alloc, gate } = *means;
-    let mut edits = Vec::with_capacity(alloc, 1)?;
+    let mut edits = Vec::with_capacity(means.alloc, 1)?;
     edits.push(edit)?;
     let request = Request::Commit {
         base: None,
         edits: Edits::of(edits),
     };
-    let reply = reply_to(rt, alloc, desk, board, gate, request, steps)?;
+    let reply = reply_to(means, desk, board, request, steps)?;
     // The version holds the open documents, and an editor seldom changes one back: all else would only grow with use.
     desk.let_documents_go();
     Ok(is_accepted(&reply))

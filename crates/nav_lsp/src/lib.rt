@@ -6,7 +6,6 @@ mod answering;
 mod committing;
 mod editor;
 mod laws;
-mod means;
 mod phase;
 mod querying;
 mod refusals;

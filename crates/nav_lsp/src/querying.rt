@@ -6,10 +6,10 @@ ghost use Rattle.nav_lsp.specs.Editing.{files_of};
 ghost use Rattle.nav_lsp.specs.Held.{HoldsAll, IsReady};
 
 use crate::editor::Editor;
-use crate::means::Means;
 use lsp_answers::{ReferencesOf, place_of, tell_definitions, tell_references};
 use lsp_wire::{Outcome, Position};
 use nav_io::Gate;
+use nav_session::Means;
 use std::alloc::{AllocError, Global};
 use std::thread::Threads;
 use version_board::Pins;

@@ -10,15 +10,14 @@ ghost use Rattle.nav_lsp.specs.Turns.{BeginsToEdit, HasNoEntry, IsFresh, TakesTu
 
 use crate::answering::answer_message;
 use crate::editor::{Editor, OPERATOR};
-use crate::means::Means;
 use graph_nodes::Steps;
 use lsp_frames::FrameReader;
 use lsp_messages::{Halt, MAX_MESSAGES, More, ends_session, look_on, next_message, write_reply};
 use lsp_wire::Reply;
 use nav_io::{Gate, Sink, Source};
 use nav_proto::Request;
-use nav_session::reply_to;
-use std::alloc::{AllocError, Global};
+use nav_session::{Means, reply_to};
+use std::alloc::AllocError;
 use std::sync::ledger::Ledger;
 use std::thread::Threads;
 use version_board::Commits;
@@ -69,10 +68,8 @@ pub struct Step {
 /// - 7: 1,000,000 messages are answered, none of them an `exit`, and another byte stands behind them.
 /// - 9: a block of header lines isn't of the form or is too long, or the input ends within a message.
 pub fn serve_lsp<R: Threads + Sync, B: Commits<R>, S: Source, K: Sink, G: Gate + Sync, L: Ledger>(
-    rt: &R,
-    alloc: Global,
+    means: &Means<'_, R, G>,
     board: &mut B,
-    gate: &G,
     source: &mut S,
     sink: &mut K,
     steps: &mut Steps<L>,
@@ -93,9 +90,8 @@ pub fn serve_lsp<R: Threads + Sync, B: Commits<R>, S: Source, K: Sink, G: Gate +
     ensures source_count { S.faults source.old ≤ S.faults source.new }
     ensures sink_count { K.faults sink.old ≤ K.faults sink.new }
 {
-    let mut editor = Editor::new(alloc);
-    let means = Means { rt, alloc, gate };
-    match serve_messages(&means, &mut editor, board, source, sink, steps) {
+    let mut editor = Editor::new(means.alloc);
+    match serve_messages(means, &mut editor, board, source, sink, steps) {
         Ok(end) => end.status(&editor),
         Err(halt) => halt.status(),
     }
@@ -122,11 +118,10 @@ fn name_operator<R: Threads + Sync, B: Commits<R>, G: Gate + Sync, L: Ledger>(
         (λ _. BeginsToEdit (B.seat board.old) (B.log board.old) (B.log board.new)
         (B.pin_at board.new) editor.new) }
 {
-    let Means { rt, alloc, gate } = *means;
     let hello = Request::Hello {
-        user: UserText::of(alloc, OPERATOR)?,
+        user: UserText::of(means.alloc, OPERATOR)?,
     };
-    reply_to(rt, alloc, &mut editor.desk, board, gate, hello, steps)?;
+    reply_to(means, &mut editor.desk, board, hello, steps)?;
     Ok(())
 }
 
@@ -198,11 +193,10 @@ fn answer_next<R: Threads + Sync, B: Commits<R>, S: Source, G: Gate + Sync, L: L
     ensures cause { result ≡ Err halt.SourceFailed
         → HasRisen (S.faults source.old) (S.faults source.new) }
 {
-    let Means { rt, alloc, gate } = *means;
-    let Some(body) = next_message(alloc, reader, source)? else {
+    let Some(body) = next_message(means.alloc, reader, source)? else {
         return Ok(None);
     };
     let exit = ends_session(&body);
-    let reply = answer_message(rt, alloc, editor, board, gate, body, steps)?;
+    let reply = answer_message(means, editor, board, body, steps)?;
     Ok(Some(Step { reply, exit }))
 }

@@ -8,20 +8,10 @@ ghost use Rattle.nav_poll.specs.Turns.{TakesLine};
 
 use graph_nodes::Steps;
 use nav_io::{Gate, LineReader};
-use nav_session::{Desk, Halt, Step, answer_line};
-use std::alloc::Global;
+use nav_session::{Desk, Halt, Means, Step, answer_line};
 use std::sync::ledger::Ledger;
 use std::thread::Threads;
 use version_board::Commits;
-
-/// What a line is answered with: the handle by which a query starts threads, the allocator, and the gate that the threads
-/// share.
-#[derive(Drop)]
-pub struct Means<'a, R, G> {
-    pub(crate) rt: &'a R,
-    pub(crate) alloc: Global,
-    pub(crate) gate: &'a G,
-}
 
 // Answers the line in front of the reader, which has so many bytes there; none where it isn't whole.
 pub(crate) fn take_line<R: Threads + Sync, B: Commits<R>, G: Gate + Sync, L: Ledger>(
@@ -53,11 +43,10 @@ pub(crate) fn take_line<R: Threads + Sync, B: Commits<R>, G: Gate + Sync, L: Led
     ensures short { result ≡ Ok None → length reader.new.front ≤ line_max }
     ensures at_end { result ≡ Ok None → reader.new.ended ≡ true → reader.new.front ≡ [] }
 {
-    let Means { rt, alloc, gate } = *means;
     match reader.whole_line() {
         Ok(Some(line)) => {
             *in_front = in_front.saturating_sub(line.len() + 1);
-            Ok(Some(answer_line(rt, alloc, desk, board, gate, line, steps)?))
+            Ok(Some(answer_line(means, desk, board, line, steps)?))
         }
         Ok(None) => Ok(None),
         Err(_) => Err(Halt::LongLine),

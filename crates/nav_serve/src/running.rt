@@ -11,7 +11,8 @@ use crate::tasks::{Task, perform};
 use crate::words::{Command, command_or_status};
 use graph_nodes::Steps;
 use nav_doors::serve_house;
-use nav_io::{Door, House, Sink, Source};
+use nav_io::{Door, House, Sink, Source, Unguarded};
+use nav_session::Means;
 use std::alloc::Global;
 use std::sync::Wait;
 use std::sync::ledger::Ledger;
@@ -67,11 +68,16 @@ where
     ensures unused_steps { (used_by (command_of (texts words.now))).steps ≡ false
         → steps.new ≡ steps.old }
 {
+    let means = Means {
+        rt,
+        alloc,
+        gate: &Unguarded,
+    };
     match command_or_status(alloc, words) {
         Ok(Command::Once) => perform(Task::Once, alloc, source, sink),
         Ok(Command::Upgrade) => perform(Task::Upgrade, alloc, source, sink),
-        Ok(Command::Run) => run_session(rt, alloc, source, sink, board, steps),
-        Ok(Command::Lsp) => run_editor(rt, alloc, source, sink, board, steps),
+        Ok(Command::Run) => run_session(&means, source, sink, board, steps),
+        Ok(Command::Lsp) => run_editor(&means, source, sink, board, steps),
         Ok(Command::Demo { files, start }) => run_demo(rt, alloc, files, start, sink, board, steps),
         Ok(
             Command::Serve {

@@ -10,7 +10,7 @@ use graph_nodes::Steps;
 use nav_demo::demo;
 use nav_io::{Sink, Source, Unguarded};
 use nav_lsp::serve_lsp;
-use nav_session::{Desk, serve_session};
+use nav_session::{Desk, Means, serve_session};
 use std::alloc::Global;
 use std::sync::ledger::Ledger;
 use std::thread::Threads;
@@ -19,8 +19,7 @@ use version_board::Commits;
 /// Serves one session on this board, with a store of its own that is empty at first, and gives
 /// its status: one of those of `serve_session`.
 pub fn run_session<R: Threads + Sync, S: Source, K: Sink, B: Commits<R>, L: Ledger>(
-    rt: &R,
-    alloc: Global,
+    means: &Means<'_, R, Unguarded>,
     source: &mut S,
     sink: &mut K,
     board: &mut B,
@@ -39,15 +38,14 @@ pub fn run_session<R: Threads + Sync, S: Source, K: Sink, B: Commits<R>, L: Ledg
         (seen (S.left source.new) (S.faults source.new) (K.held sink.new) (K.faults sink.new))
         → IsTrue (ends_unhindered result) }
 {
-    let mut desk = Desk::new(alloc);
-    serve_session(rt, alloc, &mut desk, board, &Unguarded, source, sink, steps)
+    let mut desk = Desk::new(means.alloc);
+    serve_session(means, &mut desk, board, source, sink, steps)
 }
 
 /// Serves one editor on this board by the Language Server Protocol, and gives its status: one of
 /// those of `serve_lsp`.
 pub fn run_editor<R: Threads + Sync, S: Source, K: Sink, B: Commits<R>, L: Ledger>(
-    rt: &R,
-    alloc: Global,
+    means: &Means<'_, R, Unguarded>,
     source: &mut S,
     sink: &mut K,
     board: &mut B,
@@ -66,7 +64,7 @@ pub fn run_editor<R: Threads + Sync, S: Source, K: Sink, B: Commits<R>, L: Ledge
         (seen (S.left source.new) (S.faults source.new) (K.held sink.new) (K.faults sink.new))
         → IsTrue (ends_editor_unhindered result) }
 {
-    serve_lsp(rt, alloc, board, &Unguarded, source, sink, steps)
+    serve_lsp(means, board, source, sink, steps)
 }
 
 /// Commits and queries the made tree of so many files that is drawn from this start, on this

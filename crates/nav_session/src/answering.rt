@@ -11,6 +11,7 @@ use crate::asking::{at_of, callers, define, references};
 use crate::committing::commit;
 use crate::desk::Desk;
 use crate::judging::rule;
+use crate::means::Means;
 use crate::pinning::{hello, pin};
 use crate::refusals::line_reply;
 use crate::room::{Room, ended, print};
@@ -43,11 +44,9 @@ use version_tree::Edit;
 /// change looks at all files of the version once, the others only where their runs go.
 #[tactic(auto, using(crate::proofs::Kept::adds_none))]
 pub fn answer_line<R: Threads + Sync, B: Commits<R>, G: Gate + Sync, L: Ledger>(
-    rt: &R,
-    alloc: Global,
+    means: &Means<'_, R, G>,
     desk: &mut Desk,
     board: &mut B,
-    gate: &G,
     line: &[u8],
     steps: &mut Steps<L>,
 ) -> Result<Step, AllocError>
@@ -71,10 +70,10 @@ pub fn answer_line<R: Threads + Sync, B: Commits<R>, G: Gate + Sync, L: Ledger>(
         → steps.new ≤ steps.old + total }
     ensures no_steps { OnOk result (docs_of_line line.now ≡ [] → steps.new ≡ steps.old) }
 {
-    let room = Room::new(alloc)?;
-    match read_request(alloc, line) {
-        Ok(request) => answer_request(rt, alloc, desk, board, gate, request, room, steps),
-        Err(fault) => refuse(alloc, line_reply(fault)?),
+    let room = Room::new(means.alloc)?;
+    match read_request(means.alloc, line) {
+        Ok(request) => answer_request(means, desk, board, request, room, steps),
+        Err(fault) => refuse(means.alloc, line_reply(fault)?),
     }
 }
 
@@ -92,11 +91,9 @@ fn refuse(alloc: Global, reply: Reply) -> Result<Step, AllocError>
 /// What a request is answered with, where room is taken for the reply to an accepted change.
 #[tactic(auto, using(crate::proofs::Kept::kept_adds))]
 fn answer_request<R: Threads + Sync, B: Commits<R>, G: Gate + Sync, L: Ledger>(
-    rt: &R,
-    alloc: Global,
+    means: &Means<'_, R, G>,
     desk: &mut Desk,
     board: &mut B,
-    gate: &G,
     request: Request,
     room: Room,
     steps: &mut Steps<L>,
@@ -118,9 +115,9 @@ fn answer_request<R: Threads + Sync, B: Commits<R>, G: Gate + Sync, L: Ledger>(
     ensures no_steps { OnOk result (docs_of_request request ≡ [] → steps.new ≡ steps.old) }
 {
     let quit = quits(&request);
-    let reply = reply_to(rt, alloc, desk, board, gate, request, steps)?;
+    let reply = reply_to(means, desk, board, request, steps)?;
     Ok(Step {
-        reply: print(alloc, room, &reply)?,
+        reply: print(means.alloc, room, &reply)?,
         quit,
     })
 }
@@ -137,11 +134,9 @@ fn quits(request: &Request) -> bool
 /// The one error is want of memory: then no entry of the request is in the log, and the desk isn't meant to be used again.
 #[tactic(auto, using(crate::proofs::Kept::adds_none))]
 pub fn reply_to<R: Threads + Sync, B: Commits<R>, G: Gate + Sync, L: Ledger>(
-    rt: &R,
-    alloc: Global,
+    means: &Means<'_, R, G>,
     desk: &mut Desk,
     board: &mut B,
-    gate: &G,
     request: Request,
     steps: &mut Steps<L>,
 ) -> Result<Reply, AllocError>
@@ -163,11 +158,12 @@ pub fn reply_to<R: Threads + Sync, B: Commits<R>, G: Gate + Sync, L: Ledger>(
         → steps.new ≤ steps.old + total }
     ensures no_steps { OnOk result (docs_of_request request ≡ [] → steps.new ≡ steps.old) }
 {
+    let Means { rt, alloc, .. } = *means;
     match request {
         Request::Quit => Ok(Reply::Done),
         Request::Hello { user } => Ok(hello(desk, board, user)),
         Request::Pin => Ok(pin(desk, board)),
-        Request::Commit { base, edits } => commit(rt, alloc, desk, board, gate, base, edits, steps),
+        Request::Commit { base, edits } => commit(means, desk, board, base, edits, steps),
         Request::Grant { user, prefix } => rule(
             rt,
             alloc,
@@ -199,17 +195,13 @@ pub fn reply_to<R: Threads + Sync, B: Commits<R>, G: Gate + Sync, L: Ledger>(
             bounds,
         ),
         Request::References { path, at, bounds } => references(
-            rt,
-            alloc,
+            means,
             desk,
             board,
-            gate,
             path.as_str(),
             at_of(at),
             bounds,
         ),
-        Request::Callers { path, at } => {
-            callers(rt, alloc, desk, board, gate, path.as_str(), at_of(at))
-        }
+        Request::Callers { path, at } => { callers(means, desk, board, path.as_str(), at_of(at)) }
     }
 }

@@ -6,6 +6,7 @@ ghost use Rattle.nav_session.specs.Sessions.{IfNamed, Finds, FindsCallers};
 ghost use Rattle.nav_session.specs.Desks.{Replies, HasItsView, moment};
 
 use crate::desk::Desk;
+use crate::means::Means;
 use crate::refusals::{callers_reply, query_reply};
 use nav_answers::At;
 use nav_io::Gate;
@@ -55,11 +56,9 @@ pub fn define<B: Pins>(
 /// The reply to `references`, where a user is named: who refers to the definition there, among the files that the user
 /// may see of the pinned version. The one error is want of memory.
 pub fn references<R: Threads + Sync, B: Pins, G: Gate + Sync>(
-    rt: &R,
-    alloc: Global,
+    means: &Means<'_, R, G>,
     desk: &mut Desk,
     board: &B,
-    gate: &G,
     path: &str,
     at: At,
     bounds: Bounds,
@@ -75,6 +74,7 @@ pub fn references<R: Threads + Sync, B: Pins, G: Gate + Sync>(
     if !desk.has_user() {
         return Ok(Reply::Plain(PlainError::NoUser));
     }
+    let Means { rt, alloc, gate } = *means;
     let pinned = board.pinned();
     let mut view = desk.take_view(alloc, &pinned.version)?;
     let found = nav_answers::references(
@@ -95,11 +95,9 @@ pub fn references<R: Threads + Sync, B: Pins, G: Gate + Sync>(
 /// see of the pinned version, where only what leads to it decides whether it is refused as crowded. The one error is want
 /// of memory.
 pub fn callers<R: Threads + Sync, B: Pins, G: Gate + Sync>(
-    rt: &R,
-    alloc: Global,
+    means: &Means<'_, R, G>,
     desk: &mut Desk,
     board: &B,
-    gate: &G,
     path: &str,
     at: At,
 ) -> Result<Reply, AllocError>
@@ -114,6 +112,7 @@ pub fn callers<R: Threads + Sync, B: Pins, G: Gate + Sync>(
     if !desk.has_user() {
         return Ok(Reply::Plain(PlainError::NoUser));
     }
+    let Means { rt, alloc, gate } = *means;
     let pinned = board.pinned();
     let mut view = desk.take_view(alloc, &pinned.version)?;
     let found = nav_answers::callers(rt, alloc, &mut view, &pinned.index, gate, path, at);

@@ -13,6 +13,7 @@ use crate::bad_file::file_error;
 use crate::desk::Desk;
 use crate::drafts::{Draft, drafts_of, edits_from};
 use crate::judging::judge;
+use crate::means::Means;
 use graph_nodes::{Name, Steps};
 use index_gate::{FileFault, IndexFault, index_all};
 use nav_io::Gate;
@@ -28,11 +29,9 @@ use version_tree::PathText;
 /// then its edits come before the board. The one error is want of memory.
 #[tactic(auto, using(crate::proofs::Asked::operator_by, crate::proofs::Asked::refused_change))]
 pub fn commit<R: Threads + Sync, B: Commits<R>, G: Gate + Sync, L: Ledger>(
-    rt: &R,
-    alloc: Global,
+    means: &Means<'_, R, G>,
     desk: &mut Desk,
     board: &mut B,
-    gate: &G,
     base: Option<u32>,
     edits: Edits,
     steps: &mut Steps<L>,
@@ -58,18 +57,16 @@ pub fn commit<R: Threads + Sync, B: Commits<R>, G: Gate + Sync, L: Ledger>(
 {
     match desk.change_refusal() {
         Some(error) => Ok(Reply::Plain(error)),
-        None => commit_allowed(rt, alloc, desk, board, gate, base, edits, steps),
+        None => commit_allowed(means, desk, board, base, edits, steps),
     }
 }
 
 /// The reply to a commit of a user that may change anything.
 #[tactic(auto, using(crate::proofs::Committed::bad_document, crate::proofs::Committed::judged, crate::proofs::Kept::adds))]
 fn commit_allowed<R: Threads + Sync, B: Commits<R>, G: Gate + Sync, L: Ledger>(
-    rt: &R,
-    alloc: Global,
+    means: &Means<'_, R, G>,
     desk: &mut Desk,
     board: &mut B,
-    gate: &G,
     base: Option<u32>,
     edits: Edits,
     steps: &mut Steps<L>,
@@ -88,6 +85,7 @@ fn commit_allowed<R: Threads + Sync, B: Commits<R>, G: Gate + Sync, L: Ledger>(
         → steps.new ≤ steps.old + total }
     ensures no_steps { OnOk result (docs_in edits ≡ [] → steps.new ≡ steps.old) }
 {
+    let Means { rt, alloc, gate } = *means;
     let drafts = drafts_of(alloc, edits)?;
     match index_all(rt, alloc, &drafts.docs, &mut desk.store, gate, steps) {
         Ok(files) => put_in(rt, alloc, desk, board, base, drafts.drafts, files),

@@ -11,6 +11,7 @@ mod exchange;
 mod halt;
 mod judging;
 mod laws;
+mod means;
 mod output;
 mod pinning;
 mod refusals;
@@ -26,6 +27,7 @@ pub use halt::{ANSWERED, BAD_WORDS, Halt};
 pub use laws::{
     first_lines_have_one_script, lines_have_one_script, queries_are_answered_at_the_pin,
 };
+pub use means::Means;
 pub use output::{reply_bytes, write_line};
 pub use serving::serve_session;
 pub use step::Step;

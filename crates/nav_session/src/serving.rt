@@ -10,11 +10,11 @@ ghost use Rattle.nav_session.specs.Turns.{TakesTurn, LeavesStore, LooksOn, end_b
 use crate::answering::answer_line;
 use crate::desk::Desk;
 use crate::halt::{ANSWERED, Halt};
+use crate::means::Means;
 use crate::output::write_reply;
 use crate::step::Step;
 use graph_nodes::Steps;
 use nav_io::{Gate, LineReader, Sink, Source};
-use std::alloc::Global;
 use std::sync::ledger::Ledger;
 use std::thread::Threads;
 use version_board::Commits;
@@ -67,11 +67,9 @@ pub fn serve_session<
     G: Gate + Sync,
     L: Ledger,
 >(
-    rt: &R,
-    alloc: Global,
+    means: &Means<'_, R, G>,
     desk: &mut Desk,
     board: &mut B,
-    gate: &G,
     source: &mut S,
     sink: &mut K,
     steps: &mut Steps<L>,
@@ -94,7 +92,7 @@ pub fn serve_session<
     ensures sink_count { K.faults sink.old ≤ K.faults sink.new }
 {
     desk.clear();
-    match serve_lines(rt, alloc, desk, board, gate, source, sink, steps) {
+    match serve_lines(means, desk, board, source, sink, steps) {
         Ok(end) => end.status(),
         Err(halt) => halt.status(),
     }
@@ -102,11 +100,9 @@ pub fn serve_session<
 
 // Answers line by line, where the desk has nobody named.
 fn serve_lines<R: Threads + Sync, B: Commits<R>, S: Source, K: Sink, G: Gate + Sync, L: Ledger>(
-    rt: &R,
-    alloc: Global,
+    means: &Means<'_, R, G>,
     desk: &mut Desk,
     board: &mut B,
-    gate: &G,
     source: &mut S,
     sink: &mut K,
     steps: &mut Steps<L>,
@@ -125,9 +121,9 @@ fn serve_lines<R: Threads + Sync, B: Commits<R>, S: Source, K: Sink, G: Gate + S
     ensures source_count { S.faults source.old ≤ S.faults source.new }
     ensures sink_count { K.faults sink.old ≤ K.faults sink.new }
 {
-    let mut reader = LineReader::new(alloc)?;
+    let mut reader = LineReader::new(means.alloc)?;
     for _ in 0..MAX_LINES {
-        let turn = answer_next(rt, alloc, desk, board, gate, &mut reader, source, steps)?;
+        let turn = answer_next(means, desk, board, &mut reader, source, steps)?;
         let Some(step) = turn else {
             return Ok(End::Answered);
         };
@@ -143,11 +139,9 @@ fn serve_lines<R: Threads + Sync, B: Commits<R>, S: Source, K: Sink, G: Gate + S
 // Reads the next line and answers it; none where the input ends.
 #[tactic(auto, using(crate::proofs::Kept::stays_at))]
 fn answer_next<R: Threads + Sync, B: Commits<R>, S: Source, G: Gate + Sync, L: Ledger>(
-    rt: &R,
-    alloc: Global,
+    means: &Means<'_, R, G>,
     desk: &mut Desk,
     board: &mut B,
-    gate: &G,
     reader: &mut LineReader,
     source: &mut S,
     steps: &mut Steps<L>,
@@ -165,7 +159,7 @@ fn answer_next<R: Threads + Sync, B: Commits<R>, S: Source, G: Gate + Sync, L: L
         → HasRisen (S.faults source.old) (S.faults source.new) }
 {
     match reader.next_line(source) {
-        Ok(Some(line)) => Ok(Some(answer_line(rt, alloc, desk, board, gate, line, steps)?)),
+        Ok(Some(line)) => Ok(Some(answer_line(means, desk, board, line, steps)?)),
         Ok(None) => Ok(None),
         Err(error) => Err(Halt::from(error)),
     }
