@@ -4,8 +4,9 @@ ghost use Rattle.std.specs.Prelude.{◌≡◌, ◌<◌};
 use crate::row::{Exchange, Row};
 use crate::typist::{Screen, Typist};
 use graph_nodes::Steps;
-use nav_io::{MemDoor, MemHouse, MemSink, MemSource, Sink, Source, StdSink, StdSource};
+use nav_io::{MemDoor, MemHouse, MemSink, MemSource, Sink, Source, StdSink, StdSource, Unguarded};
 use nav_serve::run;
+use nav_session::Means;
 use std::alloc::{AllocError, Global};
 use std::cell::Cell;
 use std::marker::Brand;
@@ -39,9 +40,12 @@ fn status_on<R: Threads + Wait + Sync, S: Source, K: Sink, L: Ledger>(
 {
     let mut board = PlainBoard::new(alloc)?;
     let mut steps = Steps::<L>::new(blank);
-    Ok(run(
-        rt, alloc, words, source, sink, house, &mut board, &mut steps,
-    ))
+    let means = Means {
+        rt,
+        alloc,
+        gate: &Unguarded,
+    };
+    Ok(run(&means, words, source, sink, house, &mut board, &mut steps))
 }
 
 /// The same on a ledger that nobody reads.

@@ -10,9 +10,9 @@ use crate::running::run;
 use crate::words::command_or_status;
 use graph_nodes::Steps;
 use nav_demo::trees_have_one_summary;
-use nav_io::{Door, House, Sink, Source};
+use nav_io::{Door, House, Sink, Source, Unguarded};
 use nav_lsp::messages_have_one_script;
-use nav_session::{BAD_WORDS, Halt, first_lines_have_one_script};
+use nav_session::{BAD_WORDS, Halt, Means, first_lines_have_one_script};
 use std::alloc::Global;
 use std::io;
 use std::io::ErrorKind;
@@ -72,9 +72,12 @@ where
     let Ok(mut board) = PlainBoard::new(alloc) else {
         return Halt::NoMemory.status();
     };
-    let status = run(
-        rt, alloc, words, source, sink, house, &mut board, &mut steps,
-    );
+    let means = Means {
+        rt,
+        alloc,
+        gate: &Unguarded,
+    };
+    let status = run(&means, words, source, sink, house, &mut board, &mut steps);
     let _entries = board.len();
     first_lines_have_one_script();
     messages_have_one_script();

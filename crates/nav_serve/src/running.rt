@@ -13,7 +13,6 @@ use graph_nodes::Steps;
 use nav_doors::serve_house;
 use nav_io::{Door, House, Sink, Source, Unguarded};
 use nav_session::Means;
-use std::alloc::Global;
 use std::sync::Wait;
 use std::sync::ledger::Ledger;
 use std::thread::Threads;
@@ -30,8 +29,7 @@ use version_board::Commits;
 /// are. The other statuses are those of the commands. It may wait, for `serve` does: what each other
 /// command does is a function without that leave, and ends.
 pub fn run<R: Threads + Wait + Sync, S: Source, K: Sink, H: House, B: Commits<R>, L: Ledger>(
-    rt: &R,
-    alloc: Global,
+    means: &Means<'_, R, Unguarded>,
     words: &[String],
     source: &mut S,
     sink: &mut K,
@@ -68,16 +66,12 @@ where
     ensures unused_steps { (used_by (command_of (texts words.now))).steps ≡ false
         → steps.new ≡ steps.old }
 {
-    let means = Means {
-        rt,
-        alloc,
-        gate: &Unguarded,
-    };
+    let Means { rt, alloc, .. } = *means;
     match command_or_status(alloc, words) {
         Ok(Command::Once) => perform(Task::Once, alloc, source, sink),
         Ok(Command::Upgrade) => perform(Task::Upgrade, alloc, source, sink),
-        Ok(Command::Run) => run_session(&means, source, sink, board, steps),
-        Ok(Command::Lsp) => run_editor(&means, source, sink, board, steps),
+        Ok(Command::Run) => run_session(means, source, sink, board, steps),
+        Ok(Command::Lsp) => run_editor(means, source, sink, board, steps),
         Ok(Command::Demo { files, start }) => run_demo(rt, alloc, files, start, sink, board, steps),
         Ok(
             Command::Serve {
