@@ -7,6 +7,7 @@ usage: bench/memory.py [PROGRAM [WHAT ..]]     (crates/navd/out/navd, as `make b
   closed   an editor's session in which 512 modules are opened and closed again
   doors    20,000 commits of one module at four doors of `serve`, a quarter at each
   lines    100 lines of 8 MB of small objects in a session of `run`, and 25 at each of four doors
+  objects  the same of lines that are objects, of which a value is made
 
 Memory is what the program holds (resident), in megabytes: at the start of what is measured, at the end, and the most.
 """
@@ -40,10 +41,10 @@ def turned(text: str, turn: int) -> str:
     return f"{text}turn = {turn}\n"
 
 
-def large_line() -> bytes:
+def large_line(begin: bytes, end: bytes) -> bytes:
     """A line of almost the greatest length, of small objects: no request."""
     one = b'{"a":1},'
-    return b"[" + one * ((LINE_MAX - 16) // len(one)) + b"0]\n"
+    return begin + b"[" + one * ((LINE_MAX - 32) // len(one)) + b"0]" + end + b"\n"
 
 
 class Door:
@@ -130,7 +131,14 @@ def commits(program: Path) -> None:
 
 
 def lines(program: Path) -> None:
-    line = large_line()
+    large_lines(program, large_line(b"", b""), "large lines")
+
+
+def objects(program: Path) -> None:
+    large_lines(program, large_line(b'{"do":', b"}"), "large objects")
+
+
+def large_lines(program: Path, line: bytes, what: str) -> None:
     path, text = module()
     put = line_of(do="commit", edits=[{"put": path, "text": text}])
     with Lines(program) as session:
@@ -138,7 +146,7 @@ def lines(program: Path) -> None:
         start = session.memory()
         for _ in range(LARGE_LINES):
             refused(session.ask([line])[0][0])
-        told(f"{LARGE_LINES} large lines in a session", session, start)
+        told(f"{LARGE_LINES} {what} in a session", session, start)
     with served(program) as (serving, doors):
         for door in doors:
             door.ask(put)
@@ -149,7 +157,7 @@ def lines(program: Path) -> None:
                 door.socket.sendall(line)
             for door in doors:
                 refused(door.lines.readline())
-        told(f"{LARGE_LINES} large lines at {DOORS} doors", serving, start)
+        told(f"{LARGE_LINES} {what} at {DOORS} doors", serving, start)
 
 
 def refused(reply: bytes) -> None:
@@ -157,7 +165,7 @@ def refused(reply: bytes) -> None:
         raise SystemExit(f"a large line is answered {reply!r}")
 
 
-ALL = {"changes": changes, "closed": closed_again, "doors": commits, "lines": lines}
+ALL = {"changes": changes, "closed": closed_again, "doors": commits, "lines": lines, "objects": objects}
 
 
 def main() -> int:

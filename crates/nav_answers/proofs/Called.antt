@@ -22,10 +22,9 @@ use Rattle.list_facts.specs.Members.{IsIn}
 use Rattle.list_facts.proofs.Members.{IsIn-from_Contains, Contains-from_IsIn, at_member}
 use Rattle.back_stitch.specs.Lists.{usual, AreThoseThatReach, HasMany, Reaches}
 use Rattle.nav_answers.specs.declared.links.Link.{Link}
-use Rattle.nav_answers.specs.declared.links.Links.{Links}
 use Rattle.nav_answers.specs.declared.found.AskFault.{AskFault}
 use Rattle.nav_answers.specs.declared.found.AskFault.TheVariants.{Crowded, NoMemory}
-use Rattle.nav_answers.specs.Links.{link_of, rows_of_any}
+use Rattle.nav_answers.specs.Links.{Table, link_of, rows_of_any}
 use Rattle.nav_answers.specs.Asking.{AreLinksOf, IsCrowdedAmong, IsReferenceIn, place_of, references_from}
 use Rattle.nav_answers.specs.Callers.{IsCallerReply, IsOverrun, LeadsCrowded, TellsUnless}
 use Rattle.nav_answers.specs.Replies.{graphs_in, hit_of, row_of, IsReferenceReply}
@@ -68,28 +67,26 @@ module _ (files : List Graph) (d : NodeAt) (leading : List NodeAt) (are : AreTho
   pub among_leads : IsCrowdedAmong usual files leading → LeadsCrowded files d
   among_leads h = (h.0, (are.exact h.0).0 (Contains-from_IsIn leading h.0 h.1), h.2)
 
-  module _ (links : Links) (found : AreLinksOf usual files (hit_of d ∷ []) leading links) where
+  module _ (links : Table) (found : AreLinksOf usual files (hit_of d ∷ []) leading links) where
     pub none_leads : LeadsCrowded files d → ⊥
     none_leads h = found.few h.0 (IsIn-from_Contains leading h.0 ((are.exact h.0).1 h.1)) h.2
 
-    pub are_callers : (sorted : List Link) (rows : List Hit) → ((link : Link) → Contains sorted link ↔ Contains links.list.items link) → IsRising rows
-        → ((hit : Hit) → Contains rows hit ↔ Contains (rows_of_any sorted (hit_of d ∷ [])) hit) → AreReferences usual files (hit_of d) rows
-    are_callers sorted rows same rising exact = record {
+    pub are_callers : (rows : List Hit) → IsRising rows → ((hit : Hit) → Contains rows hit ↔ Contains (rows_of_any links.list (hit_of d ∷ [])) hit) → AreReferences usual files (hit_of d) rows
+    are_callers rows rising exact = record {
       rising = rising;
       exact = λ hit. (
-        λ h. refers hit (any_linked sorted (hit_of d ∷ []) hit (IsIn-from_Contains (rows_of_any sorted (hit_of d ∷ [])) hit ((exact hit).0 h))),
-        λ h. (exact hit).1 (Contains-from_IsIn (rows_of_any sorted (hit_of d ∷ [])) hit
-            (linked_any sorted (hit_of d ∷ []) hit (hit_of d) (inl refl)
-            (IsIn-from_Contains sorted (link_of hit (hit_of d)) ((same (link_of hit (hit_of d))).1 (linked hit h))))),
+        λ h. refers hit (any_linked links.list (hit_of d ∷ []) hit (IsIn-from_Contains (rows_of_any links.list (hit_of d ∷ [])) hit ((exact hit).0 h))),
+        λ h. (exact hit).1 (Contains-from_IsIn (rows_of_any links.list (hit_of d ∷ [])) hit
+            (linked_any links.list (hit_of d ∷ []) hit (hit_of d) (inl refl) (IsIn-from_Contains links.list (link_of hit (hit_of d)) (linked hit h)))),
       );
     }
       where
-        refers : (hit : Hit) → ((e : Hit) × IsIn e (hit_of d ∷ []) × IsIn (link_of hit e) sorted) → IsReferenceOf usual files (hit_of d) hit
+        refers : (hit : Hit) → ((e : Hit) × IsIn e (hit_of d ∷ []) × IsIn (link_of hit e) links.list) → IsReferenceOf usual files (hit_of d) hit
         refers hit k =
             subst (λ (e : Hit). IsReferenceOf usual files e hit) (only (hit_of d) k.0 k.1)
-            (found.sound (link_of hit k.0) ((same (link_of hit k.0)).0 (Contains-from_IsIn sorted (link_of hit k.0) k.2))).1
+            (found.sound (link_of hit k.0) (Contains-from_IsIn links.list (link_of hit k.0) k.2)).1
 
-        linked : (hit : Hit) → IsReferenceOf usual files (hit_of d) hit → Contains links.list.items (link_of hit (hit_of d))
+        linked : (hit : Hit) → IsReferenceOf usual files (hit_of d) hit → Contains links.list (link_of hit (hit_of d))
         linked hit h =
             found.all (link_of hit (hit_of d)) (inr (inl refl))
             (IsIn-from_Contains leading (place_of hit) ((are.exact (place_of hit)).1 (refers_leads files d hit h))) h
@@ -98,7 +95,7 @@ module _ (files : List Graph) (d : NodeAt) (leading : List NodeAt) (are : AreTho
 pub usual_is : (bounds : Bounds) → bounds.edges ≡ 128 → bounds.depth ≡ 48 → bounds ≡ usual
 usual_is bounds edges depth = λ i. record { edges = edges i; depth = depth i }
 
-pub links_are : (bounds : Bounds) (files : List Graph) (d : NodeAt) (hit : Hit) (leading : List NodeAt) (links : Links) → bounds ≡ usual → hit ≡ hit_of d
+pub links_are : (bounds : Bounds) (files : List Graph) (d : NodeAt) (hit : Hit) (leading : List NodeAt) (links : Table) → bounds ≡ usual → hit ≡ hit_of d
     → AreLinksOf bounds files (hit ∷ []) leading links → AreLinksOf usual files (hit_of d ∷ []) leading links
 links_are bounds files d hit leading links same is h =
     subst (λ (b : Bounds). AreLinksOf b files (hit_of d ∷ []) leading links) same

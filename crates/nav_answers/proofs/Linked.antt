@@ -1,5 +1,6 @@
 -- Links in their order: how they come into it, and that those to one definition stand together.
-use Rattle.std.proofs.Common.{◌≡◌, refl, sym, ◌∙◌, ap, subst, ℕ, ◌+◌, ◌<◌, List, [], ◌∷◌, ◌++◌, take, drop, length, get_or, Bool, true, eqb, eqb-true, ◌&&◌, Contains, ◌↔◌, arith}
+use Rattle.std.proofs.Common.{◌≡◌, refl, sym, ◌∙◌, ap, subst, ℕ, ◌+◌, ◌<◌, List, [], ◌∷◌, ◌++◌, take, drop, length, get_or, Bool, true, eqb, eqb-true, ◌&&◌, Contains, ◌↔◌, arith, append_assoc, inl, inr, ◌⊎◌, map}
+use Rattle.std.specs.Global.{Vec}
 use Rattle.std.specs.Prelude.{filter, false}
 use Rattle.std.specs.List.{AllByRecursion, dedup, prefix_len}
 use Rattle.std.specs.List.Sorted.{IsStrictlySortedBy, IsSorted, IsPermutation, IsNonDecreasingBy, IsPartitionedBy}
@@ -10,20 +11,21 @@ use Rattle.std.specs.declared.cmp.Ordering.TheVariants.{Less, Equal, Greater}
 use Rattle.std.proofs.lemmas.Bool.{and_parts}
 use Rattle.std.proofs.lemmas.Bool.Decides.{nat_tests}
 use Rattle.std.proofs.lemmas.Cmp.{then_total, on_total, on_equiv, and_equiv, nat_eq_equiv, nat_cmp_total, tied_itself}
-use Rattle.std.proofs.lemmas.List.{take_more, append-nil}
+use Rattle.std.proofs.lemmas.List.{take_more, append-nil, map-append}
 use Rattle.std.proofs.lemmas.List.Concat.{flat_map-append}
+use Rattle.std.proofs.lemmas.List.Elements.{filter-append}
 use Rattle.std.proofs.lemmas.List.Kept.{Contains-dedup, Contains-from_dedup, IsStrictlySortedBy-dedup}
 use Rattle.std.proofs.lemmas.List.Sorted.{Contains-permutation, IsPermutation-sym, searchable_from_sorted}
 use Rattle.list_facts.specs.Members.{IsIn}
 use Rattle.list_facts.specs.Apart.{Pairs}
-use Rattle.list_facts.proofs.Members.{IsIn-filter, IsIn-filter_from, IsIn-map, IsIn-map_from, IsIn-flat_map, IsIn-flat_map_from, IsIn-from_Contains, Contains-from_IsIn, each_member}
+use Rattle.list_facts.proofs.Members.{IsIn-filter, IsIn-filter_from, IsIn-map, IsIn-map_from, IsIn-flat_map, IsIn-flat_map_from, IsIn-from_Contains, Contains-from_IsIn, at_member, each_member}
 use Rattle.list_facts.proofs.Pairs.{Pairs-filter, Pairs-adjacent}
 use Rattle.partial_path.proofs.Halved.{parted_before, parted_there, there_is}
 use Rattle.whole_search.specs.declared.found.Hit.{Hit}
 use Rattle.whole_search.specs.Answers.{IsRising}
 use Rattle.whole_search.proofs.InOrder.{IsRising-from_sorted}
 use Rattle.nav_answers.specs.declared.links.Link.{Link}
-use Rattle.nav_answers.specs.Links.{link_of, by_hit, by_link, link_side, is_before, is_link_to, references_among, rows_of_one, rows_of_any, links_to_one, links_to_any}
+use Rattle.nav_answers.specs.Links.{link_of, by_hit, by_link, link_side, is_before, is_link_to, links_in, references_among, rows_of_one, rows_of_any, links_to_one, links_to_any}
 
 -- the orders of nodes and links
 by_hit_total : IsTotalOrder by_hit
@@ -124,49 +126,121 @@ module _ (list : List Link) (order : IsStrictlySortedBy by_link list) (definitio
   pub links_found : take (prefix_len (is_link_to definition) (drop (prefix_len (is_before definition) list) list)) (drop (prefix_len (is_before definition) list) list) ≡ filter (is_link_to definition) list
   links_found = there_is (link_side definition) list sides_rise
 
--- the references of links to one definition rise
-references_rise : (definition : Hit) (list : List Link) → AllByRecursion (λ (link : Link). link.definition ≡ definition) list → Pairs IsBelow list
-    → IsStrictlySortedBy by_hit (references_among list)
-unfolding IsStrictlySortedBy
-references_rise definition [] same h = tt
-references_rise definition (link ∷ list) same h = (all_below list same.1 h.0, references_rise definition list same.1 h.1)
-  where
-    then_less : (o p : Ordering) → o ≡ Equal → ordering_then o p ≡ Less → p ≡ Less
-    then_less o p e l = ap (λ q. ordering_then q p) (sym e) ∙ l
-
-    tied : (other : Link) → other.definition ≡ definition → by_hit link.definition other.definition ≡ Equal
-    tied other e =
-        ap (λ (d : Hit). by_hit d other.definition) same.0 ∙ ap (by_hit definition) e ∙ tied_itself by_hit_total definition
-
-    all_below : (others : List Link) → AllByRecursion (λ (other : Link). other.definition ≡ definition) others → AllByRecursion (IsBelow link) others
-        → AllByRecursion (λ (reference : Hit). by_hit link.reference reference ≡ Less) (references_among others)
-    all_below [] es hs = tt
-    all_below (other ∷ others) es hs = (
-      then_less (by_hit link.definition other.definition) (by_hit link.reference other.reference) (tied other es.0) hs.0,
-      all_below others es.1 hs.1,
-    )
-
--- the links to one definition
-all_to_it : (definition : Hit) (list : List Link) → AllByRecursion (λ (link : Link). link.definition ≡ definition) (filter (is_link_to definition) list)
-all_to_it definition list =
-    each_member (λ (link : Link). link.definition ≡ definition) (filter (is_link_to definition) list)
-    (λ link m. to_it definition link (IsIn-filter_from (is_link_to definition) link list m).1)
-
-pub rows_rise : (definition : Hit) (list : List Link) → IsStrictlySortedBy by_link list → IsRising (rows_of_one list definition)
-rows_rise definition list order =
-    IsRising-from_sorted (rows_of_one list definition)
-    (references_rise definition (filter (is_link_to definition) list) (all_to_it definition list)
-    (Pairs-filter IsBelow (is_link_to definition) list (in_pairs list order)))
-
 -- the references of one definition more
-pub rows_more : (list links : List Link) (definitions : List Hit) (i : ℕ) (definition : Hit) (rows next : List Hit) → i < length definitions → definition ≡ get_or definitions i definition
-    → rows ≡ rows_of_any list (take i definitions) → links ≡ filter (is_link_to definition) list → next ≡ rows ++ references_among links → next ≡ rows_of_any list (take (i + 1) definitions)
-rows_more list links definitions i definition rows next inside is so_far are more =
-    more ∙ ap (λ ls. rows ++ references_among ls) are ∙ ap (λ rs. rs ++ rows_of_one list definition) so_far
+pub rows_more : (list : List Link) (definitions : List Hit) (i : ℕ) (definition : Hit) (rows next : List Hit) → i < length definitions → definition ≡ get_or definitions i definition
+    → rows ≡ rows_of_any list (take i definitions) → next ≡ rows ++ rows_of_one list definition → next ≡ rows_of_any list (take (i + 1) definitions)
+rows_more list definitions i definition rows next inside is so_far more =
+    more ∙ ap (λ rs. rs ++ rows_of_one list definition) so_far
     ∙ ap (λ rs. rows_of_any list (take i definitions) ++ rs) (sym (append-nil (rows_of_one list definition)))
     ∙ sym (flat_map-append (rows_of_one list) (take i definitions) (definition ∷ []))
     ∙ ap (λ (d : Hit). rows_of_any list (take i definitions ++ d ∷ [])) is
     ∙ ap (rows_of_any list) (sym (take_more definitions i definition inside))
+
+-- those that one list more has
+rows_both : (definition : Hit) (xs ys : List Link) → rows_of_one (xs ++ ys) definition ≡ rows_of_one xs definition ++ rows_of_one ys definition
+rows_both definition xs ys =
+    ap references_among (filter-append (is_link_to definition) xs ys) ∙ map-append (λ (link : Link). link.reference) (filter (is_link_to definition) xs) (filter (is_link_to definition) ys)
+
+pub rows_in_more : (lists : List (Vec Link)) (i : ℕ) (list : Vec Link) (definition : Hit) (rows so_far next : List Hit) (links : List Link) → i < length lists → list ≡ get_or lists i list
+    → so_far ≡ rows ++ rows_of_one (links_in (take i lists)) definition → links ≡ filter (is_link_to definition) list.items → next ≡ so_far ++ references_among links
+    → next ≡ rows ++ rows_of_one (links_in (take (i + 1) lists)) definition
+rows_in_more lists i list definition rows so_far next links inside is before are more =
+    more ∙ ap (λ ls. so_far ++ references_among ls) are ∙ ap (λ rs. rs ++ rows_of_one list.items definition) before
+    ∙ append_assoc rows (rows_of_one (links_in (take i lists)) definition) (rows_of_one list.items definition)
+    ∙ ap (λ rs. rows ++ rs) (sym (rows_both definition (links_in (take i lists)) list.items))
+    ∙ ap (λ ls. rows ++ rows_of_one (links_in (take i lists) ++ ls) definition) (sym (append-nil list.items))
+    ∙ ap (λ ls. rows ++ rows_of_one ls definition) (sym (flat_map-append (λ (l : Vec Link). l.items) (take i lists) (list ∷ [])))
+    ∙ ap (λ (l : Vec Link). rows ++ rows_of_one (links_in (take i lists ++ l ∷ [])) definition) is
+    ∙ ap (λ ls. rows ++ rows_of_one (links_in ls) definition) (sym (take_more lists i list inside))
+
+-- the references of a definition in an order, each once
+abbrev put_by : Ordering → Hit → Hit → List Hit → List Hit → List Hit
+put_by Less a b bs more = a ∷ b ∷ bs
+put_by Equal a b bs more = b ∷ bs
+put_by Greater a b bs more = b ∷ more
+
+abbrev put : Hit → List Hit → List Hit
+put a [] = a ∷ []
+put a (b ∷ bs) = put_by (by_hit a b) a b bs (put a bs)
+
+in_put : (a x : Hit) (bs : List Hit) → IsIn x (put a bs) → (x ≡ a) ⊎ IsIn x bs
+in_put a x [] m = m
+in_put a x (b ∷ bs) m = by (by_hit a b) (in_put a x bs) m
+  where
+    behind : (x ≡ a) ⊎ IsIn x bs → (x ≡ a) ⊎ IsIn x (b ∷ bs)
+    behind (inl e) = inl e
+    behind (inr m) = inr (inr m)
+
+    by : (o : Ordering) → (IsIn x (put a bs) → (x ≡ a) ⊎ IsIn x bs) → IsIn x (put_by o a b bs (put a bs)) → (x ≡ a) ⊎ IsIn x (b ∷ bs)
+    by Less rest m = m
+    by Equal rest m = inr m
+    by Greater rest (inl e) = inr (inl e)
+    by Greater rest (inr m) = behind (rest m)
+
+put_there : (a : Hit) (bs : List Hit) → IsIn a (put a bs)
+put_there a [] = inl refl
+put_there a (b ∷ bs) = by (by_hit a b) refl (put_there a bs)
+  where
+    by : (o : Ordering) → by_hit a b ≡ o → IsIn a (put a bs) → IsIn a (put_by o a b bs (put a bs))
+    by Less e m = inl refl
+    by Equal e m = inl (same_node_is a b (same_node_ties a b ∙ ap is_eq e))
+    by Greater e m = inr m
+
+put_keeps : (a x : Hit) (bs : List Hit) → IsIn x bs → IsIn x (put a bs)
+put_keeps a x [] m = absurd m
+put_keeps a x (b ∷ bs) m = by (by_hit a b) (put_keeps a x bs) m
+  where
+    by : (o : Ordering) → (IsIn x bs → IsIn x (put a bs)) → IsIn x (b ∷ bs) → IsIn x (put_by o a b bs (put a bs))
+    by Less rest m = inr m
+    by Equal rest m = m
+    by Greater rest (inl e) = inl e
+    by Greater rest (inr m) = inr (rest m)
+
+-- it stays in order
+put_rises : (a : Hit) (bs : List Hit) → IsStrictlySortedBy by_hit bs → IsStrictlySortedBy by_hit (put a bs)
+unfolding IsStrictlySortedBy
+put_rises a [] h = (tt, tt)
+put_rises a (b ∷ bs) h = by (by_hit a b) refl (put_rises a bs h.1)
+  where
+    after : by_hit a b ≡ Less → (y : Hit) → IsIn y bs → by_hit a y ≡ Less
+    after e y m = by_hit_total.trans a b y e (at_member (λ (y : Hit). by_hit b y ≡ Less) y bs h.0 m)
+
+    below : by_hit a b ≡ Greater → (y : Hit) → (y ≡ a) ⊎ IsIn y bs → by_hit b y ≡ Less
+    below e y (inl same) = ap (by_hit b) same ∙ by_hit_total.antisymm b a ∙ ap ordering_reverse e
+    below e y (inr m) = at_member (λ (y : Hit). by_hit b y ≡ Less) y bs h.0 m
+
+    by : (o : Ordering) → by_hit a b ≡ o → IsStrictlySortedBy by_hit (put a bs) → IsStrictlySortedBy by_hit (put_by o a b bs (put a bs))
+    by Less e rest = ((e, each_member (λ (y : Hit). by_hit a y ≡ Less) bs (after e)), h)
+    by Equal e rest = h
+    by Greater e rest = (each_member (λ (y : Hit). by_hit b y ≡ Less) (put a bs) (λ y m. below e y (in_put a y bs m)), rest)
+
+-- any nodes in order, each once
+pub ordered : List Hit → List Hit
+ordered [] = []
+ordered (hit ∷ hits) = put hit (ordered hits)
+
+ordered_sorted : (hits : List Hit) → IsStrictlySortedBy by_hit (ordered hits)
+unfolding IsStrictlySortedBy ordered
+ordered_sorted [] = tt
+ordered_sorted (hit ∷ hits) = put_rises hit (ordered hits) (ordered_sorted hits)
+
+pub ordered_rises : (hits : List Hit) → IsRising (ordered hits)
+ordered_rises hits = IsRising-from_sorted (ordered hits) (ordered_sorted hits)
+
+pub in_ordered : (hits : List Hit) (x : Hit) → IsIn x (ordered hits) → IsIn x hits
+unfolding ordered
+in_ordered [] x m = m
+in_ordered (hit ∷ hits) x m = by (in_put hit x (ordered hits) m) (in_ordered hits x)
+  where
+    by : (x ≡ hit) ⊎ IsIn x (ordered hits) → (IsIn x (ordered hits) → IsIn x hits) → IsIn x (hit ∷ hits)
+    by (inl e) rest = inl e
+    by (inr m) rest = inr (rest m)
+
+pub ordered_in : (hits : List Hit) (x : Hit) → IsIn x hits → IsIn x (ordered hits)
+unfolding ordered
+ordered_in [] x m = m
+ordered_in (hit ∷ hits) x (inl e) = subst (λ (y : Hit). IsIn y (put hit (ordered hits))) (sym e) (put_there hit (ordered hits))
+ordered_in (hit ∷ hits) x (inr m) = put_keeps hit x (ordered hits) (ordered_in hits x m)
 
 -- the references of a definition are those of its links, and no others
 pub row_linked : (list : List Link) (definition reference : Hit) → IsIn reference (rows_of_one list definition) → IsIn (link_of reference definition) list

@@ -32,7 +32,7 @@ use Rattle.nav_answers.proofs.Asked.{starts_listed}
 use Rattle.nav_answers.specs.declared.asked_view.Known.{Known}
 use Rattle.nav_answers.specs.declared.asked_view.Told.{Told}
 use Rattle.nav_answers.specs.declared.asked_view.Told.TheVariants as said
-use Rattle.nav_answers.proofs.Linked.{row_linked, linked_row, any_linked, linked_any, rows_rise}
+use Rattle.nav_answers.proofs.Linked.{row_linked, linked_row, any_linked, linked_any, ordered, ordered_rises, in_ordered, ordered_in}
 
 pub some_so : {X : Type 0} (o : Option X) (P Q : X → Type 0) → ((x : X) → P x → Q x) → IsSomeAnd o P → IsSomeAnd o Q
 some_so None P Q so h = absurd h
@@ -152,16 +152,14 @@ module _ (bounds : Bounds) (files : List Graph) (Held : Hit → Type 0) where
       not_crowded at (inl asked) h = are.few at asked h
       not_crowded at (inr asked) h = more.few at asked h
 
-  -- the links of all references, in order
-  pub table_is : (links sorted : List Link) (limit flag : Bool) → AreLinks bounds files Held (λ (at : NodeAt). IsIn at (references_from 0 files)) links limit
-      → IsStrictlySortedBy by_link sorted → ((link : Link) → Contains sorted link ↔ Contains links link) → flag ≡ limit → IsTable bounds files Held sorted flag
-  table_is links sorted limit flag are order same is = record {
-    sound = λ link h. (are.sound link ((same link).0 h)).1;
-    all = λ link t refers. (same link).1 (are.all link t (starts_listed files (place_of link.reference) (λ c. IsDefinitionFrom bounds files c link.definition) refers) refers);
-    order = order;
+  -- the links of all references
+  pub table_is : (links : List Link) (limit : Bool) → AreLinks bounds files Held (λ (at : NodeAt). IsIn at (references_from 0 files)) links limit → IsTable bounds files Held links limit
+  table_is links limit are = record {
+    sound = λ link h. (are.sound link h).1;
+    all = λ link t refers. are.all link t (starts_listed files (place_of link.reference) (λ c. IsDefinitionFrom bounds files c link.definition) refers) refers;
     limit_is = (
-      λ t. let k = are.limit_is.0 (sym is ∙ t) in (k.0, k.2),
-      λ h. is ∙ are.limit_is.1 (h.0, starts_listed files h.0 (HasLimit bounds files) h.1, h.1),
+      λ t. let k = are.limit_is.0 t in (k.0, k.2),
+      λ h. are.limit_is.1 (h.0, starts_listed files h.0 (HasLimit bounds files) h.1, h.1),
     );
     few = λ h. are.few h.0 (starts_listed files h.0 (IsCrowded bounds files) h.1) h.1;
   }
@@ -193,12 +191,14 @@ module _ (bounds : Bounds) (files : List Graph) (Held : Hit → Type 0) where
     -- so there is a list of the references of each definition that is held
     pub references_alone : (definition : Hit) → Held definition → HasReferences bounds files definition
     references_alone definition t = (
-      rows_of_one links definition,
+      ordered (rows_of_one links definition),
       record {
-        rising = rows_rise definition links table.order;
+        rising = ordered_rises (rows_of_one links definition);
         exact = λ hit. (
-          λ h. table.sound (link_of hit definition) (Contains-from_IsIn links (link_of hit definition) (row_linked links definition hit (IsIn-from_Contains (rows_of_one links definition) hit h))),
-          λ h. Contains-from_IsIn (rows_of_one links definition) hit (linked_row links definition hit (IsIn-from_Contains links (link_of hit definition) (table.all (link_of hit definition) t h))),
+          λ h. table.sound (link_of hit definition) (Contains-from_IsIn links (link_of hit definition) (row_linked links definition hit
+              (in_ordered (rows_of_one links definition) hit (IsIn-from_Contains (ordered (rows_of_one links definition)) hit h)))),
+          λ h. Contains-from_IsIn (ordered (rows_of_one links definition)) hit (ordered_in (rows_of_one links definition) hit
+              (linked_row links definition hit (IsIn-from_Contains links (link_of hit definition) (table.all (link_of hit definition) t h)))),
         );
       },
     )
@@ -231,7 +231,6 @@ whole_told : (bounds : Bounds) (files : List Graph) (definitions others : List H
 whole_told bounds files definitions others (said.Each links) t h = record {
   sound = h.sound;
   all = λ link _ refers. h.all link (inl t) refers;
-  order = h.order;
   limit_is = h.limit_is;
   few = h.few;
 }

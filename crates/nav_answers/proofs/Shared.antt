@@ -1,19 +1,21 @@
 -- References that are dealt out to threads, and what is found of them, put together again.
-use Rattle.std.proofs.Common.{◌≡◌, refl, sym, ◌∙◌, ap, subst, ℕ, zero, suc, ◌+◌, ◌-◌, ◌*◌, min, suc-mul, ◌/◌, ◌%◌, ◌≤◌, ◌<◌, List, [], ◌∷◌, ◌++◌, length, Bool, true, false, Contains, ◌||◌, ◌&&◌, Some, slice_get, get_or, inl, inr, ◌⊎◌, ◌↔◌, arith}
+use Rattle.std.proofs.Common.{◌≡◌, refl, sym, ◌∙◌, ap, subst, ℕ, zero, suc, ◌+◌, ◌-◌, ◌*◌, min, suc-mul, ◌/◌, ◌%◌, ◌≤◌, ◌<◌, List, [], ◌∷◌, ◌++◌, length, Bool, true, false, Contains, ◌||◌, ◌&&◌, Some, slice_get, get_or, inl, inr, ◌⊎◌, ◌↔◌, arith, Result, append_assoc, length-append}
 use Rattle.std.proofs.Math.Nat.{mod-lt}
 use Rattle.std.proofs.lemmas.Nat.{div-mul-add}
 use Rattle.std.proofs.lemmas.Bool.{and_parts, cases_lt}
+use Rattle.std.proofs.lemmas.List.{get_or-append_right}
 use Rattle.std.proofs.lemmas.Option.{none-some, same_Some, slice_get-get_or}
 use Rattle.graph_nodes.specs.Graph.{Graph}
 use Rattle.list_facts.specs.Members.{IsIn}
 use Rattle.partial_path.specs.declared.bounds.Bounds.{Bounds}
 use Rattle.stacks_vars.specs.declared.scopes.NodeAt.{NodeAt}
+use Rattle.stitcher.specs.declared.found.StitchFault.{StitchFault}
 use Rattle.whole_search.specs.declared.found.Hit.{Hit}
 use Rattle.nav_answers.specs.declared.links.Link.{Link}
 use Rattle.nav_answers.specs.Replies.{hit_of}
-use Rattle.nav_answers.specs.Links.{links_of}
+use Rattle.nav_answers.specs.Links.{Table, links_of}
 use Rattle.nav_answers.specs.declared.links.Links.{Links}
-use Rattle.nav_answers.specs.Asking.{AddsLinks, AreFound, AreLinks, AreLinksOf, Holds, IsHeld, IsShareOf, IsInShares, run_of, share_of}
+use Rattle.nav_answers.specs.Asking.{AddsLinks, AreFound, AreLinks, AreLinksOf, AreTabled, Holds, IsHeld, IsShareOf, IsInShares, run_of, share_of}
 use Rattle.nav_answers.proofs.Referred.{none_linked, same_asked, one_linked, both_linked, less_held, kept_held}
 
 -- what stands in a list
@@ -91,6 +93,29 @@ module _ (all : List NodeAt) (step first : ℕ) where
           let same : k ≡ job = omega arith in
           inr (same_Some at reference (sym e ∙ ap (slice_get all) same ∙ there))
 
+-- the share that comes next of those that are left is the one at its place
+module _ (done rest next all : List (Result Links StitchFault)) (share : Result Links StitchFault) (is : rest ≡ share ∷ next) (whole : done ++ rest ≡ all) where
+  split : all ≡ done ++ share ∷ next
+  split = sym whole ∙ ap (λ xs. done ++ xs) is
+
+  pub share_next : (place : ℕ) (d : Result Links StitchFault) → place ≡ length done → get_or all place d ≡ share
+  share_next place d here =
+      let none : place - length done ≡ 0 = omega (arith, here) in
+      ap (λ xs. get_or xs place d) split ∙ get_or-append_right done (share ∷ next) (length done) place d refl (omega (arith, here)) ∙ ap (λ n. get_or (share ∷ next) n d) none
+
+  pub share_inside : (place : ℕ) → place ≡ length done → place < length all
+  share_inside place here = omega (arith, here, ap length split, length-append done (share ∷ next))
+
+  pub shares_left : (done ++ share ∷ []) ++ next ≡ all
+  shares_left = append_assoc done (share ∷ []) next ∙ sym split
+
+  pub place_next : (place : ℕ) → place ≡ length done → place + 1 ≡ length (done ++ share ∷ [])
+  place_next place here = omega (arith, here, length-append done (share ∷ []))
+
+-- none is left
+pub shares_passed : (done rest all : List (Result Links StitchFault)) (place : ℕ) → length rest ≡ 0 → done ++ rest ≡ all → place ≡ length done → length all ≤ place
+shares_passed done rest all place none whole here = omega (arith, none, here, ap length whole, length-append done rest)
+
 -- what both hold, each holds
 held_first : (whole other : Bool) (Among : Type 0) → ((whole && other) ≡ true) ⊎ Among → (whole ≡ true) ⊎ Among
 held_first whole other Among (inl t) = inl (and_parts whole other t).0
@@ -153,21 +178,29 @@ module _ (bounds : Bounds) (files : List Graph) (definitions : List Hit) (all : 
         few = are.few;
       })
 
-  -- what is found in so many shares
-  pub shares_begun : (next : Links) → next.list.items ≡ [] → next.limit ≡ false → next.whole ≡ true → AreFound bounds files definitions (IsInShares all step 0) next
-  shares_begun next e f w =
-      so_linked (IsInShares all step 0) true [] false next e f w (none_linked bounds files (IsHeld true definitions) (IsInShares all step 0) (λ at h. let low = h.2 in absurd (omega arith)))
+  -- the same of links in several lists
+  so_tabled : (IsAsked : NodeAt → Type 0) (whole : Bool) (links : List Link) (limit : Bool) (next : Table) → next.list ≡ links → next.limit ≡ limit → next.whole ≡ whole
+      → AreLinks bounds files (IsHeld whole definitions) IsAsked links limit → AreTabled bounds files definitions IsAsked next
+  so_tabled IsAsked whole links limit next e f w are =
+      subst (λ (b : Bool). AreLinks bounds files (IsHeld b definitions) IsAsked next.list next.limit) (sym w)
+      (subst (λ (xs : List Link). AreLinks bounds files (IsHeld whole definitions) IsAsked xs next.limit) (sym e)
+      (subst (λ (b : Bool). AreLinks bounds files (IsHeld whole definitions) IsAsked links b) (sym f) are))
 
-  pub shares_added : (count : ℕ) (old more new : Links) → AreFound bounds files definitions (IsInShares all step count) old
-      → AreFound bounds files definitions (IsShareOf all step count (length all)) more → new.list.items ≡ old.list.items ++ more.list.items → new.limit ≡ (old.limit || more.limit)
-      → new.whole ≡ (old.whole && more.whole) → AreFound bounds files definitions (IsInShares all step (count + 1)) new
+  -- what is found in so many shares
+  pub shares_begun : (next : Table) → next.list ≡ [] → next.limit ≡ false → next.whole ≡ true → AreTabled bounds files definitions (IsInShares all step 0) next
+  shares_begun next e f w =
+      so_tabled (IsInShares all step 0) true [] false next e f w (none_linked bounds files (IsHeld true definitions) (IsInShares all step 0) (λ at h. let low = h.2 in absurd (omega arith)))
+
+  pub shares_added : (count : ℕ) (old : Table) (more : Links) (new : Table) → AreTabled bounds files definitions (IsInShares all step count) old
+      → AreFound bounds files definitions (IsShareOf all step count (length all)) more → new.list ≡ old.list ++ more.list.items → new.limit ≡ (old.limit || more.limit)
+      → new.whole ≡ (old.whole && more.whole) → AreTabled bounds files definitions (IsInShares all step (count + 1)) new
   shares_added count old more new are others e f w =
-      so_linked (IsInShares all step (count + 1)) (old.whole && more.whole) (old.list.items ++ more.list.items) (old.limit || more.limit) new e f w
+      so_tabled (IsInShares all step (count + 1)) (old.whole && more.whole) (old.list ++ more.list.items) (old.limit || more.limit) new e f w
       (same_asked bounds files (IsHeld (old.whole && more.whole) definitions) (λ (at : NodeAt). IsInShares all step count at ⊎ IsShareOf all step count (length all) at) (IsInShares all step (count + 1))
-      (old.list.items ++ more.list.items) (old.limit || more.limit)
+      (old.list ++ more.list.items) (old.limit || more.limit)
       (λ at. (λ h. on at h, λ h. back at h.0 h.1 h.2 h.3 (cases_lt (share_of all step h.0) count)))
-      (both_linked bounds files (IsHeld (old.whole && more.whole) definitions) (IsInShares all step count) (IsShareOf all step count (length all)) old.list.items more.list.items old.limit more.limit
-      (less_held bounds files (IsHeld old.whole definitions) (IsHeld (old.whole && more.whole) definitions) (IsInShares all step count) old.list.items old.limit
+      (both_linked bounds files (IsHeld (old.whole && more.whole) definitions) (IsInShares all step count) (IsShareOf all step count (length all)) old.list more.list.items old.limit more.limit
+      (less_held bounds files (IsHeld old.whole definitions) (IsHeld (old.whole && more.whole) definitions) (IsInShares all step count) old.list old.limit
       (λ d t. held_first old.whole more.whole (IsIn d definitions) t) are)
       (less_held bounds files (IsHeld more.whole definitions) (IsHeld (old.whole && more.whole) definitions) (IsShareOf all step count (length all)) more.list.items more.limit
       (λ d t. held_second old.whole more.whole (IsIn d definitions) t) others)))
@@ -181,10 +214,10 @@ module _ (bounds : Bounds) (files : List Graph) (definitions : List Hit) (all : 
       back at k inside low e (inl h) = inl (k, inside, h, e)
       back at k inside low e (inr h) = let same : share_of all step k ≡ count = omega arith in inr (k, inside, same, e)
 
-  pub shares_ended : (count : ℕ) (links : Links) → 0 < step → step ≤ count → AreFound bounds files definitions (IsInShares all step count) links
+  pub shares_ended : (count : ℕ) (links : Table) → 0 < step → step ≤ count → AreTabled bounds files definitions (IsInShares all step count) links
       → AreLinksOf bounds files definitions all links
   shares_ended count links some over are =
-      same_asked bounds files (IsHeld links.whole definitions) (IsInShares all step count) (λ (at : NodeAt). IsIn at all) links.list.items links.limit
+      same_asked bounds files (IsHeld links.whole definitions) (IsInShares all step count) (λ (at : NodeAt). IsIn at all) links.list links.limit
       (λ at. (
         λ h. there_in all h.0 at h.3,
         λ m. let r = in_there all at m in let low : share_of all step r.0 < step = mod-lt (r.0 / run_of (length all) step) some in (r.0, r.1, omega arith, r.2),

@@ -27,7 +27,7 @@ use Rattle.nav_answers.specs.declared.links.Links.{Links}
 use Rattle.nav_answers.specs.declared.found.At.TheVariants as at
 use Rattle.nav_answers.specs.declared.found.AskFault.{AskFault}
 use Rattle.nav_answers.specs.declared.found.AskFault.TheVariants.{NoDefinition}
-use Rattle.nav_answers.specs.Links.{by_link, links_of}
+use Rattle.nav_answers.specs.Links.{Table, by_link, links_of}
 use Rattle.nav_answers.specs.Replies.{graphs_in, hit_of, meant, IsReplyAbout}
 
 -- the references among nodes of a file with that number, of which the first has that position
@@ -84,9 +84,13 @@ IsHeld whole definitions definition = IsTrue whole ⊎ IsIn definition definitio
 abbrev pub AreFound : Bounds → List Graph → List Hit → (NodeAt → Type 0) → Links → Type 0
 AreFound bounds files definitions IsAsked links = AreLinks bounds files (IsHeld links.whole definitions) IsAsked links.list.items links.limit
 
+-- so it is of links in several lists
+abbrev pub AreTabled : Bounds → List Graph → List Hit → (NodeAt → Type 0) → Table → Type 0
+AreTabled bounds files definitions IsAsked table = AreLinks bounds files (IsHeld table.whole definitions) IsAsked table.list table.limit
+
 -- so it is of these references
-abbrev pub AreLinksOf : Bounds → List Graph → List Hit → List NodeAt → Links → Type 0
-AreLinksOf bounds files definitions all links = AreFound bounds files definitions (λ (at : NodeAt). IsIn at all) links
+abbrev pub AreLinksOf : Bounds → List Graph → List Hit → List NodeAt → Table → Type 0
+AreLinksOf bounds files definitions all table = AreTabled bounds files definitions (λ (at : NodeAt). IsIn at all) table
 
 -- the links to other definitions are let go
 pub record LetsGo (definitions : List Hit) (old new : Links) : Type 0 where
@@ -107,28 +111,26 @@ pub record AddsLinks (bounds : Bounds) (files : List Graph) (reference : NodeAt)
   pub limit_is : new.limit ≡ (old.limit || flag)
   pub whole_is : new.whole ≡ old.whole
 
--- The links of all references of the files to the definitions that are held, by their definitions and then by the
--- references, each once.
+-- The links of all references of the files to the definitions that are held.
 pub record IsTable (bounds : Bounds) (files : List Graph) (Held : Hit → Type 0) (links : List Link) (limit : Bool) : Type 0 where
   pub sound : (link : Link) → Contains links link → IsReferenceOf bounds files link.definition link.reference
   pub all : (link : Link) → Held link.definition → IsReferenceOf bounds files link.definition link.reference → Contains links link
-  pub order : IsStrictlySortedBy by_link links
   pub limit_is : IsTrue limit ↔ HasAnyLimit bounds files
   pub few : IsAnyCrowded bounds files → ⊥
 
 -- what was found of all references of the files is so: their links to these definitions, or that one of them is crowded
 abbrev pub IsTold : Bounds → List Graph → List Hit → Told → Type 0
-IsTold bounds files definitions (Each links) = IsTable bounds files (IsHeld links.whole definitions) links.list.items links.limit
+IsTold bounds files definitions (Each table) = IsTable bounds files (IsHeld table.whole definitions) table.list table.limit
 IsTold bounds files definitions Crowded = IsAnyCrowded bounds files
 
 -- whether it tells of all definitions
 abbrev pub is_whole : Told → Bool
-is_whole (Each links) = links.whole
+is_whole (Each table) = table.whole
 is_whole Crowded = true
 
 -- whether it tells that none of them is crowded
 abbrev pub is_each : Told → Bool
-is_each (Each links) = true
+is_each (Each table) = true
 is_each Crowded = false
 
 abbrev pub IsKnownOf : List Graph → List Hit → Known → Type 0
@@ -180,7 +182,12 @@ IsShareOf all step first end at = (k : ℕ) × (k < end) × (share_of all step k
 abbrev pub IsInShares : List NodeAt → ℕ → ℕ → NodeAt → Type 0
 IsInShares all step count at = (k : ℕ) × (k < length all) × (share_of all step k < count) × (slice_get all k ≡ Some at)
 
+-- what was found of the references of a share, in order
+pub record AreInShare (bounds : Bounds) (files : List Graph) (definitions : List Hit) (all : List NodeAt) (step first : ℕ) (links : Links) : Type 0 where
+  pub found : AreFound bounds files definitions (IsShareOf all step first (length all)) links
+  pub order : IsStrictlySortedBy by_link links.list.items
+
 -- what one thread tells in the end: what was found of its references, or its fault
 abbrev pub IsDone : Bounds → List Graph → List Hit → List NodeAt → ℕ → ℕ → Result Links StitchFault → Type 0
 IsDone bounds files definitions all step first share =
-    MatchResult share (AreFound bounds files definitions (IsShareOf all step first (length all))) (λ fault. fault ≡ stitch.Crowded → IsCrowdedAmong bounds files all)
+    MatchResult share (AreInShare bounds files definitions all step first) (λ fault. fault ≡ stitch.Crowded → IsCrowdedAmong bounds files all)

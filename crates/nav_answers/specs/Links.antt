@@ -1,5 +1,7 @@
 -- References with their definitions, as pairs in a list. No public clause cites this.
+use Rattle.std.specs.Global.{Vec}
 use Rattle.std.specs.Prelude.{List, map, filter, flat_map, Bool}
+use Rattle.std.specs.List.Sorted.{IsStrictlySortedBy}
 use Rattle.std.specs.Ordering.{nat_cmp, ordering_then, is_lt, is_eq}
 use Rattle.std.specs.declared.cmp.Ordering.{Ordering}
 use Rattle.whole_search.specs.declared.found.Hit.{Hit}
@@ -49,3 +51,21 @@ links_to_one links definition = filter (is_link_to definition) links
 
 abbrev pub links_to_any : List Link → List Hit → List Link
 links_to_any links definitions = flat_map (links_to_one links) definitions
+
+-- links that stand in several lists, one behind the other, whether a run was left out, and whether each reference is
+-- there with each of its definitions
+pub record Table : Type 0 where
+  pub list : List Link
+  pub limit : Bool
+  pub whole : Bool
+
+abbrev pub table_of : List Link → Bool → Bool → Table
+table_of list limit whole = record { list = list; limit = limit; whole = whole }
+
+-- the links of such lists
+abbrev pub links_in : List (Vec Link) → List Link
+links_in lists = flat_map (λ (list : Vec Link). list.items) lists
+
+-- the list is by the definitions and then by the references, each pair once
+abbrev pub AreInOrder : Vec Link → Type 0
+AreInOrder list = IsStrictlySortedBy by_link list.items

@@ -5,7 +5,7 @@ ghost use Rattle.end_index.specs.Ends.{IsEndIndexOf};
 ghost use Rattle.nav_answers.specs.Sources.{graphs_seen};
 ghost use Rattle.nav_answers.specs.Asking.{IsKnown, IsKnownOf, is_each, is_whole};
 
-use crate::links::Links;
+use crate::parts::Parts;
 use back_stitch::{BackFault, back};
 use end_index::{EndIndex, EndSource};
 use partial_path::Bounds;
@@ -18,9 +18,8 @@ use whole_search::Hit;
 /// What was found of all references of the files that a user sees.
 #[derive(Drop)]
 pub enum Told {
-    /// Each with its definitions, by the definitions and then by the references, and whether a run of one of them was
-    /// left out for its length or depth.
-    Each(Links),
+    /// Each with its definitions, and whether a run of one of them was left out for its length or depth.
+    Each(Parts),
     /// One of them has too many runs.
     Crowded,
 }
@@ -46,7 +45,7 @@ impl Known {
         ensures { result ≡ is_whole self.now.told }
     {
         match &self.told {
-            Told::Each(links) => links.whole,
+            Told::Each(parts) => parts.whole(),
             Told::Crowded => true,
         }
     }

@@ -13,8 +13,8 @@ use crate::asked_view::AskedView;
 use crate::asking::Query;
 use crate::defining::rows_told;
 use crate::found::{AskFault, At, ask_fault};
-use crate::links::{Links, rows_of_any};
 use crate::meaning::{Asked, meant};
+use crate::parts::Parts;
 use crate::referring::{MOST_LINKS, references_to};
 use crate::rows::{hit_of, in_order};
 use crate::sharing::ask_all;
@@ -131,8 +131,8 @@ fn callers_among<R: Threads + Sync, G: Gate + Sync>(
         most: MOST_LINKS,
     };
     match ask_all(rt, alloc, &query, gate, leading) {
-        Ok(links) => {
-            let hits = callers_by(alloc, view, node, leading, links)?;
+        Ok(parts) => {
+            let hits = callers_by(alloc, view, node, leading, &parts)?;
             Ok(rows_told(alloc, view, &hits)?)
         }
         Err(fault) => Err(ask_fault(fault)),
@@ -146,15 +146,14 @@ fn callers_by(
     _view: &View,
     node: NodeAt,
     _leading: &[NodeAt],
-    links: Links,
+    parts: &Parts,
 ) -> Result<Vec<Hit>, AllocError>
     requires leading { AreThoseThatReach (graphs_seen _view.now) node _leading.now }
-    requires links { AreLinksOf usual (graphs_seen _view.now)
-        (hit_of node ∷ []) _leading.now links }
+    requires parts { AreLinksOf usual (graphs_seen _view.now)
+        (hit_of node ∷ []) _leading.now parts.now }
     ensures { IfOk result
         (λ hits. AreReferences usual (graphs_seen _view.now) (hit_of node) hits.items) }
 {
-    let links = links.in_order();
-    let rows = rows_of_any(alloc, &links.list, &[hit_of(node)])?;
+    let rows = parts.rows_of_any(alloc, &[hit_of(node)])?;
     Ok(in_order(rows))
 }

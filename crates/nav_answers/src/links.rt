@@ -44,20 +44,6 @@ impl Links {
         }
     }
 
-    /// The same, with memory for so many links; the one error is want of it.
-    pub fn with_capacity(alloc: Global, room: usize, links: usize) -> Result<Links, AllocError>
-        ensures list { IfOk result (λ none. none.list.items ≡ []) }
-        ensures limit { IfOk result (λ none. none.limit ≡ false) }
-        ensures whole { IfOk result (λ none. none.whole ≡ true) }
-    {
-        Ok(Links {
-            list: Vec::with_capacity(alloc, links)?,
-            limit: false,
-            whole: true,
-            room,
-        })
-    }
-
     /// Adds what was found of a reference; the one error is want of memory.
     pub fn add(&mut self, reference: Hit, found: &Found) -> Result<(), AllocError>
         ensures list { OnOk result (self.new.list.items
@@ -83,19 +69,6 @@ impl Links {
         self.list = links_to_any(alloc, &self.list, definitions)?;
         self.whole = false;
         self.room = self.room.max(self.list.len().saturating_mul(2));
-        Ok(())
-    }
-
-    /// Adds what was found of other references; the one error is want of memory.
-    pub fn append(&mut self, other: &Links) -> Result<(), AllocError>
-        ensures list { OnOk result (self.new.list.items
-            ≡ self.old.list.items ++ other.now.list.items) }
-        ensures limit { OnOk result (self.new.limit ≡ (self.old.limit || other.now.limit)) }
-        ensures whole { OnOk result (self.new.whole ≡ (self.old.whole && other.now.whole)) }
-    {
-        self.list.extend_from_slice(&other.list)?;
-        self.limit = self.limit || other.limit;
-        self.whole = self.whole && other.whole;
         Ok(())
     }
 
@@ -159,35 +132,8 @@ fn put_in_order(list: &mut Vec<Link>)
     }
 }
 
-/// The references of the definitions, in no order, of links that stand by their definitions. Those of each definition
-/// are found by halving. The one error is want of memory.
-pub fn rows_of_any(
-    alloc: Global,
-    list: &[Link],
-    definitions: &[Hit],
-) -> Result<Vec<Hit>, AllocError>
-    requires { IsStrictlySortedBy by_link list.now }
-    ensures { IfOk result (λ rows. rows.items ≡ rows_of_any list.now definitions.now) }
-{
-    let mut rows = Vec::new(alloc);
-    for definition in definitions {
-        add_references(&mut rows, links_to(list, *definition))?;
-    }
-    Ok(rows)
-}
-
-/// Adds the references of the links; the one error is want of memory.
-fn add_references(rows: &mut Vec<Hit>, links: &[Link]) -> Result<(), AllocError>
-    ensures { OnOk result (rows.new.items ≡ rows.old.items ++ references_among links.now) }
-{
-    for link in links {
-        rows.push(link.reference)?;
-    }
-    Ok(())
-}
-
 /// The links to the definition, of links that stand by their definitions.
-fn links_to(list: &[Link], definition: Hit) -> &[Link]
+pub fn links_to(list: &[Link], definition: Hit) -> &[Link]
     requires { IsStrictlySortedBy by_link list.now }
     ensures { result.now ≡ filter (is_link_to definition) list.now }
 {

@@ -11,9 +11,9 @@ use crate::asked_view::{AskedView, Known, Told};
 use crate::asking::Query;
 use crate::defining::answer_of;
 use crate::found::{AskFault, At};
-use crate::links::{Links, rows_of_any};
 use crate::listing::all_references;
 use crate::meaning::{Asked, meant};
+use crate::parts::Parts;
 use crate::rows::{hit_of, in_order};
 use crate::sharing::ask_all;
 use crate::source::ViewSource;
@@ -156,9 +156,9 @@ fn find_all<R: Threads + Sync, G: Gate + Sync>(
 {
     let bounds = query.bounds;
     match links_of_all(rt, alloc, query, gate) {
-        Ok(links) => Ok(Known {
+        Ok(parts) => Ok(Known {
             bounds,
-            told: Told::Each(links.in_order()),
+            told: Told::Each(parts),
         }),
         Err(fault) => Ok(Known {
             bounds,
@@ -185,12 +185,12 @@ fn links_of_all<R: Threads + Sync, G: Gate + Sync>(
     alloc: Global,
     query: &Query,
     gate: &G,
-) -> Result<Links, StitchFault>
+) -> Result<Parts, StitchFault>
     requires { query.now.source.now.rows ≡ query.now.view.now }
     ensures found { IfOk result
-        (λ links. AreLinksOf query.now.bounds
+        (λ parts. AreLinksOf query.now.bounds
         (graphs_seen query.now.view.now) query.now.definitions.now
-        (references_from 0 (graphs_seen query.now.view.now)) links) }
+        (references_from 0 (graphs_seen query.now.view.now)) parts) }
     ensures crowded { result ≡ Err StitchFault.Crowded
         → IsAnyCrowded query.now.bounds (graphs_seen query.now.view.now) }
 {
@@ -212,7 +212,7 @@ fn answer_from(
         → HasReferences known.now.bounds (graphs_in (graph_rows view.now)) definition) }
 {
     match &known.told {
-        Told::Each(links) => answer_by(alloc, view, known.bounds, links, definitions),
+        Told::Each(parts) => answer_by(alloc, view, known.bounds, parts, definitions),
         Told::Crowded => Err(AskFault::Crowded),
     }
 }
@@ -222,20 +222,20 @@ fn answer_by(
     alloc: Global,
     view: &View,
     bounds: Bounds,
-    links: &Links,
+    parts: &Parts,
     definitions: &[Hit],
 ) -> Result<Answer, AskFault>
     requires { IsTable bounds (graphs_seen view.now)
-        (IsHeld links.now.whole definitions.now) links.now.list.items links.now.limit }
+        (IsHeld parts.now.whole definitions.now) parts.now.list parts.now.limit }
     ensures reply { result ≢ Err AskFault.NoMemory
         → IsReplyToAny bounds (graph_rows view.now) definitions.now result }
     ensures each { IfOk result (λ _. (definition : Hit) → Contains definitions.now definition
         → HasReferences bounds (graphs_in (graph_rows view.now)) definition) }
 {
-    let rows = rows_from(alloc, view, bounds, links, definitions)?;
+    let rows = rows_from(alloc, view, bounds, parts, definitions)?;
     let found = Found {
         rows,
-        limit: links.limit,
+        limit: parts.limit(),
     };
     let answer = answer_of(alloc, view, &found)?;
     Ok(answer)
@@ -246,14 +246,14 @@ fn rows_from(
     alloc: Global,
     _view: &View,
     _bounds: Bounds,
-    links: &Links,
+    parts: &Parts,
     definitions: &[Hit],
 ) -> Result<Hits, AllocError>
     requires { IsTable _bounds (graphs_seen _view.now)
-        (IsHeld links.now.whole definitions.now) links.now.list.items links.now.limit }
+        (IsHeld parts.now.whole definitions.now) parts.now.list parts.now.limit }
     ensures { IfOk result
         (λ rows. AreRows (IsReferenceOfAny _bounds (graphs_seen _view.now) definitions.now) rows) }
 {
-    let rows = rows_of_any(alloc, &links.list, definitions)?;
+    let rows = parts.rows_of_any(alloc, definitions)?;
     Ok(Hits::of(in_order(rows)))
 }

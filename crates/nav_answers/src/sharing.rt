@@ -1,22 +1,19 @@
-ghost use Rattle.std.specs.Prelude.{◌≡◌, ◌≢◌, ℕ, ◌+◌, ◌<◌, ◌≤◌, length, All, Err, IfOk, OnOk, slice_index_or, vec_len, IsTrue};
-ghost use Rattle.graph_nodes.specs.Whole.{is_reference_of};
-ghost use Rattle.list_facts.specs.Members.{IsIn};
-ghost use Rattle.nav_answers.specs.Asking.{AddsLinks, AreFound, AreLinksOf, IsCrowdedAmong, IsDone, IsFound, IsInShares, IsReferenceIn, IsShareOf, run_of, share_of};
+ghost use Rattle.std.specs.Prelude.{◌≡◌, ℕ, ◌+◌, ◌<◌, ◌≤◌, length, All, Err, IfOk, OnOk, slice_index_or, vec_len};
+ghost use Rattle.nav_answers.specs.Asking.{AreFound, AreLinksOf, AreTabled, IsCrowdedAmong, IsDone, IsInShares, IsReferenceIn, IsShareOf, run_of, share_of};
 ghost use Rattle.nav_answers.specs.Sources.{graphs_seen};
 ghost use Rattle.nav_answers.specs.Twins.{AreKept};
-ghost use Rattle.stacks_vars.specs.declared.scopes.NodeAt.{NodeAt};
 
-use crate::asking::{Query, ask};
+use crate::asking::Query;
+use crate::jobs::add_found;
 use crate::links::Links;
-use crate::rows::hit_of;
-use crate::twins::{Kept, Searched, lead_of};
+use crate::parts::Parts;
+use crate::twins::Searched;
 use nav_io::Gate;
 use stacks_vars::NodeAt;
 use std::alloc::{AllocError, Global};
 use std::thread;
 use std::thread::Threads;
 use stitcher::{Room, StitchFault};
-use whole_search::Found;
 
 /// The most threads that ask.
 const MOST_THREADS: usize = 8;
@@ -47,18 +44,18 @@ pub fn ask_all<R: Threads + Sync, G: Gate + Sync>(
     query: &Query,
     gate: &G,
     all: &[NodeAt],
-) -> Result<Links, StitchFault>
+) -> Result<Parts, StitchFault>
     requires source { query.now.source.now.rows ≡ query.now.view.now }
     requires references { All (IsReferenceIn (graphs_seen query.now.view.now)) all.now }
     ensures found { IfOk result
-        (λ links. AreLinksOf query.now.bounds
-        (graphs_seen query.now.view.now) query.now.definitions.now all.now links) }
+        (λ parts. AreLinksOf query.now.bounds
+        (graphs_seen query.now.view.now) query.now.definitions.now all.now parts) }
     ensures crowded { result ≡ Err StitchFault.Crowded
         → IsCrowdedAmong query.now.bounds (graphs_seen query.now.view.now) all.now }
 {
     let mut shares = empty_shares(alloc, thread_count(rt, all.len()))?;
     ask_shares(rt, alloc, query, gate, all, &mut shares);
-    together(alloc, query, all, &shares)
+    together(alloc, query, all, shares)
 }
 
 /// On how many threads so many references are asked: one for each processor, and no more than there are references.
@@ -196,128 +193,32 @@ fn run_of(references: usize, shares: usize) -> usize
     (references / shares / 4).min(MOST_IN_RUN).max(1)
 }
 
-/// Adds what is found of the reference at the place among all, as the job of that number. Where one was searched lately
-/// that begins like it, what was found of that is so of this one, and there is no search.
-fn add_found<'a, G: Gate>(
-    room: &mut Room<'a>,
-    query: &Query<'a>,
-    gate: &G,
-    all: &[NodeAt],
-    job: usize,
-    searched: &mut Searched<'a>,
-    links: &mut Links,
-) -> Result<(), StitchFault>
-    requires source { query.now.source.now.rows ≡ query.now.view.now }
-    requires references { All (IsReferenceIn (graphs_seen query.now.view.now)) all.now }
-    requires inside { job < length all.now }
-    requires kept { AreKept query.now.bounds
-        (graphs_seen query.now.view.now) searched.old.list.items }
-    ensures found { (d : NodeAt) → OnOk result (AddsLinks query.now.bounds
-        (graphs_seen query.now.view.now) (slice_index_or all.now job d) links.old links.new) }
-    ensures kept { OnOk result (AreKept query.now.bounds
-        (graphs_seen query.now.view.now) searched.new.list.items) }
-    ensures crowded { result ≡ Err StitchFault.Crowded
-        → IsCrowdedAmong query.now.bounds (graphs_seen query.now.view.now) all.now }
-{
-    let reference = all[job];
-    let Some(lead) = lead_of(query.view, reference) else {
-        ask_into(room, query, gate, all, job, reference, links)?;
-        return Ok(());
-    };
-    if let Some(found) = searched.known(query, reference, &lead) {
-        return add_known(query, gate, job, reference, found, links);
-    }
-    let found = ask_into(room, query, gate, all, job, reference, links)?;
-    let kept = Kept {
-        reference,
-        lead,
-        found,
-    };
-    Ok(searched.put(query, kept)?)
-}
-
-/// Adds what is known of the reference, as the job of that number; the one error is want of memory.
-fn add_known<G: Gate>(
-    _query: &Query,
-    gate: &G,
-    job: usize,
-    reference: NodeAt,
-    found: &Found,
-    links: &mut Links,
-) -> Result<(), StitchFault>
-    requires found { IsFound _query.now.bounds
-        (graphs_seen _query.now.view.now) reference found.now.rows found.now.limit }
-    ensures found { OnOk result (AddsLinks _query.now.bounds
-        (graphs_seen _query.now.view.now) reference links.old links.new) }
-    ensures memory { result ≢ Err StitchFault.Crowded }
-{
-    gate.enter(job);
-    let added = links.add(hit_of(reference), found);
-    gate.leave(job);
-    Ok(added?)
-}
-
-/// Asks the reference, one of all these, as the job of that number, and adds what is found of it, which it tells.
-fn ask_into<'a, G: Gate>(
-    room: &mut Room<'a>,
-    query: &Query<'a>,
-    gate: &G,
-    _all: &[NodeAt],
-    job: usize,
-    reference: NodeAt,
-    links: &mut Links,
-) -> Result<Found, StitchFault>
-    requires source { query.now.source.now.rows ≡ query.now.view.now }
-    requires reference { IsTrue
-        (is_reference_of (graphs_seen query.now.view.now) reference.file reference.node) }
-    requires among { IsIn reference _all.now }
-    ensures found { OnOk result (AddsLinks query.now.bounds
-        (graphs_seen query.now.view.now) reference links.old links.new) }
-    ensures told { IfOk result (λ found. IsFound query.now.bounds
-        (graphs_seen query.now.view.now) reference found.rows found.limit) }
-    ensures crowded { result ≡ Err StitchFault.Crowded
-        → IsCrowdedAmong query.now.bounds (graphs_seen query.now.view.now) _all.now }
-{
-    let found = ask(room, query, gate, job, reference)?;
-    links.add(hit_of(reference), &found)?;
-    Ok(found)
-}
-
 /// What the shares tell together.
 fn together(
     alloc: Global,
     query: &Query,
     all: &[NodeAt],
-    shares: &[Share],
-) -> Result<Links, StitchFault>
-    requires some { 0 < length shares.now }
-    requires done { (i : ℕ) (d : _) → i < length shares.now
+    shares: Vec<Share>,
+) -> Result<Parts, StitchFault>
+    requires some { 0 < vec_len shares }
+    requires done { (i : ℕ) (d : _) → i < vec_len shares
         → IsDone query.now.bounds
-        (graphs_seen query.now.view.now) query.now.definitions.now all.now (length shares.now) i
-        (slice_index_or shares.now i d) }
+        (graphs_seen query.now.view.now) query.now.definitions.now all.now (vec_len shares) i
+        (slice_index_or shares.items i d) }
     ensures found { IfOk result
-        (λ links. AreLinksOf query.now.bounds
-        (graphs_seen query.now.view.now) query.now.definitions.now all.now links) }
+        (λ parts. AreLinksOf query.now.bounds
+        (graphs_seen query.now.view.now) query.now.definitions.now all.now parts) }
     ensures crowded { result ≡ Err StitchFault.Crowded
         → IsCrowdedAmong query.now.bounds (graphs_seen query.now.view.now) all.now }
 {
     let count = shares.len();
-    let mut links = Links::with_capacity(alloc, query.most, links_in(shares))?;
-    for place in 0..count {
-        add_share(query, all, count, place, &shares[place], &mut links)?;
-    }
-    Ok(links)
-}
-
-/// How many links the shares tell.
-fn links_in(shares: &[Share]) -> usize {
-    let mut count: usize = 0;
+    let mut parts = Parts::with_capacity(alloc, count)?;
+    let mut place = 0;
     for share in shares {
-        if let Ok(found) = share {
-            count = count.saturating_add(found.list.len());
-        }
+        add_share(query, all, count, place, share, &mut parts)?;
+        place += 1;
     }
-    count
+    Ok(parts)
 }
 
 /// Adds what the share at that place of so many tells, those before it being added; the error is the share's, or want
@@ -327,22 +228,22 @@ fn add_share(
     _all: &[NodeAt],
     _count: usize,
     _place: usize,
-    share: &Share,
-    links: &mut Links,
+    share: Share,
+    parts: &mut Parts,
 ) -> Result<(), StitchFault>
     requires done { IsDone _query.now.bounds
-        (graphs_seen _query.now.view.now) _query.now.definitions.now _all.now _count _place share.now }
-    requires before { AreFound _query.now.bounds
+        (graphs_seen _query.now.view.now) _query.now.definitions.now _all.now _count _place share }
+    requires before { AreTabled _query.now.bounds
         (graphs_seen _query.now.view.now) _query.now.definitions.now
-        (IsInShares _all.now _count _place) links.old }
-    ensures added { OnOk result (AreFound _query.now.bounds
+        (IsInShares _all.now _count _place) parts.old }
+    ensures added { OnOk result (AreTabled _query.now.bounds
         (graphs_seen _query.now.view.now) _query.now.definitions.now
-        (IsInShares _all.now _count (_place + 1)) links.new) }
+        (IsInShares _all.now _count (_place + 1)) parts.new) }
     ensures crowded { result ≡ Err StitchFault.Crowded
         → IsCrowdedAmong _query.now.bounds (graphs_seen _query.now.view.now) _all.now }
 {
     match share {
-        Ok(found) => Ok(links.append(found)?),
-        Err(fault) => Err(*fault),
+        Ok(links) => Ok(parts.append(links)?),
+        Err(fault) => Err(fault),
     }
 }

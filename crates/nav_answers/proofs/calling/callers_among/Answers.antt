@@ -11,16 +11,16 @@ use Rattle.nav_answers.proofs.Called.{among_leads, crowded_tells, links_are, non
 use Rattle.nav_answers.proofs.Told.{was_crowded}
 use Rattle.nav_answers.proofs.calling.callers_among.Goals as goal
 
-pub callers_by-requires-clause-links : goal.callers_by-requires-clause-links
-callers_by-requires-clause-links g c =
-    links_are c.usual.result (graphs_seen c.args.view.now) c.args.node c.hit_of.result c.args.leading.now c.in-Ok.links
+pub callers_by-requires-clause-parts : goal.callers_by-requires-clause-parts
+callers_by-requires-clause-parts g c =
+    links_are c.usual.result (graphs_seen c.args.view.now) c.args.node c.hit_of.result c.args.leading.now c.in-Ok.parts
     (usual_is c.usual.result c.usual.ensures.edges c.usual.ensures.depth) c.hit_of.ensures c.in-Ok.ensures.found
 
 pub returns-in_ok-rows_told-in-Ok : goal.returns-in_ok-rows_told-in-Ok
 returns-in_ok-rows_told-in-Ok g c _ =
     rows_tell c.args.view.now c.args.node c.in_ok-hits-in-Ok.hits.items c.in_ok-rows_told-in-Ok.field-0
-    (none_leads (graphs_seen c.args.view.now) c.args.node c.args.leading.now c.requires.leading c.in-Ok.links
-    (links_are c.usual.result (graphs_seen c.args.view.now) c.args.node c.hit_of.result c.args.leading.now c.in-Ok.links
+    (none_leads (graphs_seen c.args.view.now) c.args.node c.args.leading.now c.requires.leading c.in-Ok.parts
+    (links_are c.usual.result (graphs_seen c.args.view.now) c.args.node c.hit_of.result c.args.leading.now c.in-Ok.parts
     (usual_is c.usual.result c.usual.ensures.edges c.usual.ensures.depth) c.hit_of.ensures c.in-Ok.ensures.found))
     c.in_ok-hits-in-Ok.ensures
     (c.in_ok-rows_told-in-Ok.ensures ∙ ap (λ (hits : List Hit). map (row_of (graph_rows c.args.view.now)) hits) c.deref.ensures.value)

@@ -8,7 +8,7 @@ use Rattle.nav_answers.proofs.calling.callers_by.Goals as goal
 
 pub returns : goal.returns
 returns c =
-    are_callers (graphs_seen c.args._view.now) c.args.node c.args._leading.now c.requires.leading c.args.links c.requires.links c.in_order-links.result.list.items c.in_order.result.items
-    c.in_order-links.ensures.exact c.in_order.ensures.rising
-    (exact_along c.in_order.result.items c.in_ok-rows.rows.items (rows_of_any c.in_order-links.result.list.items (hit_of c.args.node ∷ []))
-    (c.in_ok-rows.ensures ∙ (λ i. rows_of_any (c.deref.ensures.value i) (c.hit_of.ensures i ∷ []))) c.in_order.ensures.exact)
+    are_callers (graphs_seen c.args._view.now) c.args.node c.args._leading.now c.requires.leading c.args.parts.now c.requires.parts c.in_order.result.items
+    c.in_order.ensures.rising
+    (exact_along c.in_order.result.items c.in_ok-rows.rows.items (rows_of_any c.args.parts.now.list (hit_of c.args.node ∷ []))
+    (c.in_ok-rows.ensures ∙ (λ i. rows_of_any c.args.parts.now.list (c.hit_of.ensures i ∷ []))) c.in_order.ensures.exact)

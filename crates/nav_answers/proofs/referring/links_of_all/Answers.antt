@@ -1,7 +1,7 @@
 use Rattle.std.proofs.Common.{sym, subst, ◌∙◌, All, IfOk, List}
 use Rattle.std.proofs.lemmas.List.Elements.{All-from_recursion}
 use Rattle.stacks_vars.specs.declared.scopes.NodeAt.{NodeAt}
-use Rattle.nav_answers.specs.declared.links.Links.{Links}
+use Rattle.nav_answers.specs.Links.{Table}
 use Rattle.nav_answers.specs.Asking.{references_from, AreLinksOf, IsReferenceIn}
 use Rattle.nav_answers.specs.Sources.{graphs_seen}
 use Rattle.nav_answers.proofs.Asked.{all_are}
@@ -14,5 +14,5 @@ ask_all-requires-clause-references g c _ _ =
 
 pub returns-clause-found : goal.returns-clause-found
 returns-clause-found g c =
-    subst (λ (all : List NodeAt). IfOk c.ask_all.result (λ (links : Links). AreLinksOf c.args.query.now.bounds (graphs_seen c.args.query.now.view.now) c.args.query.now.definitions.now all links))
+    subst (λ (all : List NodeAt). IfOk c.ask_all.result (λ (parts : Table). AreLinksOf c.args.query.now.bounds (graphs_seen c.args.query.now.view.now) c.args.query.now.definitions.now all parts))
     (c.deref.ensures.value ∙ c.in_ok-all.ensures) c.ask_all.ensures.found

@@ -41,8 +41,11 @@ loop-from-preserved g c =
     }
 
 pub returns : goal.returns
-returns g c =
-    share_sorted c.args.query.now.bounds (graphs_seen c.args.query.now.view.now) c.args.query.now.definitions.now c.args.all.now c.args.step c.args.first c.loop-from.links c.in_order.result
-    c.in_order.ensures.exact c.in_order.ensures.limit c.in_order.ensures.whole
-    (share_ended c.args.query.now.bounds (graphs_seen c.args.query.now.view.now) c.args.query.now.definitions.now c.args.all.now c.args.step c.args.first c.loop-from.from c.loop-from.links
-    (omega (arith, c.loop-from-test.false, c.loop-from.invariant.inside)) c.loop-from.invariant.found)
+returns g c = record {
+  found =
+      share_sorted c.args.query.now.bounds (graphs_seen c.args.query.now.view.now) c.args.query.now.definitions.now c.args.all.now c.args.step c.args.first c.loop-from.links c.in_order.result
+      c.in_order.ensures.exact c.in_order.ensures.limit c.in_order.ensures.whole
+      (share_ended c.args.query.now.bounds (graphs_seen c.args.query.now.view.now) c.args.query.now.definitions.now c.args.all.now c.args.step c.args.first c.loop-from.from c.loop-from.links
+      (omega (arith, c.loop-from-test.false, c.loop-from.invariant.inside)) c.loop-from.invariant.found);
+  order = c.in_order.ensures.order;
+}

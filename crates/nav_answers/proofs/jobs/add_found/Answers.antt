@@ -4,7 +4,7 @@ use Rattle.partial_path.specs.Spots.{node_at}
 use Rattle.nav_answers.specs.Asking.{AddsLinks}
 use Rattle.nav_answers.specs.Sources.{graphs_seen}
 use Rattle.nav_answers.proofs.Shared.{job_among, same_place}
-use Rattle.nav_answers.proofs.sharing.add_found.Goals as goal
+use Rattle.nav_answers.proofs.jobs.add_found.Goals as goal
 
 pub ask_into-requires-clause-among : goal.ask_into-requires-clause-among
 ask_into-requires-clause-among g c = job_among c.args.all.now c.args.job (node_at 0 0) c.requires.inside

@@ -1,7 +1,7 @@
 use Rattle.std.proofs.Common.{◌∙◌, ap, ◌++◌}
 use Rattle.whole_search.specs.declared.found.Hit.{Hit}
 use Rattle.nav_answers.specs.Links.{links_of}
-use Rattle.nav_answers.proofs.sharing.ask_into.Goals as goal
+use Rattle.nav_answers.proofs.jobs.ask_into.Goals as goal
 
 pub returns-clause-found : goal.returns-clause-found
 returns-clause-found g c = record {
