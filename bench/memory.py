@@ -29,6 +29,8 @@ from programs import Editor, Lines, Program, changed, closed, line_of, opened
 PROGRAM = Path(__file__).parent.parent / "crates/navd/out/navd"
 CHANGES, CLOSED, COMMITS, DOORS, LARGE_LINES = 4_000, 512, 20_000, 4, 100
 LINE_MAX = 8_388_608
+# Seconds after a reply until what was given back is the system's.
+SETTLED = 1.5
 SECONDS = 30
 
 
@@ -146,6 +148,7 @@ def large_lines(program: Path, line: bytes, what: str) -> None:
         start = session.memory()
         for _ in range(LARGE_LINES):
             refused(session.ask([line])[0][0])
+        time.sleep(SETTLED)
         told(f"{LARGE_LINES} {what} in a session", session, start)
     with served(program) as (serving, doors):
         for door in doors:
@@ -157,6 +160,7 @@ def large_lines(program: Path, line: bytes, what: str) -> None:
                 door.socket.sendall(line)
             for door in doors:
                 refused(door.lines.readline())
+        time.sleep(SETTLED)
         told(f"{LARGE_LINES} {what} at {DOORS} doors", serving, start)
 
 
