@@ -968,7 +968,7 @@ def memory_given_back():
     environment = dict(setting.split("=", 1) for line in settings for setting in line.split())
     with Server(1, 1, environment) as server:
         client = server.client()
-        client.asks(b"[" + b",".join([b'{"a":1}'] * 250_000) + b"]", '{"error":"bad_request","field":"do"}')
+        client.asks(b'{"do":[' + b",".join([b'{"a":1}'] * 250_000) + b"]}", '{"error":"bad_request","field":"do"}')
         client.asks('{"do":"pin"}', error("no_user"))
         most, left = memory_of(server.process, "VmHWM"), memory_of(server.process, "VmRSS")
         wanted(left < most / 4, f"{left:.0f} MB stay of {most:.0f}")
