@@ -4,6 +4,7 @@ pub mod Contents
 pub mod Graphs
 pub mod Passes
 pub mod Places
+pub mod Placed
 pub mod Refused
 pub mod Repeats
 pub mod Verdict

@@ -1,4 +1,5 @@
 use crate::sorted_rows::SortedRows;
+use grants::Grants;
 use std::alloc::{AllocError, Global};
 use std::cmp::Ordering;
 use std::marker::Model;
@@ -28,8 +29,10 @@ impl Model for Block {
 }
 
 impl Block {
-    ghost use Rattle.std.specs.Prelude.{◌≡◌, IfOk};
+    ghost use Rattle.std.specs.Prelude.{◌≡◌, [], IfOk};
+    ghost use Rattle.std.specs.Option.{option_map_or};
     ghost use Rattle.version_tree.specs.Blocks.{IsBlock, first_beside};
+    ghost use Rattle.version_tree.specs.Contents.{covered};
 
     /// The block of these rows. The one error is want of memory.
     pub(crate) fn of(alloc: Global, rows: SortedRows) -> Result<Block, AllocError>
@@ -56,6 +59,29 @@ impl Block {
         ensures size { IsBlock self.now }
     {
         &self.rows
+    }
+
+    /// Those of the rows that the user may see, in a block: the same block where that is all of them, and None where it is
+    /// none. The one error is want of memory.
+    pub(crate) fn seen(
+        &self,
+        alloc: Global,
+        grants: &Grants,
+        user: &str,
+    ) -> Result<Option<Block>, AllocError>
+        ensures { IfOk result (λ seen. option_map_or (λ block. block) seen []
+            ≡ covered grants.now user.now self.now) }
+    {
+        let rows = self.rows();
+        if rows.are_covered(grants, user) {
+            return Ok(Some(self.share()?));
+        }
+        let mut kept = Vec::new(alloc);
+        rows.grant(grants, user, &mut kept)?;
+        if kept.is_empty() {
+            return Ok(None);
+        }
+        Ok(Some(Block::of(alloc, SortedRows::of(kept))?))
     }
 
     /// Where the block's first row stands in the order of paths, beside this path.

@@ -34,12 +34,13 @@ impl Model for Blocks {
 }
 
 impl Blocks {
-    ghost use Rattle.std.specs.Prelude.{◌≡◌, ◌<◌, ◌≤◌, ◌+◌, ◌++◌, [], length, take, drop, slice_get, IfOk, IfErr, OnOk, MatchOption, false, option_copied};
+    ghost use Rattle.std.specs.Prelude.{◌≡◌, ◌<◌, ◌≤◌, ◌+◌, ◌++◌, [], length, take, drop, slice_get, IfOk, IfErr, MatchOption, Some, false, option_copied};
     ghost use Rattle.partial_path.specs.PathSets.{FileRules};
     ghost use Rattle.version_tree.specs.Contents.{AreRows, IsInOrder, has_path, with_row, without_row, covered};
     ghost use Rattle.version_tree.specs.Verdict.{weight_of};
     ghost use Rattle.list_facts.specs.Places.{IsAt, IsGapFor};
     ghost use Rattle.version_tree.specs.Places.{IsRowWith};
+    ghost use Rattle.version_tree.specs.Views.{path_at};
     ghost use Rattle.version_tree.specs.Blocks.{AreBlocks, IsBlockFor, all_rows, first_beside};
     ghost use Rattle.version_tree.specs.Limits.{block_rows};
 
@@ -207,22 +208,57 @@ impl Blocks {
         Ok(Blocks { blocks, count })
     }
 
-    /// Adds those of the rows that the user may see, in their order. The one error is want of
-    /// memory.
-    pub(crate) fn grant(
+    /// Those of the rows that the user may see, in blocks: a block of which all are seen is shared. The one error is want
+    /// of memory; more rows than 64 bits can count are told as such.
+    pub(crate) fn seen(
         &self,
+        alloc: Global,
         grants: &Grants,
         user: &str,
-        kept: &mut Vec<RowHandle>,
-    ) -> Result<(), AllocError>
-        ensures kept { OnOk result (kept.new.items
-            ≡ kept.old.items ++ covered grants.now user.now (all_rows self.now)) }
-        ensures rows { AreRows (all_rows self.now) }
+    ) -> Result<Blocks, AllocError>
+        ensures { IfOk result (λ seen. all_rows seen
+            ≡ covered grants.now user.now (all_rows self.now)) }
     {
+        let mut blocks = Vec::new(alloc);
+        let mut count = 0;
         for block in &self.blocks {
-            block.rows().grant(grants, user, kept)?;
+            if let Some(seen) = block.seen(alloc, grants, user)? {
+                count = seen.rows().len().checked_add(count).ok_or(AllocError)?;
+                blocks.push(seen)?;
+            }
         }
-        Ok(())
+        Ok(Blocks { blocks, count })
+    }
+
+    /// How many blocks there are.
+    pub(crate) fn block_count(&self) -> usize
+        ensures count { result ≡ length self.now }
+        ensures few { length self.now ≤ length (all_rows self.now) }
+    {
+        self.blocks.len()
+    }
+
+    /// The rows of the block of that number.
+    pub(crate) fn block(&self, i: usize) -> &SortedRows
+        requires { i < length self.now }
+        ensures rows { slice_get self.now i ≡ Some result.now }
+        ensures few { length result.now ≤ block_rows }
+    {
+        self.blocks[i].rows()
+    }
+
+    /// The number of the block in which a row with the path stands, and its place there, by halving; None where there is
+    /// none.
+    pub(crate) fn place_of(&self, path: &str) -> Option<(usize, usize)>
+        ensures { MatchOption result (has_path path.now (all_rows self.now) ≡ false)
+            (λ at. (at.0 < length self.now) × (path_at (all_rows self.now)
+            (length (all_rows (take at.0 self.now)) + at.1) ≡ Some path.now)) }
+    {
+        let block = self.place(path)?;
+        match self.blocks[block].rows().find(path) {
+            Ok(row) => Some((block, row)),
+            Err(_) => None,
+        }
     }
 }
 

@@ -5,17 +5,12 @@ use std::cmp::Ordering;
 use std::marker::Model;
 use std::sync::Arc;
 
-/// What stands at a path.
-#[derive(Drop)]
-struct Stored {
-    path: PathText,
-    paths: SharedPaths,
-}
-
-/// A row of a version, held by all versions that have it. A contract sees a file at its path.
+/// A row of a version, held by all versions that have it: its path and its file, each behind a counter of its own, so
+/// that a query comes to the file with no look at the path. A contract sees a file at its path.
 #[derive(Drop)]
 pub(crate) struct RowHandle {
-    stored: Arc<Stored, Global>,
+    path: Arc<PathText, Global>,
+    paths: SharedPaths,
 }
 
 impl Model for RowHandle {
@@ -25,9 +20,9 @@ impl Model for RowHandle {
 
     ghost Value = { FileRow };
 
-    ghost view = { λ r. file_row (arc_value r.stored).path (arc_value r.stored).paths };
+    ghost view = { λ r. file_row (arc_value r.path) r.paths };
 
-    ghost invariant = { λ r. IsSourceFile (arc_value r.stored).paths };
+    ghost invariant = { λ r. IsSourceFile r.paths };
 }
 
 impl RowHandle {
@@ -44,12 +39,9 @@ impl RowHandle {
         ensures { IfOk result (λ row. row ≡ file_row path.now paths.now) }
     {
         let _set = paths.get();
-        let stored = Stored {
-            path: PathText::of(alloc, path.as_str())?,
-            paths: paths.share()?,
-        };
         Ok(RowHandle {
-            stored: Arc::new(alloc, stored)?,
+            path: Arc::new(alloc, PathText::of(alloc, path.as_str())?)?,
+            paths: paths.share()?,
         })
     }
 
@@ -58,7 +50,8 @@ impl RowHandle {
         ensures { IfOk result (λ row. row ≡ self.now) }
     {
         Ok(RowHandle {
-            stored: Arc::try_clone(&self.stored)?,
+            path: Arc::try_clone(&self.path)?,
+            paths: self.paths.share()?,
         })
     }
 
@@ -67,14 +60,14 @@ impl RowHandle {
         ensures value { result.now ≡ self.now.path }
         ensures sets { IsSourceFile self.now.file }
     {
-        self.stored.path.as_str()
+        self.path.as_str()
     }
 
     /// The row's file.
     pub(crate) fn paths(&self) -> &SharedPaths
         ensures { result.now ≡ self.now.file }
     {
-        &self.stored.paths
+        &self.paths
     }
 
     /// The weight of the row's file.

@@ -21,7 +21,7 @@ impl Model for SortedRows {
 }
 
 impl SortedRows {
-    ghost use Rattle.std.specs.Prelude.{◌≡◌, ◌<◌, ◌≤◌, ◌+◌, ◌++◌, [], length, take, drop, slice_get, Some, IfOk, IfErr, OnOk, OnErr, MatchOption, false};
+    ghost use Rattle.std.specs.Prelude.{◌≡◌, ◌<◌, ◌≤◌, ◌+◌, ◌++◌, [], length, take, drop, slice_get, Some, IfOk, IfErr, IsTrue, OnOk, OnErr, MatchOption, false};
     ghost use Rattle.version_tree.specs.Contents.{FileRow, AreRows, has_path, with_row, without_row, covered};
     ghost use Rattle.version_tree.specs.Verdict.{weight_of};
     ghost use Rattle.partial_path.specs.PathSets.{FileRules};
@@ -132,6 +132,18 @@ impl SortedRows {
         let SortedRows { mut rows } = self;
         let later = rows.split_off(at)?;
         Ok((SortedRows { rows }, SortedRows { rows: later }))
+    }
+
+    /// Whether the user may see all of the rows.
+    pub(crate) fn are_covered(&self, grants: &Grants, user: &str) -> bool
+        ensures { IsTrue result → covered grants.now user.now self.now ≡ self.now }
+    {
+        for row in &self.rows {
+            if !grants.covers(user, row.path()) {
+                return false;
+            }
+        }
+        true
     }
 
     /// Adds those of the rows that the user may see, in their order. The one error is want of

@@ -27,7 +27,8 @@ impl Model for Store {
 }
 
 impl Store {
-    ghost use Rattle.std.specs.Prelude.{◌≡◌, [], ◌++◌, length, slice_get, IfOk, OnOk, MatchOption, false, option_copied};
+    ghost use Rattle.std.specs.Prelude.{◌≡◌, [], length, slice_get, IfOk, MatchOption, false, option_copied};
+    ghost use Rattle.version_tree.specs.Blocks.{all_rows};
     ghost use Rattle.version_tree.specs.Contents.{AreRows, has_path, with_row, without_row, covered};
     ghost use Rattle.version_tree.specs.Places.{IsRowWith};
     ghost use Rattle.version_tree.specs.Verdict.{weight_of};
@@ -119,18 +120,15 @@ impl Store {
         Ok(Store { blocks, weight })
     }
 
-    /// Adds those of the rows that the user may see, in their order. The one error is want of
-    /// memory.
-    pub(crate) fn grant(
+    /// Those of the rows that the user may see, in blocks. The one error is want of memory.
+    pub(crate) fn seen(
         &self,
+        alloc: Global,
         grants: &Grants,
         user: &str,
-        kept: &mut Vec<RowHandle>,
-    ) -> Result<(), AllocError>
-        ensures kept { OnOk result (kept.new.items
-            ≡ kept.old.items ++ covered grants.now user.now self.now) }
-        ensures rows { AreRows self.now }
+    ) -> Result<Blocks, AllocError>
+        ensures { IfOk result (λ seen. all_rows seen ≡ covered grants.now user.now self.now) }
     {
-        self.blocks.grant(grants, user, kept)
+        self.blocks.seen(alloc, grants, user)
     }
 }

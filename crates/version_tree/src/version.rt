@@ -114,12 +114,11 @@ impl Version {
     }
 
     /// What the user sees: the granted files in the order of their paths. The one error is want of
-    /// memory.
+    /// memory. Files that stand together and are all seen are shared together.
     pub fn view(&self, alloc: Global, user: &str) -> Result<View, AllocError>
         ensures { IfOk result (λ view. view ≡ granted_rows user.now self.now.content) }
     {
-        let mut kept = Vec::new(alloc);
-        self.rows.grant(self.grants.get(), user, &mut kept)?;
-        Ok(View::of(kept))
+        let seen = self.rows.seen(alloc, self.grants.get(), user)?;
+        View::of(alloc, seen)
     }
 }

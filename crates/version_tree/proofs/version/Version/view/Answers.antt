@@ -1,16 +1,12 @@
-use Rattle.std.proofs.Common.{arith}
+use Rattle.std.proofs.Common.{ap, arith, length}
 use Rattle.list_facts.proofs.Tests.{filter-short}
-use Rattle.version_tree.proofs.Parts.{filter-rows}
 use Rattle.version_tree.specs.Contents.{FileRow}
 use Rattle.grants.specs.Covers.{covers}
 use Rattle.version_tree.proofs.version.Version.view.Goals as goal
 
-pub of-requires-clause-rows : goal.of-requires-clause-rows
-of-requires-clause-rows c =
-    rw (c.in_ok-grant.ensures.kept, c.new-kept.ensures.items) (filter-rows _ _ c.in_ok-grant.ensures.rows)
-
-pub of-requires-clause-few : goal.of-requires-clause-few
-of-requires-clause-few c =
+pub of-requires : goal.of-requires
+of-requires c =
     let short = filter-short (λ (row : FileRow). covers c.get.result.now c.args.user.now row.path) c.self.inside.rows in
     let few = c.self.invariant.count in
-    rw (c.in_ok-grant.ensures.kept, c.new-kept.ensures.items) (omega (arith, short, few))
+    let same = ap length c.in_ok-seen.ensures in
+    omega (arith, short, few, same)
