@@ -71,7 +71,9 @@ impl View {
         ensures { slice_get self.now file ≡ Some result.now }
     {
         let place = self.places[file as usize];
-        self.blocks.block(place.block as usize).row(place.row as usize)
+        self.blocks
+            .block(place.block as usize)
+            .row(place.row as usize)
     }
 
     /// How many files are seen. All of them stand in the order of the bytes of their paths, each with the

@@ -15,8 +15,7 @@ loop-i-preserved c =
     let told = ap length c.loop-i.invariant.1 in
     let all = places-all 0 (take c.loop-i.i blocks) in
     let told-2 = c.len-in-loop-i.ensures in
-    let before : c.len-in-loop-i.result ≡ 0 + length (all_rows (take c.loop-i.i blocks)) = omega (arith, table, told, all, told-2) in
-    (
+    let before : c.len-in-loop-i.result ≡ 0 + length (all_rows (take c.loop-i.i blocks)) = omega (arith, table, told, all, told-2) in (
       c.in_ok-push.ensures.items
           ∙ ap (λ r. r ++ c.len-in-loop-i.result ∷ []) c.loop-i.invariant.0
           ∙ ap (λ n. starts_from 0 (take c.loop-i.i blocks) ++ n ∷ []) before
