@@ -1,5 +1,5 @@
 -- Short texts with one head are the same, and six heads are those of a key.
-use Rattle.std.proofs.Common.{◌≡◌, refl, sym, ap, false, true, ℕ, zero, suc, ◌%◌, ◌≤◌, List, [], ◌∷◌, Option, Some, None, slice_get, arith}
+use Rattle.std.proofs.Common.{◌≡◌, refl, sym, ◌∙◌, ap, subst, false, true, ℕ, zero, suc, ◌%◌, ◌≤◌, List, [], ◌∷◌, Option, Some, None, slice_get, arith}
 use Rattle.std.specs.Ordering.{nat_cmp}
 use Rattle.std.specs.Option.{is_some, option_cmp, option_map}
 use Rattle.std.specs.declared.cmp.Ordering.{Ordering}
@@ -49,3 +49,8 @@ asks_told n (Some t) p some = refl
 pub asks_none : (n : ℕ) (o : Option (List ℕ)) → IsHeadAt n o → n ≡ 0 → false ≡ is_some o
 asks_none n None p none = refl
 asks_none n (Some t) p none = absurd (let some = some_head n t p in omega (arith, some, none))
+
+-- a head that another place doesn't have: its text isn't there
+pub other_text : (a b : ℕ) (x y : Option (List ℕ)) → IsHeadAt a x → IsHeadAt b y → (a ≡ 0 → ⊥) → (a ≡ b → ⊥) → (text : List ℕ) × (x ≡ Some text) × (y ≡ Some text → ⊥)
+other_text a b None y p q some other = absurd (some p)
+other_text a b (Some text) y p q some other = (text, refl, λ e. other (p.value ∙ sym (subst (IsHeadAt b) e q).value))

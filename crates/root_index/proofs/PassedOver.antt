@@ -1,24 +1,27 @@
 -- The paths that a look-up in an index passes over: the path at which it stands tells that none of them is offered.
-use Rattle.std.proofs.Common.{◌≡◌, refl, sym, ◌∙◌, ap, ℕ, zero, suc, ◌+◌, ◌-◌, ◌<◌, ◌≤◌, List, [], ◌∷◌, length, take, drop, get_or, Bool, true, false, cond, Option, None, Some, arith, min, slice_get, inl, inr}
+use Rattle.std.proofs.Common.{◌≡◌, refl, sym, ◌∙◌, ap, subst, ℕ, zero, suc, ◌+◌, ◌-◌, ◌<◌, ◌≤◌, List, [], ◌∷◌, length, take, drop, get_or, Bool, true, false, cond, Option, None, Some, arith, min, slice_get, inl, inr}
 use Rattle.std.specs.Prelude.{filter, ◌&&◌, nat_eq}
 use Rattle.std.specs.List.{prefix_len}
 use Rattle.std.specs.List.Sorted.{IsPartitionedBy}
 use Rattle.std.specs.Option.{option_map_or}
-use Rattle.std.specs.Ordering.{is_lt, is_eq, ordering_index}
+use Rattle.std.specs.Ordering.{nat_cmp, is_lt, is_eq, ordering_index, ordering_then}
+use Rattle.std.specs.Cmp.Lexicographic.{slice_cmp, texts_ties}
+use Rattle.std.specs.Cmp.{tied_then}
 use Rattle.std.specs.declared.cmp.Ordering.{Ordering}
 use Rattle.std.specs.declared.cmp.Ordering.TheVariants.{Less, Equal, Greater}
 use Rattle.std.proofs.lemmas.Bool.{cases_Bool, cases_lt, false≢true}
 use Rattle.std.proofs.lemmas.Bool.Decides.{nat_tests}
 use Rattle.std.proofs.lemmas.List.{drop_more, length-drop, get_or-drop}
 use Rattle.std.proofs.lemmas.List.Sums.{prefix_len-le-length, prefix_len_passes, prefix_len_stops}
-use Rattle.std.proofs.lemmas.Option.{slice_get_within, get_or_from_slice_get}
+use Rattle.std.proofs.lemmas.Option.{none-some, slice_get_within, get_or_from_slice_get}
+use Rattle.std.proofs.lemmas.Slice.Eq.{bytes_eq-Decides}
 use Rattle.std.proofs.Math.ListN.{drop_of_length-le}
 use Rattle.stacks_vars.specs.declared.items.SymbolItem.{SymbolItem}
-use Rattle.partial_path.specs.Keys.{texts}
+use Rattle.partial_path.specs.Keys.{key_cmp, texts}
 use Rattle.partial_path.proofs.Halved.{filter_none}
-use Rattle.partial_path.proofs.Standing.{stands_is, stands_short}
+use Rattle.partial_path.proofs.Standing.{first_of, second_of, stands_is, stands_short}
 use Rattle.root_index.specs.Roots.{RootPath, root_key, AreByRank}
-use Rattle.root_index.specs.Inside.{key_order, is_before_key}
+use Rattle.root_index.specs.Inside.{IsOtherwise, key_order, is_before_key}
 use Rattle.root_index.specs.Offers.{asks}
 use Rattle.root_index.proofs.KeyOrders.{keys_rise, root_key_short}
 use Rattle.root_index.proofs.Meeting.{less_longer, greater_shorter}
@@ -154,3 +157,81 @@ comes_next paths symbols place p here told =
 -- where there is no path none is left
 pub none_left : (paths : List RootPath) (symbols : List SymbolItem) (place : ℕ) → length paths ≤ place → filter (asks symbols) (drop place paths) ≡ []
 none_left paths symbols place past = ap (filter (asks symbols)) (drop_of_length-le paths past)
+
+-- keys that tie are one
+key_tied : (a b : List (List ℕ)) → is_eq (key_cmp a b) ≡ true → a ≡ b
+key_tied [] [] e = refl
+key_tied [] (y ∷ b) e = absurd (false≢true e)
+key_tied (x ∷ a) [] e = absurd (false≢true e)
+key_tied (x ∷ a) (y ∷ b) e =
+    let both : is_eq (slice_cmp nat_cmp x y) && is_eq (key_cmp a b) ≡ true = tied_then (slice_cmp nat_cmp x y) (key_cmp a b) ∙ e in
+    let same : x ≡ y = (bytes_eq-Decides x y).0 (texts_ties x y ∙ first_of (is_eq (slice_cmp nat_cmp x y)) (is_eq (key_cmp a b)) both) in
+    let rest : a ≡ b = key_tied a b (second_of (is_eq (slice_cmp nat_cmp x y)) (is_eq (key_cmp a b)) both) in
+    λ i. same i ∷ rest i
+
+eq_one : (r : Ordering) → is_eq r ≡ true → ordering_index r ≡ 1
+eq_one Less f = absurd (false≢true f)
+eq_one Equal f = refl
+eq_one Greater f = absurd (false≢true f)
+
+-- a path in order behind an offered one that doesn't begin with its key is behind all keys of the stack's first symbols
+later_by : (x y : List ℕ) (k t : List (List ℕ)) (rest : Ordering) (o : IsOtherwise (y ∷ t) (x ∷ k)) (r : Ordering) → slice_cmp nat_cmp x y ≡ r → ordering_then r rest ≡ Greater
+    → (later : Ordering) → (rest ≡ Greater → IsOtherwise t k → later ≡ Greater) → ordering_then (slice_cmp nat_cmp x y) later ≡ Greater
+later_by x y k t rest o Less is e later on = absurd (false≢true (sym (ap is_lt e)))
+later_by x y k t rest o Greater is e later on = ap (λ r. ordering_then r later) is
+later_by x y k t rest o Equal is e later on = ap (λ r. ordering_then r later) is ∙ on e (deeper o.place o.there o.other_there)
+  where
+    same : x ≡ y
+    same = (bytes_eq-Decides x y).0 (texts_ties x y ∙ ap is_eq is)
+
+    deeper : (i : ℕ) → slice_get (y ∷ t) i ≡ Some o.text → (slice_get (x ∷ k) i ≡ Some o.text → ⊥) → IsOtherwise t k
+    deeper zero there other = absurd (other (ap Some same ∙ there))
+    deeper (suc i) there other = record { place = i; text = o.text; there = there; other_there = other }
+
+later_behind : (k t : List (List ℕ)) (n m : ℕ) → key_cmp k (take n t) ≡ Greater → IsOtherwise (take n t) k → n ≤ m → key_cmp k (take m t) ≡ Greater
+later_behind k t zero m e o le = absurd (none-some o.text o.there)
+later_behind k [] (suc n) m e o le = absurd (none-some o.text o.there)
+later_behind [] (y ∷ t) (suc n) m e o le = absurd (false≢true (sym (ap is_lt e)))
+later_behind (x ∷ k) (y ∷ t) (suc n) zero e o le = absurd (omega (arith, le))
+later_behind (x ∷ k) (y ∷ t) (suc n) (suc m) e o le =
+    later_by x y k (take n t) (key_cmp k (take n t)) o (slice_cmp nat_cmp x y) refl e (key_cmp k (take m t)) (λ f p. later_behind k t n m f p (omega (arith, le)))
+
+-- behind an offered path none is offered where the next one doesn't begin with its key
+pub none_after : (paths : List RootPath) (symbols : List SymbolItem) (place : ℕ) (p q : RootPath) → AreByRank paths → slice_get paths place ≡ Some p → slice_get paths (place + 1) ≡ Some q
+    → IsOtherwise (root_key p) (root_key q) → asks symbols p ≡ true → filter (asks symbols) (drop (place + 1) paths) ≡ []
+none_after paths symbols place p q sorted here next other told =
+    none_behind paths symbols (place + 1) (min 6 (length symbols)) q sorted next behind refl
+  where
+    size : ℕ
+    size = length (root_key p)
+
+    few : size ≤ length symbols
+    few = stands_short (root_key p) symbols told
+
+    tie : is_eq (key_order (take size (texts symbols)) p) ≡ true
+    tie = stands_is (root_key p) symbols size few ∙ (λ i. told i && (nat_self size) i)
+      where
+        nat_self : (m : ℕ) → nat_eq m m ≡ true
+        nat_self m = grind (arith, nat_tests)
+
+    is_key : root_key p ≡ take size (texts symbols)
+    is_key = key_tied (root_key p) (take size (texts symbols)) tie
+
+    otherwise : IsOtherwise (take size (texts symbols)) (root_key q)
+    otherwise = subst (λ (k : List (List ℕ)). IsOtherwise k (root_key q)) is_key other
+
+    rises : ordering_index (key_order (take size (texts symbols)) p) ≤ ordering_index (key_order (take size (texts symbols)) q)
+    rises =
+        let inside = slice_get_within paths (place + 1) q next in
+        let up = keys_rise paths (take size (texts symbols)) sorted place (place + 1) p (omega arith) inside in
+        let first = ap (λ (x : RootPath). ordering_index (key_order (take size (texts symbols)) x)) (get_or_from_slice_get paths place p p here) in
+        let second = ap (λ (x : RootPath). ordering_index (key_order (take size (texts symbols)) x)) (get_or_from_slice_get paths (place + 1) q p next) in
+        omega (arith, up, first, second)
+
+    behind : key_order (take (min 6 (length symbols)) (texts symbols)) q ≡ Greater
+    behind = later_behind (root_key q) (texts symbols) size (min 6 (length symbols)) (above (key_order (take size (texts symbols)) q) refl) otherwise (let short = root_key_short p in omega (arith, few, short))
+      where
+        above : (r : Ordering) → key_order (take size (texts symbols)) q ≡ r → key_order (take size (texts symbols)) q ≡ Greater
+        above Less is = absurd (let up = rises in let low : ordering_index (key_order (take size (texts symbols)) q) ≡ 0 = ap ordering_index is in let tied = eq_one (key_order (take size (texts symbols)) p) tie in omega (arith, up, low, tied))
+        above Equal is = absurd (other.other_there (sym (ap (λ (k : List (List ℕ)). slice_get k other.place) (is_key ∙ sym (key_tied (root_key q) (take size (texts symbols)) (ap is_eq is)))) ∙ other.there))
+        above Greater is = is

@@ -170,7 +170,7 @@ impl RootIndex {
             ≡ (found.0, found.1) ∷ offers_left found.2 symbols.now view.now self.now) }
     {
         let mut at = at;
-        while let Some((slot, after)) = next_slot(&self.slots, symbols, at) {
+        while let Some((slot, _, after)) = next_slot(&self.slots, symbols, at) {
             at = after;
             if let Some(file) = number_in(view, slot.path(), slot.row()) {
                 return Some((file, slot.rule(), after));
@@ -212,9 +212,9 @@ impl RootIndex {
             ≡ (found.0, found.1) ∷ offers_left found.2 symbols.now _view.now self.now) }
     {
         let mut at = at;
-        while let Some((slot, after)) = next_slot(&self.slots, symbols, at) {
+        while let Some((slot, place, after)) = next_slot(&self.slots, symbols, at) {
             at = after;
-            if let Some(file) = files.at(after.place - 1) {
+            if let Some(file) = files.at(place) {
                 return Some((file, slot.rule(), after));
             }
         }

@@ -1,10 +1,11 @@
 //! Taking from an index what it offers to a stack of symbols, path by path.
-ghost use Rattle.std.specs.Prelude.{◌≡◌, ◌≤◌, ◌<◌, ◌-◌, [], ◌∷◌, take, slice_get, true, false, Some, IfSome, MatchOption};
+ghost use Rattle.std.specs.Prelude.{◌≡◌, ◌≤◌, ◌<◌, ◌+◌, List, [], ◌∷◌, take, drop, filter, slice_get, true, false, Some, IfSome, MatchOption};
+ghost use Rattle.stacks_vars.specs.declared.items.SymbolItem.{SymbolItem};
 ghost use Rattle.std.specs.List.{prefix_len};
 ghost use Rattle.std.specs.Option.{option_map_or};
 ghost use Rattle.partial_path.specs.Keys.{key_size, texts};
 ghost use Rattle.root_index.specs.Roots.{AreByRank};
-ghost use Rattle.root_index.specs.Offers.{paths_left};
+ghost use Rattle.root_index.specs.Offers.{asks, paths_left};
 ghost use Rattle.root_index.specs.Inside.{is_before_key};
 
 use crate::group_list::GroupList;
@@ -24,37 +25,51 @@ pub struct RootOffers {
     pub near: usize,
 }
 
-/// The path that comes next, whoever may see it, and where the look-up stands after it, which is right behind its place;
-/// None where there is no more. The paths are in order: one that isn't offered tells by how it stands to the stack's
-/// symbols which may come next.
+/// The path that comes next, whoever may see it, with its place, and where the look-up stands after it; None where there is
+/// no more. The paths are in order: one that isn't offered tells by how it stands to the stack's symbols which may come
+/// next.
 pub(crate) fn next_slot<'a>(
     slots: &'a GroupList,
     symbols: &LentStack<'_>,
     at: RootOffers,
-) -> Option<(&'a Slot, RootOffers)>
+) -> Option<(&'a Slot, usize, RootOffers)>
     requires { AreByRank slots.now }
     ensures next { MatchOption result (paths_left at symbols.now slots.now ≡ [])
         (λ found. paths_left at symbols.now slots.now
-        ≡ found.0.now ∷ paths_left found.1 symbols.now slots.now) }
-    ensures behind { IfSome result (λ found. 0 < found.1.place) }
-    ensures there { IfSome result
-        (λ found. slice_get slots.now (found.1.place - 1) ≡ Some found.0.now) }
+        ≡ found.0.now ∷ paths_left found.2 symbols.now slots.now) }
+    ensures there { IfSome result (λ found. slice_get slots.now found.1 ≡ Some found.0.now) }
 {
     let most = KEY_SIZE.min(symbols.len());
     let all = slots.len();
     let mut here = at;
     while here.place < all {
-        let (slot, near) = slots.at(here.place, here.near);
+        let place = here.place;
+        let (slot, near) = slots.at(place, here.near);
         match meet(slot, symbols, most) {
-            Met::Asks => {
-                let place = here.place + 1;
-                return Some((slot, RootOffers { place, near }));
-            }
-            Met::Before(count) => here = passed(slots, symbols, count + 1, here.place, near),
+            Met::Asks => return Some((slot, place, behind(slots, slot, place, near))),
+            Met::Before(count) => here = passed(slots, symbols, count + 1, place, near),
             Met::Behind => return None,
         }
     }
     None
+}
+
+/// Where a look-up stands after the path at the place, which is offered: before the next one, or behind all where no
+/// path behind asks first for what this one asks for, as the heads of the next one tell. So it mostly ends with the last
+/// path that it offers, with no look at a text.
+fn behind(slots: &GroupList, slot: &Slot, place: usize, near: usize) -> RootOffers
+    requires order { AreByRank slots.now }
+    requires there { slice_get slots.now place ≡ Some slot.now }
+    ensures { (symbols : List SymbolItem) → asks symbols slot.now ≡ true
+        → paths_left result symbols slots.now
+        ≡ filter (asks symbols) (drop (place + 1) slots.now) }
+{
+    let all = slots.len();
+    let next = place + 1;
+    match slots.get(next, near) {
+        Some((other, _)) if slot.ends_before(other) => RootOffers { place: all, near },
+        _ => RootOffers { place: next, near },
+    }
 }
 
 /// A later place than that of a path which stands before the key of so many symbols, such that each path before it stands

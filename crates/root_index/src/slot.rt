@@ -1,6 +1,6 @@
 use crate::file_handle::FileHandle;
 use crate::key_heads::{heads_cmp, heads_of, heads_order, heads_side, stand_before};
-use partial_path::{StoredPath, key_side, keys_cmp};
+use partial_path::{KEY_SIZE, StoredPath, key_side, keys_cmp};
 use stacks_vars::{LentStack, Symbol};
 use std::alloc::AllocError;
 use std::cmp::Ordering;
@@ -30,14 +30,14 @@ impl Model for Slot {
 }
 
 impl Slot {
-    ghost use Rattle.std.specs.Prelude.{◌≡◌, ◌<◌, ◌≤◌, Some, IfOk, length, take, slice_get};
+    ghost use Rattle.std.specs.Prelude.{◌≡◌, ◌<◌, ◌≤◌, Some, IfOk, IsTrue, length, take, slice_get};
     ghost use Rattle.std.specs.Cmp.Lexicographic.{slice_cmp};
     ghost use Rattle.std.specs.Option.{is_some, option_map};
     ghost use Rattle.std.specs.Ordering.{nat_cmp, ordering_then};
     ghost use Rattle.version_tree.specs.Contents.{path_cmp};
     ghost use Rattle.partial_path.specs.Keys.{key_cmp, key_size, texts};
     ghost use Rattle.root_index.specs.Roots.{root_path, root_key, rank, rank_cmp};
-    ghost use Rattle.root_index.specs.Inside.{key_order};
+    ghost use Rattle.root_index.specs.Inside.{IsOtherwise, key_order};
 
     /// The path at that place of the file.
     pub(crate) fn of(file: FileHandle, place: usize) -> Slot
@@ -106,6 +106,22 @@ impl Slot {
         ensures { result ≡ is_some (slice_get (root_key self.now) i) }
     {
         self.heads[i] != 0
+    }
+
+    /// Whether the heads tell that the other path doesn't ask first for what this one asks for.
+    pub(crate) fn ends_before(&self, other: &Slot) -> bool
+        ensures { IsTrue result → IsOtherwise (root_key self.now) (root_key other.now) }
+    {
+        for i in 0..KEY_SIZE {
+            let head = self.heads[i];
+            if head == 0 {
+                return false;
+            }
+            if head != other.heads[i] {
+                return true;
+            }
+        }
+        false
     }
 
     /// How its key stands to the texts of the stack's first symbols, so many of them: as the heads of its symbols

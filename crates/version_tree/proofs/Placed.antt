@@ -1,12 +1,14 @@
 -- Rows in blocks that are seen, and where each of them stands.
-use Rattle.std.proofs.Common.{◌≡◌, refl, sym, ◌∙◌, ap, subst, ℕ, zero, suc, ◌+◌, ◌-◌, ◌<◌, ◌≤◌, List, [], ◌∷◌, ◌++◌, length, take, drop, get_or, Some, arith, slice_get, append-nil, inl, inr, nat_eq, false}
+use Rattle.std.proofs.Common.{◌≡◌, refl, sym, ◌∙◌, ap, subst, ℕ, zero, suc, ◌+◌, ◌-◌, ◌<◌, ◌≤◌, List, [], ◌∷◌, ◌++◌, length, take, drop, get_or, Some, arith, slice_get, append-nil, inl, inr, nat_eq, true, false, cond}
 use Rattle.std.specs.List.{AllByRecursion}
 use Rattle.std.specs.Option.{option_map}
 use Rattle.std.proofs.lemmas.Bool.{cases_lt}
 use Rattle.std.proofs.lemmas.List.{length-append, take_more, append_assoc}
 use Rattle.std.proofs.lemmas.List.Elements.{filter-append}
 use Rattle.std.proofs.lemmas.Option.{slice_get-get_or, slice_get_within, get_or_from_slice_get, same_Some, none-some}
-use Rattle.grants.specs.Covers.{Rules, covers}
+use Rattle.std.specs.Prelude.{codes, ◌||◌}
+use Rattle.std.specs.Str.{bytes_eq}
+use Rattle.grants.specs.Covers.{Rules, covers, is_granted}
 use Rattle.list_facts.specs.Places.{IsAt}
 use Rattle.list_facts.proofs.Tests.{filter-short}
 use Rattle.version_tree.specs.Contents.{FileRow, AreRows, covered}
@@ -19,6 +21,16 @@ use Rattle.version_tree.proofs.Parts.{filter-rows}
 use Rattle.version_tree.proofs.Found.{at-path}
 use Rattle.version_tree.proofs.Joined.{rows-append, slice_get-left, slice_get-right, some-of}
 use Rattle.version_tree.proofs.ByBlock.{rows-around}
+
+-- the operator sees all rows
+operator-covers : (rules : Rules) (user path : List ℕ) → bytes_eq user (codes "operator") ≡ true → covers rules user path ≡ true
+unfolding covers
+operator-covers rules user path e = ap (λ b. b || is_granted rules user path) e
+
+pub operator-sees : (rules : Rules) (user : List ℕ) (rows : List FileRow) → bytes_eq user (codes "operator") ≡ true → covered rules user rows ≡ rows
+operator-sees rules user [] e = refl
+operator-sees rules user (row ∷ rows) e =
+    ap (λ b. cond b (row ∷ covered rules user rows) (covered rules user rows)) (operator-covers rules user row.path e) ∙ ap (λ r. row ∷ r) (operator-sees rules user rows e)
 
 -- each block has a row at least
 pub blocks-few : (blocks : List (List FileRow)) → AllByRecursion IsBlock blocks → length blocks ≤ length (all_rows blocks)

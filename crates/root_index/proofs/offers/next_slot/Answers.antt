@@ -1,4 +1,4 @@
-use Rattle.std.proofs.Common.{◌∙◌, arith}
+use Rattle.std.proofs.Common.{◌∙◌, ap, sym, arith, ◌∷◌}
 use Rattle.root_index.proofs.PassedOver.{passed_over, none_behind, comes_next, none_left}
 use Rattle.root_index.proofs.offers.next_slot.Goals as goal
 
@@ -7,6 +7,7 @@ returns-in-Asks-clause-next c =
     c.loop-here.invariant
     ∙ comes_next c.args.slots.now c.args.symbols.now c.loop-here.here.place c.at-near.result.0.now c.at-near.ensures
     c.in-Asks.ensures
+    ∙ ap (λ r. c.at-near.result.0.now ∷ r) (sym (c.behind.ensures c.args.symbols.now c.in-Asks.ensures))
 
 pub returns-in-Behind-clause-next : goal.returns-in-Behind-clause-next
 returns-in-Behind-clause-next c =
