@@ -9,6 +9,9 @@ use std::alloc::{AllocError, Global};
 /// For how many edges besides its own a copy has room: a path is copied to be made longer.
 const MORE_EDGES: usize = 3;
 
+/// For how many symbols besides its own a copy has room that asks for some, or makes some.
+const MORE_SYMBOLS: usize = 2;
+
 /// The parts of the path once more. The one error is want of memory. It costs the size of the path; its symbols
 /// are shared and not copied.
 pub(crate) fn copied(alloc: Global, path: &PartialPath) -> Result<PathParts, AllocError>
@@ -53,7 +56,7 @@ fn copied_post(alloc: Global, post: &Post) -> Result<Post, AllocError>
 fn copied_pats(alloc: Global, pats: &[SymPat]) -> Result<Listed<SymPat>, AllocError>
     ensures { IfOk result (λ copy. copy ≡ pats.now) }
 {
-    let mut symbols = Vec::with_capacity(alloc, pats.len())?;
+    let mut symbols = Vec::with_capacity(alloc, room_for(pats.len()))?;
     for pat in pats {
         symbols.push(copied_pat(alloc, pat)?)?;
     }
@@ -64,11 +67,20 @@ fn copied_pats(alloc: Global, pats: &[SymPat]) -> Result<Listed<SymPat>, AllocEr
 fn copied_outs(alloc: Global, outs: &[SymOut]) -> Result<Listed<SymOut>, AllocError>
     ensures { IfOk result (λ copy. copy ≡ outs.now) }
 {
-    let mut symbols = Vec::with_capacity(alloc, outs.len())?;
+    let mut symbols = Vec::with_capacity(alloc, room_for(outs.len()))?;
     for out in outs {
         symbols.push(copied_out(alloc, out)?)?;
     }
     Ok(Listed::of(symbols))
+}
+
+/// For how many symbols a copy of so many has room; it takes no memory for none.
+fn room_for(count: usize) -> usize {
+    if count == 0 {
+        0
+    } else {
+        count.saturating_add(MORE_SYMBOLS)
+    }
 }
 
 /// A symbol asked for, once more: its text is shared.

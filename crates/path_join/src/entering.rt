@@ -12,6 +12,9 @@ use std::alloc::{AllocError, Global};
 /// For how many symbols a path has room that pushes one: half of such paths push two more.
 const MADE_ROOM: usize = 3;
 
+/// For how many one has room that pops one: some pop two more.
+const ASKED_ROOM: usize = 3;
+
 /// The path that leaves the stacks as they are. It takes no memory.
 #[tactic(auto, using(crate::proofs::CodeUnits::ruled))]
 pub(crate) fn passing(alloc: Global, start: Start, end: End, edges: Vec<EdgeAt>) -> PartialPath
@@ -60,7 +63,7 @@ fn asked_by(alloc: Global, kind: &NodeKind) -> Result<Pre, AllocError>
 fn popped(alloc: Global, symbol: &Name, scopes: Option<Held<ScopePat>>) -> Result<Pre, AllocError>
     ensures { IfOk result (λ pre. pre ≡ asks (pat_of symbol.now scopes ∷ [])) }
 {
-    let mut symbols = Vec::with_capacity(alloc, 1)?;
+    let mut symbols = Vec::with_capacity(alloc, ASKED_ROOM)?;
     symbols.push(SymPat {
         symbol: symbol_of(symbol)?,
         scopes,

@@ -71,14 +71,17 @@ fn node_entered(
     }
 }
 
-/// Room for one item more where there are none, and for no others: most paths ask for one symbol and make one.
+/// For how many symbols there is room once there is one: most paths ask for fewer and make fewer.
+const FIRST_ROOM: usize = 3;
+
+/// Room for the first items where there are none: so most vectors never grow.
 fn room_for_first<T>(items: &mut Vec<T>) -> Result<(), AllocError>
     ensures { items.new.items ≡ items.old.items }
 {
     if !items.is_empty() {
         return Ok(());
     }
-    items.reserve_exact(1)
+    items.reserve_exact(FIRST_ROOM)
 }
 
 /// Puts this symbol in front of those that the path makes.
