@@ -1,5 +1,5 @@
 -- What a user sees as a source of stored paths: files by number, and the index of those from the root.
-use Rattle.std.specs.Prelude.{ℕ, List}
+use Rattle.std.specs.Prelude.{◌≡◌, ℕ, List}
 use Rattle.stacks_vars.specs.declared.items.SymbolItem.{SymbolItem}
 use Rattle.partial_path.specs.declared.file_list.ListOffers.{ListOffers}
 use Rattle.partial_path.specs.declared.offers.FileOffers.{FileOffers}
@@ -11,6 +11,8 @@ use Rattle.version_tree.specs.Contents.{FileRow}
 use Rattle.root_index.specs.Roots.{RootPath}
 use Rattle.root_index.specs.Offers.{files_of}
 use Rattle.root_index.specs.Offers as roots
+use Rattle.root_index.specs.SeenFiles.{AreSeenFiles}
+use Rattle.nav_answers.specs.declared.source.ForMany.{ForMany}
 use Rattle.nav_answers.specs.declared.source.ViewOffers.{ViewOffers}
 use Rattle.nav_answers.specs.declared.source.ViewOffers.TheVariants.{Inside, Roots}
 
@@ -35,3 +37,8 @@ in_file file inside = record { file = file; inside = inside }
 -- the graphs of the files that are seen
 abbrev pub graphs_seen : List FileRow → List Graph
 graphs_seen rows = graphs_of (files_of rows)
+
+-- what serves look-ups in these rows by the index
+pub record IsForMany (rows : List FileRow) (paths : List RootPath) (many : ForMany) : Type 0 where
+  pub numbers : AreSeenFiles paths rows many.numbers
+  pub table : many.table ≡ files_of rows

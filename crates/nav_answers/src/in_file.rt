@@ -7,15 +7,14 @@ ghost use Rattle.partial_path.specs.Sources.{asks_rule, rules_from, rules_offere
 ghost use Rattle.partial_path.specs.Spots.{node_at};
 ghost use Rattle.root_index.specs.Offers.{files_of};
 
-use crate::viewed::{are_sources, file_in};
+use crate::source::ViewSource;
 use partial_path::{FileOffers, ListOffers, Spot, Start, StoredPath, StoredPaths, asks};
 use stacks_vars::{LentStack, NodeAt, Symbol};
-use version_tree::View;
 
 /// The path at place `k` of those that begin at the start, which is in the file of this node, and can be met with that
 /// symbol in front.
 pub(crate) fn path_inside<'a>(
-    view: &'a View,
+    source: &ViewSource<'a>,
     start: Start,
     node: NodeAt,
     first: Option<&Symbol>,
@@ -24,10 +23,10 @@ pub(crate) fn path_inside<'a>(
     requires alone { is_shared start ≡ false }
     requires file { node.file ≡ file_of start }
     ensures { result
-        ≡ slice_get (rules_from (files_of view.now) start (option_copied first.entry)) k }
+        ≡ slice_get (rules_from (files_of source.now.rows) start (option_copied first.entry)) k }
 {
-    are_sources(view);
-    let file = file_in(view, node.file as usize)?;
+    source.are_sources();
+    let file = source.file(node.file as usize)?;
     let path = asked(&file.paths_from(inside(start)), first, k)?;
     Some((node.file, path))
 }
@@ -52,17 +51,17 @@ fn asked<'a>(run: &StoredPaths<'a>, first: Option<&Symbol>, k: usize) -> Option<
 
 /// Before the first path that is offered at the start, which is in the file of this node.
 pub(crate) fn offers_inside(
-    view: &View,
+    source: &ViewSource<'_>,
     start: Start,
     node: NodeAt,
     _symbols: &LentStack<'_>,
 ) -> ListOffers
     requires alone { is_shared start ≡ false }
     requires file { node.file ≡ file_of start }
-    ensures { offers_here (files_of view.now) _symbols.now result
-        ≡ rules_offered (files_of view.now) start _symbols.now }
+    ensures { offers_here (files_of source.now.rows) _symbols.now result
+        ≡ rules_offered (files_of source.now.rows) start _symbols.now }
 {
-    are_sources(view);
+    source.are_sources();
     ListOffers {
         file: node.file as usize,
         inside: FileOffers::at(inside(start)),
@@ -71,15 +70,15 @@ pub(crate) fn offers_inside(
 
 /// The path that comes next in a look-up in one file, with the file's number, and where the look-up stands after it.
 pub(crate) fn next_inside<'a>(
-    view: &'a View,
+    source: &ViewSource<'a>,
     symbols: &LentStack<'_>,
     at: ListOffers,
 ) -> Option<(u32, StoredPath<'a>, ListOffers)>
-    ensures { MatchOption result (offers_here (files_of view.now) symbols.now at ≡ [])
-        (λ found. offers_here (files_of view.now) symbols.now at
-        ≡ (found.0, found.1) ∷ offers_here (files_of view.now) symbols.now found.2) }
+    ensures { MatchOption result (offers_here (files_of source.now.rows) symbols.now at ≡ [])
+        (λ found. offers_here (files_of source.now.rows) symbols.now at
+        ≡ (found.0, found.1) ∷ offers_here (files_of source.now.rows) symbols.now found.2) }
 {
-    let file = file_in(view, at.file)?;
+    let file = source.file(at.file)?;
     match file.next_offer(symbols, at.inside) {
         Some((path, inside)) => {
             let after = ListOffers {

@@ -40,7 +40,7 @@ pub fn add_found<'a, G: Gate>(
         → IsCrowdedAmong query.now.bounds (graphs_seen query.now.view.now) all.now }
 {
     let reference = all[job];
-    let Some(lead) = lead_of(query.view, reference) else {
+    let Some(lead) = lead_of(query.source, reference) else {
         ask_into(room, query, gate, all, job, reference, links)?;
         return Ok(());
     };

@@ -16,7 +16,7 @@ use crate::meaning::{Asked, meant};
 use crate::parts::Parts;
 use crate::rows::{hit_of, in_order};
 use crate::sharing::ask_all;
-use crate::source::ViewSource;
+use crate::source::{ForMany, ViewSource};
 use nav_io::Gate;
 use partial_path::Bounds;
 use root_index::RootIndex;
@@ -128,8 +128,8 @@ fn known_of<R: Threads + Sync, G: Gate + Sync>(
     match seen.take_known(bounds) {
         Some(known) => Ok(known),
         None => {
-            let files = index.seen_files(alloc, seen.view())?;
-            let source = ViewSource::with(seen.view(), index, Some(&files));
+            let many = ForMany::of(alloc, seen.view(), index)?;
+            let source = ViewSource::with(seen.view(), index, Some(&many));
             let query = Query {
                 view: seen.view(),
                 source: &source,

@@ -5,12 +5,12 @@ ghost use Rattle.nav_answers.specs.Sources.{graphs_seen};
 ghost use Rattle.nav_answers.specs.Twins.{AreKept, BeginsWith, HasKind, HasSink, IsKept, IsLead};
 
 use crate::asking::Query;
-use crate::viewed::{are_sources, file_in};
+use crate::source::ViewSource;
+use crate::viewed::are_sources;
 use graph_nodes::{Name, NodeKind, Place};
 use partial_path::FilePaths;
 use stacks_vars::NodeAt;
 use std::alloc::{AllocError, Global};
-use version_tree::View;
 use whole_search::Found;
 
 /// Of how many references that were searched last it is kept what was found.
@@ -26,11 +26,11 @@ pub struct Lead<'a> {
 
 /// How all paths of the reference begin; None where its symbol isn't plain, where paths are cut at it, or where not one
 /// edge alone leaves it, to a node. It takes constant time.
-pub fn lead_of<'a>(view: &'a View, reference: NodeAt) -> Option<Lead<'a>>
+pub fn lead_of<'a>(source: &ViewSource<'a>, reference: NodeAt) -> Option<Lead<'a>>
     ensures { IfSome result (λ lead. IsLead
-        (graphs_seen view.now) reference lead.symbol.now (Place.At lead.sink)) }
+        (graphs_seen source.now.rows) reference lead.symbol.now (Place.At lead.sink)) }
 {
-    let file = file_in(view, reference.file as usize)?;
+    let file = source.file(reference.file as usize)?;
     lead_in(file, reference.node)
 }
 

@@ -7,6 +7,6 @@ use Rattle.nav_answers.proofs.in_file.offers_inside.Goals as goal
 
 pub returns : goal.returns
 returns c =
-    offers_alone (files_of c.args.view.now) c.args.node.file c.args.start c.args._symbols.now c.at.result c.are_sources.ensures c.requires.alone c.requires.file
+    offers_alone (files_of c.args.source.now.rows) c.args.node.file c.args.start c.args._symbols.now c.at.result c.are_sources.ensures c.requires.alone c.requires.file
     (λ rules. c.at.ensures.all c.args._symbols.now rules ∙ ap (λ s. filter (is_offered s c.args._symbols.now) rules) c.inside.ensures)
     (c.at.ensures.start ∙ c.inside.ensures)
