@@ -20,12 +20,12 @@ use Rattle.partial_path.specs.PathSets.{FileRules, IsLandingRule}
 use Rattle.partial_path.specs.Sources.{IsSourceFile, graphs_of, numbered}
 use Rattle.back_stitch.specs.Sources.{is_exported_spot, rules_to, agrees, AreEnds}
 use Rattle.end_index.specs.declared.place.EndPlace.{EndPlace}
-use Rattle.end_index.specs.Marks.{marks}
-use Rattle.end_index.specs.Runs.{before_zero, is_later, runs_at}
+use Rattle.end_index.specs.declared.runs.EndRuns.{EndRuns}
+use Rattle.end_index.specs.Runs.{runs, runs_left}
 use Rattle.end_index.specs.Ends.{ends_at_root, ends_by_stack, end_place, ends_after, AreEndsOf}
 use Rattle.end_index.specs.Looks.{ends_inside, inside_in, inside_left, rule_in, rules_of, AreThere, outside_left}
 use Rattle.end_index.proofs.Places.{place_of, at_place, one_place, kept_from, kept_into, kept_apart}
-use Rattle.end_index.proofs.Marked.{agree}
+use Rattle.end_index.proofs.Marked.{runs_among, runs_apart, runs_hold}
 use Rattle.end_index.proofs.Ending.{P, IsEndingIn, ending_from, ending_into, may_is, root_moved, stack_not_there, in_file, source_at, rules_apart, same_rule}
 
 -- the paths of an index
@@ -72,10 +72,13 @@ module _ (files : List FileRules) (passes : Rule → Bool) (places : List EndPla
   pub are_there : AreThere files places
   are_there e h = let r = placed e h in subst (λ (o : Option Rule). IsSome o) (sym (rule_there e r)) refl
 
-  -- what those give that pass a test
-  module _ (test : EndPlace → Bool) where
+  -- what the runs of texts give
+  module _ (symbols : List SymPat) where
+    abbrev Asked : List EndPlace
+    Asked = runs (asked_texts symbols) places
+
     abbrev Given : List P
-    Given = flat_map (rules_of files) (filter test places)
+    Given = flat_map (rules_of files) Asked
 
     given_of : (e : EndPlace) (p : P) (r : IsPlaced e) → IsIn p (rules_of files e) → p ≡ numbered e.file r.rule
     given_of e p r h = only (subst (IsIn p) (rules_are e r) h)
@@ -86,8 +89,8 @@ module _ (files : List FileRules) (passes : Rule → Bool) (places : List EndPla
 
     pub given_from : (p : P) → IsIn p Given → IsPassing passes files p
     given_from p h =
-        let (e, among, g) = IsIn-flat_map_from (rules_of files) p (filter test places) h in
-        let r = placed e (IsIn-filter_from test e places among).0 in
+        let (e, among, g) = IsIn-flat_map_from (rules_of files) p Asked h in
+        let r = placed e (runs_among (asked_texts symbols) e places among) in
         let is = given_of e p r g in
         let number : p.0 ≡ e.file = ap (λ (q : P). q.0) is in
         let rule : p.1 ≡ r.rule = ap (λ (q : P). q.1) is in
@@ -98,12 +101,12 @@ module _ (files : List FileRules) (passes : Rule → Bool) (places : List EndPla
           passing = ap passes rule ∙ r.passing;
         }
 
-    pub given_into : (p : P) → IsPassing passes files p → ((k : ℕ) → test (end_place p.0 k p.1) ≡ true) → IsIn p Given
-    given_into p g passed =
+    pub given_into : (p : P) → IsPassing passes files p → agrees symbols p.1.post.symbols ≡ true → IsIn p Given
+    given_into p g agreed =
         let (k, there) = place_of p.1 g.file.rules g.stored in
         let among : IsIn (end_place p.0 k p.1) places = kept_into passes files places same p.0 g.file k p.1 g.found there g.passing in
         let rule : rule_in files (end_place p.0 k p.1) ≡ Some p.1 = ap (option_and_then (λ (f : FileRules). slice_get f.rules k)) g.found ∙ there in
-        IsIn-flat_map (rules_of files) (end_place p.0 k p.1) p (filter test places) (IsIn-filter test (end_place p.0 k p.1) places among (passed k))
+        IsIn-flat_map (rules_of files) (end_place p.0 k p.1) p Asked (runs_hold symbols p.1.post.symbols (end_place p.0 k p.1) places agreed among refl refl)
         (subst (IsIn p) (sym (ap (λ (o : Option Rule). option_map_or (λ (r : Rule). numbered p.0 r ∷ []) o []) rule)) (inl refl))
 
     one_given : (n : ℕ) (o : Option Rule) → IsApart (option_map_or (λ (r : Rule). numbered n r ∷ []) o [])
@@ -112,13 +115,13 @@ module _ (files : List FileRules) (passes : Rule → Bool) (places : List EndPla
 
     pub given_apart : All IsSourceFile files → IsApart Given
     given_apart sources =
-        IsApart-flat_map (rules_of files) (filter test places) (IsApart-filter test places (kept_apart passes files places same))
+        IsApart-flat_map (rules_of files) Asked (runs_apart (asked_texts symbols) places (kept_apart passes files places same))
         (λ e h. one_given e.file (rule_in files e)) share
       where
-        share : (a b : EndPlace) (p : P) → IsIn a (filter test places) → IsIn b (filter test places) → IsIn p (rules_of files a) → IsIn p (rules_of files b) → a ≡ b
+        share : (a b : EndPlace) (p : P) → IsIn a Asked → IsIn b Asked → IsIn p (rules_of files a) → IsIn p (rules_of files b) → a ≡ b
         share a b p in_a in_b by_a by_b =
-            let r = placed a (IsIn-filter_from test a places in_a).0 in
-            let s = placed b (IsIn-filter_from test b places in_b).0 in
+            let r = placed a (runs_among (asked_texts symbols) a places in_a) in
+            let s = placed b (runs_among (asked_texts symbols) b places in_b) in
             let both : numbered a.file r.rule ≡ numbered b.file s.rule = sym (given_of a p r by_a) ∙ given_of b p s by_b in
             let number : a.file ≡ b.file = ap (λ (q : P). q.0) both in
             let rule : r.rule ≡ s.rule = ap (λ (q : P). q.1) both in
@@ -180,18 +183,15 @@ module _ (files : List FileRules) (node : NodeAt) where
 -- what a look-up gives
 
 module _ (files : List FileRules) (sources : All IsSourceFile files) (symbols : List SymPat) where
-  -- whether a path of an index may make what is asked for
-  abbrev Asked : EndPlace → Bool
-  Asked p = is_later (before_zero (marks (asked_texts symbols))) 0 p
+  -- a look-up in an index stands before all its runs
+  abbrev pub IsBefore : EndRuns → List EndPlace → Type 0
+  IsBefore at places = runs_left (asked_texts symbols) at places ≡ runs (asked_texts symbols) places
 
-  asked_for : (p : P) → agrees symbols p.1.post.symbols ≡ true → (k : ℕ) → Asked (end_place p.0 k p.1) ≡ true
-  asked_for p e k = agree 12 symbols p.1.post.symbols e
-
-  pub given_at_root : (places : List EndPlace) → AreEndsOf ends_at_root files places
-      → AreEnds files spot.Root symbols (outside_left files places (runs_at (marks (asked_texts symbols)) 0 0 0))
-  given_at_root places of = record {
+  pub given_at_root : (places : List EndPlace) (at : EndRuns) → AreEndsOf ends_at_root files places → IsBefore at places
+      → AreEnds files spot.Root symbols (outside_left files (asked_texts symbols) places at)
+  given_at_root places at of before = subst (λ (ps : List EndPlace). AreEnds files spot.Root symbols (flat_map (rules_of files) ps)) (sym before) (record {
     sound = λ p h.
-        let g = given_from files ends_at_root places of.all Asked p h in
+        let g = given_from files ends_at_root places of.all symbols p h in
         ending_into files spot.Root p (record {
           file = g.file;
           found = g.found;
@@ -201,7 +201,7 @@ module _ (files : List FileRules) (sources : All IsSourceFile files) (symbols : 
         });
     complete = λ p h e.
         let g = ending_from files spot.Root p h in
-        given_into files ends_at_root places of.all Asked p
+        given_into files ends_at_root places of.all symbols p
         (record {
           file = g.file;
           found = g.found;
@@ -209,9 +209,9 @@ module _ (files : List FileRules) (sources : All IsSourceFile files) (symbols : 
           passing = sym (root_moved p.0 p.1.end p.1.post.scopes.scopes)
               ∙ whatever (ends_inside spot.Root p.0 p.1) (ends_by_stack p.1) (sym (may_is (graphs_of files) spot.Root p.0 p.1) ∙ g.ends);
         })
-        (asked_for p e);
-    apart = λ h. given_apart files ends_at_root places of.all Asked sources;
-  }
+        e;
+    apart = λ h. given_apart files ends_at_root places of.all symbols sources;
+  })
     where
       whatever : (a b : Bool) → a || (b && false) ≡ true → a ≡ true
       whatever true b e = refl
@@ -250,26 +250,27 @@ module _ (files : List FileRules) (sources : All IsSourceFile files) (symbols : 
         whatever false true d none e = absurd (false≢true (sym none ∙ e))
         whatever false false d none e = absurd (false≢true e)
 
-    pub given_at_exported : (places : List EndPlace) → AreEndsOf ends_by_stack files places → is_exported_spot (graphs_of files) (spot.At node) ≡ true
-        → AreEnds files (spot.At node) symbols (inside_left files node 0 ++ outside_left files places (runs_at (marks (asked_texts symbols)) 0 0 0))
-    given_at_exported places of exported = record {
-      sound = λ p h. sound p (IsIn-append_cases p (inside_left files node 0) (Given files ends_by_stack places of.all Asked) h);
+    pub given_at_exported : (places : List EndPlace) (at : EndRuns) → AreEndsOf ends_by_stack files places → IsBefore at places
+        → is_exported_spot (graphs_of files) (spot.At node) ≡ true
+        → AreEnds files (spot.At node) symbols (inside_left files node 0 ++ outside_left files (asked_texts symbols) places at)
+    given_at_exported places at of before exported = subst (λ (ps : List EndPlace). AreEnds files (spot.At node) symbols (inside_left files node 0 ++ flat_map (rules_of files) ps)) (sym before) (record {
+      sound = λ p h. sound p (IsIn-append_cases p (inside_left files node 0) (Given files ends_by_stack places of.all symbols) h);
       complete = λ p h e.
           let g = ending_from files (spot.At node) p h in
           complete p g e (or_cases (ends_inside (spot.At node) p.0 p.1) (ends_by_stack p.1 && is_exported_spot (graphs_of files) (spot.At node)) (sym (may_is (graphs_of files) (spot.At node) p.0 p.1) ∙ g.ends));
       apart = λ h.
-          IsApart-append (inside_left files node 0) (Given files ends_by_stack places of.all Asked) (inside_apart files node sources)
-          (given_apart files ends_by_stack places of.all Asked sources)
+          IsApart-append (inside_left files node 0) (Given files ends_by_stack places of.all symbols) (inside_apart files node sources)
+          (given_apart files ends_by_stack places of.all symbols sources)
           (λ p here there.
           let a = inside_from files node p here in
-          let b = given_from files ends_by_stack places of.all Asked p there in
+          let b = given_from files ends_by_stack places of.all symbols p there in
           false≢true (sym (stack_not_there (spot.At node) p.0 p.1 b.passing) ∙ a.ends));
-    }
+    })
       where
-        sound : (p : P) → IsIn p (inside_left files node 0) ⊎ IsIn p (Given files ends_by_stack places of.all Asked) → IsIn p (rules_to files (spot.At node))
+        sound : (p : P) → IsIn p (inside_left files node 0) ⊎ IsIn p (Given files ends_by_stack places of.all symbols) → IsIn p (rules_to files (spot.At node))
         sound p (inl h) = inside_sound p h
         sound p (inr h) =
-            let g = given_from files ends_by_stack places of.all Asked p h in
+            let g = given_from files ends_by_stack places of.all symbols p h in
             ending_into files (spot.At node) p (record {
               file = g.file;
               found = g.found;
@@ -281,9 +282,9 @@ module _ (files : List FileRules) (sources : All IsSourceFile files) (symbols : 
 
         complete : (p : P) (g : IsEndingIn (graphs_of files) (spot.At node) p.0 files p) → agrees symbols p.1.post.symbols ≡ true
             → (ends_inside (spot.At node) p.0 p.1 ≡ true) ⊎ ((ends_by_stack p.1 && is_exported_spot (graphs_of files) (spot.At node)) ≡ true)
-            → IsIn p (inside_left files node 0 ++ Given files ends_by_stack places of.all Asked)
-        complete p g e (inl ends) = IsIn-append_left p (inside_left files node 0) (Given files ends_by_stack places of.all Asked) (inside_complete p g ends)
+            → IsIn p (inside_left files node 0 ++ Given files ends_by_stack places of.all symbols)
+        complete p g e (inl ends) = IsIn-append_left p (inside_left files node 0) (Given files ends_by_stack places of.all symbols) (inside_complete p g ends)
         complete p g e (inr ends) =
             let parts = and_parts (ends_by_stack p.1) (is_exported_spot (graphs_of files) (spot.At node)) ends in
-            IsIn-append_right p (inside_left files node 0) (Given files ends_by_stack places of.all Asked)
-            (given_into files ends_by_stack places of.all Asked p (record { file = g.file; found = g.found; stored = g.stored; passing = parts.0 }) (asked_for p e))
+            IsIn-append_right p (inside_left files node 0) (Given files ends_by_stack places of.all symbols)
+            (given_into files ends_by_stack places of.all symbols p (record { file = g.file; found = g.found; stored = g.stored; passing = parts.0 }) e)

@@ -1,5 +1,5 @@
 -- The paths of files that end outside them, at the root or by the stack, as an index keeps them.
-use Rattle.std.specs.Prelude.{ℕ, ◌+◌, List, [], ◌∷◌, ◌++◌, Bool, true, false, IsPermutation, if◌then◌else◌}
+use Rattle.std.specs.Prelude.{ℕ, ◌+◌, List, [], ◌∷◌, ◌++◌, length, Bool, true, false, IsPermutation, if◌then◌else◌}
 use Rattle.stacks_vars.specs.declared.scopes.NodeAt.{NodeAt}
 use Rattle.partial_path.specs.declared.config.Spot.TheVariants as spot
 use Rattle.partial_path.specs.declared.rule.End.{End}
@@ -9,7 +9,7 @@ use Rattle.partial_path.specs.PathSets.{FileRules}
 use Rattle.version_tree.specs.Contents.{FileRow}
 use Rattle.root_index.specs.Offers.{files_of}
 use Rattle.end_index.specs.declared.place.EndPlace.{EndPlace}
-use Rattle.end_index.specs.Marks.{made_texts, marks}
+use Rattle.end_index.specs.Marks.{made_texts, mark_of}
 use Rattle.end_index.specs.Runs.{AreByRank}
 
 -- whether a path with this end ends at the root, and whether one that makes these scopes ends by the stack and makes none
@@ -32,7 +32,12 @@ ends_by_stack rule = is_stack_end rule.end rule.post.scopes.scopes
 
 -- the path at that place of the file with that number
 abbrev pub end_place : ℕ → ℕ → Rule → EndPlace
-end_place file place rule = record { marks = marks (made_texts rule.post.symbols); file = file; place = place }
+end_place file place rule = record {
+  mark = mark_of (made_texts rule.post.symbols);
+  place = place;
+  count = length rule.post.symbols;
+  file = file;
+}
 
 -- those among the rules of the file with that number that pass, of which the first has that place
 abbrev pub ends_in : (Rule → Bool) → ℕ → ℕ → List Rule → List EndPlace

@@ -49,15 +49,15 @@ rules_of files p = option_map_or (λ (rule : Rule). numbered p.file rule ∷ [])
 abbrev pub AreThere : List FileRules → List EndPlace → Type 0
 AreThere files places = (p : EndPlace) → IsIn p places → IsSome (rule_in files p)
 
--- what is left of such paths
-abbrev pub outside_left : List FileRules → List EndPlace → EndRuns → List (ℕ × Rule)
-outside_left files places at = flat_map (rules_of files) (runs_left at places)
+-- what is left of such paths for these texts
+abbrev pub outside_left : List FileRules → List (List ℕ) → List EndPlace → EndRuns → List (ℕ × Rule)
+outside_left files asked places at = flat_map (rules_of files) (runs_left asked at places)
 
--- what a look-up that stands there still has to give
-abbrev pub ends_left : List FileRules → Ends → EndLook → List (ℕ × Rule)
-ends_left files ends (Inside node place stack) = inside_left files node place ++ outside_left files ends.stack stack
-ends_left files ends (Root at) = outside_left files ends.root at
-ends_left files ends (Stack at) = outside_left files ends.stack at
+-- what a look-up of these texts that stands there still has to give
+abbrev pub ends_left : List FileRules → List (List ℕ) → Ends → EndLook → List (ℕ × Rule)
+ends_left files asked ends (Inside node place stack) = inside_left files node place ++ outside_left files asked ends.stack stack
+ends_left files asked ends (Root at) = outside_left files asked ends.root at
+ends_left files asked ends (Stack at) = outside_left files asked ends.stack at
 
 -- what is seen, with its index
 pub record Seen : Type 0 where

@@ -1,38 +1,32 @@
 -- Marks: numbers that stand for the texts of symbols, by which paths are kept and found with no look at a text.
-use Rattle.std.specs.Prelude.{ℕ, zero, suc, ◌+◌, ◌*◌, ◌%◌, ◌^◌, List, [], ◌∷◌, map, take, drop, slice_get}
-use Rattle.std.specs.Option.{option_map_or}
+use Rattle.std.specs.Prelude.{ℕ, ◌+◌, ◌*◌, ◌%◌, ◌^◌, List, [], ◌∷◌, map, take, drop}
 use Rattle.stacks_vars.specs.Head.{head}
 use Rattle.stacks_vars.specs.declared.patterns.SymOut.{SymOut}
 
--- a number with one byte more, and with several
-abbrev pub with_byte : ℕ → ℕ → ℕ
-with_byte mark byte = (mark * 6364136223846793005 % 2 ^ 64 + byte) % 2 ^ 64
+-- a number with one number more behind it, and with several
+abbrev pub with_one : ℕ → ℕ → ℕ
+with_one mark more = (mark * 6364136223846793005 % 2 ^ 64 + more) % 2 ^ 64
 
-abbrev pub with_bytes : ℕ → List ℕ → ℕ
-with_bytes mark [] = mark
-with_bytes mark (byte ∷ bytes) = with_bytes (with_byte mark byte) bytes
+abbrev pub with_all : ℕ → List ℕ → ℕ
+with_all mark [] = mark
+with_all mark (more ∷ rest) = with_all (with_one mark more) rest
 
 -- the mark of a text: its head, with the bytes from the eighth to the 64th where it has so many. Texts of up to seven
 -- bytes that differ have marks that differ
 unfoldable pub mark : List ℕ → ℕ
-mark text = with_bytes (head text) (take 57 (drop 7 text))
+mark text = with_all (head text) (take 57 (drop 7 text))
 
--- of how many symbols the marks count
-abbrev pub most_marks : ℕ
-most_marks = 12
+-- the mark of texts and of one more behind them, and of several more
+abbrev pub with_text : ℕ → List ℕ → ℕ
+with_text before text = with_one before (mark text)
 
--- the mark of the text at that place, 0 where there is none
-abbrev pub mark_at : List (List ℕ) → ℕ → ℕ
-mark_at texts i = option_map_or mark (slice_get texts i) 0
+abbrev pub with_texts : ℕ → List (List ℕ) → ℕ
+with_texts before [] = before
+with_texts before (text ∷ texts) = with_texts (with_text before text) texts
 
--- so many marks, from that place on
-abbrev pub marks_from : List (List ℕ) → ℕ → ℕ → List ℕ
-marks_from texts zero i = []
-marks_from texts (suc n) i = mark_at texts i ∷ marks_from texts n (suc i)
-
--- the marks of the first texts, with zeros behind fewer ones
-abbrev pub marks : List (List ℕ) → List ℕ
-marks texts = marks_from texts most_marks 0
+-- the mark of texts: a number that all of them make, one behind the other
+abbrev pub mark_of : List (List ℕ) → ℕ
+mark_of texts = with_texts 0 texts
 
 -- the texts of symbols that a path makes
 abbrev pub made_texts : List SymOut → List (List ℕ)

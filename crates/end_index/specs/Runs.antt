@@ -1,74 +1,65 @@
--- Which of some paths, by their marks, may make what is asked for; and the order in which they stand.
-use Rattle.std.specs.Prelude.{ℕ, zero, suc, ◌-◌, List, [], ◌∷◌, ◌++◌, take, drop, filter, Bool, false, ◌&&◌, ◌||◌, IsSortedByKey}
+-- The order in which paths of an index stand, and which of them, by their marks, may make what is asked for.
+use Rattle.std.specs.Prelude.{ℕ, ◌+◌, List, [], ◌∷◌, ◌++◌, take, drop, filter, Bool, IsSortedByKey}
+use Rattle.std.specs.List.{prefix_len}
 use Rattle.std.specs.Ordering.{nat_cmp, ordering_then, is_lt, is_eq}
 use Rattle.std.specs.declared.cmp.Ordering.{Ordering}
-use Rattle.std.specs.Cmp.Lexicographic.{slice_cmp}
 use Rattle.end_index.specs.declared.place.EndPlace.{EndPlace}
 use Rattle.end_index.specs.declared.runs.EndRuns.{EndRuns}
+use Rattle.end_index.specs.Marks.{with_text}
 
--- they stand by the marks of the symbols that they make, those of the same marks by file and then by place
-abbrev pub rank : EndPlace → List ℕ × (ℕ × ℕ)
-rank p = (p.marks, (p.file, p.place))
+-- the mark of the symbols that a path makes, and how many they are
+abbrev pub slot : EndPlace → ℕ × ℕ
+slot p = (p.mark, p.count)
 
-abbrev pub rank_cmp : List ℕ × (ℕ × ℕ) → List ℕ × (ℕ × ℕ) → Ordering
-rank_cmp a b = ordering_then (slice_cmp nat_cmp a.0 b.0) (ordering_then (nat_cmp a.1.0 b.1.0) (nat_cmp a.1.1 b.1.1))
+abbrev pub slot_cmp : ℕ × ℕ → ℕ × ℕ → Ordering
+slot_cmp a b = ordering_then (nat_cmp a.0 b.0) (nat_cmp a.1 b.1)
+
+-- they stand by these two, those of the same by file and then by place
+abbrev pub rank : EndPlace → (ℕ × ℕ) × (ℕ × ℕ)
+rank p = (slot p, (p.file, p.place))
+
+abbrev pub rank_cmp : (ℕ × ℕ) × (ℕ × ℕ) → (ℕ × ℕ) × (ℕ × ℕ) → Ordering
+rank_cmp a b = ordering_then (slot_cmp a.0 b.0) (ordering_then (nat_cmp a.1.0 b.1.0) (nat_cmp a.1.1 b.1.1))
 
 abbrev pub AreByRank : List EndPlace → Type 0
 AreByRank = IsSortedByKey rank rank_cmp
 
--- the first mark, 0 where there is none, and those behind it
-abbrev pub first : List ℕ → ℕ
-first [] = 0
-first (m ∷ marks) = m
+-- how a path stands to those that make so many symbols of that mark
+abbrev pub side : ℕ → ℕ → EndPlace → Ordering
+side mark count p = slot_cmp (slot p) (mark, count)
 
-abbrev pub others : List ℕ → List ℕ
-others [] = []
-others (m ∷ marks) = marks
+abbrev pub is_before_run : ℕ → ℕ → EndPlace → Bool
+is_before_run mark count p = is_lt (side mark count p)
 
--- the marks before the first 0
-abbrev pub before_zero : List ℕ → List ℕ
-before_zero [] = []
-before_zero (zero ∷ marks) = []
-before_zero (suc m ∷ marks) = suc m ∷ before_zero marks
+abbrev pub is_in_run : ℕ → ℕ → EndPlace → Bool
+is_in_run mark count p = is_eq (side mark count p)
 
--- how marks stand to the first n that are asked for, behind which a 0 has to follow
-abbrev pub run_order : List ℕ → ℕ → List ℕ → Ordering
-run_order [] n marks = nat_cmp (first marks) 0
-run_order (a ∷ asked) zero marks = nat_cmp (first marks) 0
-run_order (a ∷ asked) (suc n) marks = ordering_then (nat_cmp (first marks) a) (run_order asked n (others marks))
+-- a run: those of the paths
+abbrev pub run : ℕ → ℕ → List EndPlace → List EndPlace
+run mark count places = filter (is_in_run mark count) places
 
--- whether marks up to a 0 are the first of those that are asked for
-abbrev pub marks_agree : List ℕ → List ℕ → Bool
-marks_agree [] marks = is_eq (nat_cmp (first marks) 0)
-marks_agree (a ∷ asked) marks = is_eq (nat_cmp (first marks) 0) || (is_eq (nat_cmp (first marks) a) && marks_agree asked (others marks))
+-- the runs of those texts whose mark and number are these with one text more, with two, and so on
+abbrev pub runs_behind : ℕ → ℕ → List (List ℕ) → List EndPlace → List EndPlace
+runs_behind mark count [] places = []
+runs_behind mark count (text ∷ texts) places =
+    run (with_text mark text) (count + 1) places ++ runs_behind (with_text mark text) (count + 1) texts places
 
--- the same of those that are the first n of them at least
-abbrev pub are_later : List ℕ → ℕ → List ℕ → Bool
-are_later asked zero marks = marks_agree asked marks
-are_later [] (suc n) marks = false
-are_later (a ∷ asked) (suc n) marks = is_eq (nat_cmp (first marks) a) && are_later asked n (others marks)
+-- the runs of none of the texts that are asked for, of the first one, of the first two, and so on
+abbrev pub runs : List (List ℕ) → List EndPlace → List EndPlace
+runs asked places = run 0 0 places ++ runs_behind 0 0 asked places
 
--- the same of a path's marks
-abbrev pub path_order : List ℕ → ℕ → EndPlace → Ordering
-path_order asked n p = run_order asked n p.marks
+-- the first of the paths, as far as they stand in the run
+abbrev pub first_in : ℕ → ℕ → List EndPlace → List EndPlace
+first_in mark count places = take (prefix_len (is_in_run mark count) places) places
 
-abbrev pub is_before_run : List ℕ → ℕ → EndPlace → Bool
-is_before_run asked n p = is_lt (path_order asked n p)
+-- what is left of the present run of a look-up
+abbrev pub here : EndRuns → List EndPlace → List EndPlace
+here at places = first_in at.mark at.asked (drop at.place places)
 
-abbrev pub is_in_run : List ℕ → ℕ → EndPlace → Bool
-is_in_run asked n p = is_eq (path_order asked n p)
-
-abbrev pub is_later : List ℕ → ℕ → EndPlace → Bool
-is_later asked n p = are_later asked n p.marks
-
--- the paths at the places that come next
-abbrev pub next_places : EndRuns → List EndPlace → List EndPlace
-next_places at places = take (at.end - at.place) (drop at.place places)
-
--- the paths that a look-up which stands there still meets
-abbrev pub runs_left : EndRuns → List EndPlace → List EndPlace
-runs_left at places = next_places at places ++ filter (is_later (before_zero at.marks) at.asked) places
+-- the paths that a look-up of these texts which stands there still meets
+abbrev pub runs_left : List (List ℕ) → EndRuns → List EndPlace → List EndPlace
+runs_left asked at places = here at places ++ runs_behind at.mark at.asked (drop at.asked asked) places
 
 -- a look-up that stands at that place
-abbrev pub runs_at : List ℕ → ℕ → ℕ → ℕ → EndRuns
-runs_at marks asked place end = record { marks = marks; asked = asked; place = place; end = end }
+abbrev pub runs_at : ℕ → ℕ → ℕ → EndRuns
+runs_at mark asked place = record { mark = mark; asked = asked; place = place }

@@ -1,4 +1,4 @@
-use crate::marks::marks_made;
+use crate::marks::mark_made;
 use crate::place::{EndPlace, order};
 use partial_path::{End, Spot, StoredPath, StoredPaths};
 use std::alloc::{AllocError, Global};
@@ -6,7 +6,7 @@ use std::marker::Model;
 use version_tree::View;
 
 /// Of all paths of the files that a user sees those that end at the root, and those that end by the stack and make no
-/// scope, each in the order of the marks of the symbols that they make. A contract sees it as these two lists.
+/// scope, each in the order of the marks of what they make. A contract sees it as these two lists.
 #[derive(Drop)]
 pub struct EndIndex {
     root: Vec<EndPlace>,
@@ -105,9 +105,13 @@ fn sort(places: &mut Vec<EndPlace>)
 fn end_place(path: &StoredPath<'_>, file: u32, place: usize) -> EndPlace
     ensures { result ≡ end_place file place path.now }
 {
+    // A path makes no more symbols than its peak, which is a number of 32 bits.
+    path.peak();
+    let made = path.made();
     EndPlace {
-        marks: marks_made(path.made()),
-        file,
+        mark: mark_made(made),
         place,
+        count: made.len() as u32,
+        file,
     }
 }

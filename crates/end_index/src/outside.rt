@@ -1,5 +1,6 @@
 //! The paths of an index that may make what is asked for.
 ghost use Rattle.std.specs.Prelude.{◌≡◌, [], ◌∷◌, MatchOption};
+ghost use Rattle.partial_path.specs.Keys.{asked_texts};
 ghost use Rattle.root_index.specs.Offers.{files_of};
 ghost use Rattle.end_index.specs.Runs.{AreByRank};
 ghost use Rattle.end_index.specs.Looks.{AreThere, outside_left, rule_in};
@@ -8,6 +9,7 @@ use crate::nodes::file_in;
 use crate::place::EndPlace;
 use crate::runs::{EndRuns, next_place};
 use partial_path::StoredPath;
+use stacks_vars::SymPat;
 use version_tree::View;
 
 /// The path of the view that comes next in the look-up in these, with its file's number, and where the look-up stands
@@ -15,15 +17,18 @@ use version_tree::View;
 pub(crate) fn next_outside<'a>(
     view: &'a View,
     places: &[EndPlace],
+    symbols: &[SymPat],
     at: EndRuns,
 ) -> Option<(u32, StoredPath<'a>, EndRuns)>
     requires order { AreByRank places.now }
     requires there { AreThere (files_of view.now) places.now }
-    ensures { MatchOption result (outside_left (files_of view.now) places.now at ≡ [])
-        (λ found. outside_left (files_of view.now) places.now at
-        ≡ (found.0, found.1) ∷ outside_left (files_of view.now) places.now found.2) }
+    ensures { MatchOption result
+        (outside_left (files_of view.now) (asked_texts symbols.now) places.now at ≡ [])
+        (λ found. outside_left (files_of view.now) (asked_texts symbols.now) places.now at
+        ≡ (found.0, found.1)
+        ∷ outside_left (files_of view.now) (asked_texts symbols.now) places.now found.2) }
 {
-    let (place, after) = next_place(places, at)?;
+    let (place, after) = next_place(places, symbols, at)?;
     let path = path_at(view, place)?;
     Some((place.file, path, after))
 }

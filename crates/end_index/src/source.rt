@@ -1,5 +1,6 @@
 ghost use Rattle.std.specs.Prelude.{◌≡◌, [], ◌∷◌, All, MatchOption};
 ghost use Rattle.partial_path.specs.declared.config.Spot.TheVariants as spots;
+ghost use Rattle.partial_path.specs.Keys.{asked_texts};
 ghost use Rattle.partial_path.specs.Sources.{IsSourceFile};
 ghost use Rattle.root_index.specs.Offers.{files_of};
 ghost use Rattle.back_stitch.specs.Sources.{AreEnds};
@@ -64,6 +65,7 @@ impl<'a> EndSource<'a> {
 }
 
 impl<'a> BackSource for EndSource<'a> {
+    ghost use Rattle.partial_path.specs.Keys.{asked_texts};
     ghost use Rattle.root_index.specs.Offers.{files_of};
     ghost use Rattle.back_stitch.specs.Sources.{rules_to};
     ghost use Rattle.end_index.specs.Looks.{ends_left};
@@ -79,15 +81,15 @@ impl<'a> BackSource for EndSource<'a> {
 
     type Ends = EndLook;
 
-    ghost given = { λ s symbols at. ends_left (files_of s.rows) s.ends at };
+    ghost given = { λ s symbols at. ends_left (files_of s.rows) (asked_texts symbols) s.ends at };
 
     fn ends(&self, spot: &Spot, symbols: &[SymPat]) -> EndLook {
         are_sources(self.view);
         ends_of(self.view, self.ends, *spot, symbols)
     }
 
-    fn next_end(&self, _symbols: &[SymPat], at: EndLook) -> Option<(u32, StoredPath<'_>, EndLook)> {
-        next_end(self.view, self.ends, at)
+    fn next_end(&self, symbols: &[SymPat], at: EndLook) -> Option<(u32, StoredPath<'_>, EndLook)> {
+        next_end(self.view, self.ends, symbols, at)
     }
 
     fn is_exported(&self, at: &NodeAt) -> bool {
@@ -106,16 +108,16 @@ fn are_sources(view: &View)
 fn ends_of(view: &View, ends: &EndIndex, spot: Spot, symbols: &[SymPat]) -> EndLook
     requires { IsEndIndexOf view.now ends.now }
     ensures { AreEnds (files_of view.now) spot symbols.now
-        (ends_left (files_of view.now) ends.now result) }
+        (ends_left (files_of view.now) (asked_texts symbols.now) ends.now result) }
 {
     are_sources(view);
     match spot {
-        Spot::Root => EndLook::Root(before_runs(symbols)),
+        Spot::Root => EndLook::Root(before_runs()),
         Spot::At(node) => {
             if is_exported(view, node) {
-                EndLook::Inside(node, 0, before_runs(symbols))
+                EndLook::Inside(node, 0, before_runs())
             } else {
-                EndLook::Inside(node, 0, behind_runs())
+                EndLook::Inside(node, 0, behind_runs(ends.stack(), symbols))
             }
         }
     }
@@ -125,20 +127,23 @@ fn ends_of(view: &View, ends: &EndIndex, spot: Spot, symbols: &[SymPat]) -> EndL
 fn next_end<'a>(
     view: &'a View,
     ends: &EndIndex,
+    symbols: &[SymPat],
     at: EndLook,
 ) -> Option<(u32, StoredPath<'a>, EndLook)>
     requires { IsEndIndexOf view.now ends.now }
-    ensures { MatchOption result (ends_left (files_of view.now) ends.now at ≡ [])
-        (λ found. ends_left (files_of view.now) ends.now at
-        ≡ (found.0, found.1) ∷ ends_left (files_of view.now) ends.now found.2) }
+    ensures { MatchOption result
+        (ends_left (files_of view.now) (asked_texts symbols.now) ends.now at ≡ [])
+        (λ found. ends_left (files_of view.now) (asked_texts symbols.now) ends.now at
+        ≡ (found.0, found.1)
+        ∷ ends_left (files_of view.now) (asked_texts symbols.now) ends.now found.2) }
 {
     match at {
         EndLook::Inside(node, place, stack) => match next_inside(view, node, place) {
             Some((file, path, behind)) => Some((file, path, EndLook::Inside(node, behind, stack))),
-            None => next_by_stack(view, ends, stack),
+            None => next_by_stack(view, ends, symbols, stack),
         },
-        EndLook::Root(at) => next_at_root(view, ends, at),
-        EndLook::Stack(at) => next_by_stack(view, ends, at),
+        EndLook::Root(at) => next_at_root(view, ends, symbols, at),
+        EndLook::Stack(at) => next_by_stack(view, ends, symbols, at),
     }
 }
 
@@ -148,14 +153,17 @@ ghost use Rattle.end_index.specs.Looks.{outside_left};
 fn next_at_root<'a>(
     view: &'a View,
     ends: &EndIndex,
+    symbols: &[SymPat],
     at: EndRuns,
 ) -> Option<(u32, StoredPath<'a>, EndLook)>
     requires { IsEndIndexOf view.now ends.now }
-    ensures { MatchOption result (outside_left (files_of view.now) ends.now.root at ≡ [])
-        (λ found. outside_left (files_of view.now) ends.now.root at
-        ≡ (found.0, found.1) ∷ ends_left (files_of view.now) ends.now found.2) }
+    ensures { MatchOption result
+        (outside_left (files_of view.now) (asked_texts symbols.now) ends.now.root at ≡ [])
+        (λ found. outside_left (files_of view.now) (asked_texts symbols.now) ends.now.root at
+        ≡ (found.0, found.1)
+        ∷ ends_left (files_of view.now) (asked_texts symbols.now) ends.now found.2) }
 {
-    match next_outside(view, ends.root(), at) {
+    match next_outside(view, ends.root(), symbols, at) {
         Some((file, path, after)) => Some((file, path, EndLook::Root(after))),
         None => None,
     }
@@ -165,14 +173,17 @@ fn next_at_root<'a>(
 fn next_by_stack<'a>(
     view: &'a View,
     ends: &EndIndex,
+    symbols: &[SymPat],
     at: EndRuns,
 ) -> Option<(u32, StoredPath<'a>, EndLook)>
     requires { IsEndIndexOf view.now ends.now }
-    ensures { MatchOption result (outside_left (files_of view.now) ends.now.stack at ≡ [])
-        (λ found. outside_left (files_of view.now) ends.now.stack at
-        ≡ (found.0, found.1) ∷ ends_left (files_of view.now) ends.now found.2) }
+    ensures { MatchOption result
+        (outside_left (files_of view.now) (asked_texts symbols.now) ends.now.stack at ≡ [])
+        (λ found. outside_left (files_of view.now) (asked_texts symbols.now) ends.now.stack at
+        ≡ (found.0, found.1)
+        ∷ ends_left (files_of view.now) (asked_texts symbols.now) ends.now found.2) }
 {
-    match next_outside(view, ends.stack(), at) {
+    match next_outside(view, ends.stack(), symbols, at) {
         Some((file, path, after)) => Some((file, path, EndLook::Stack(after))),
         None => None,
     }

@@ -1,30 +1,24 @@
-use Rattle.std.proofs.Common.{◌≡◌, ◌∙◌, ap, arith, ◌<◌, ◌≤◌, length, List, ℕ}
-use Rattle.std.specs.Prelude.{filter}
-use Rattle.end_index.specs.Runs.{before_zero, is_in_run}
-use Rattle.end_index.proofs.Ordered.{are_marks, run_passed, run_begun, none_asked}
+use Rattle.std.proofs.Common.{◌∙◌, sym, ap, ◌+◌, ◌∷◌, ◌++◌, List, drop}
+use Rattle.partial_path.specs.Keys.{asked_texts}
+use Rattle.end_index.specs.declared.place.EndPlace.{EndPlace}
+use Rattle.end_index.specs.declared.runs.EndRuns.{EndRuns}
+use Rattle.end_index.specs.Runs.{runs_behind, runs_left}
+use Rattle.end_index.proofs.Ordered.{run_behind, run_begun}
 use Rattle.end_index.proofs.runs.next_run.Goals as goal
 
 -- the run has a path: its first comes next
-pub returns-then-place-end : goal.returns-then-place-end
-returns-then-place-end c =
-    let wanted : c.before_zero-wanted.result.now ≡ before_zero c.args.at.marks = c.before_zero-wanted.ensures.value ∙ ap before_zero c.as_slice.ensures in
-    let few : c.loop-asked.asked ≤ length (before_zero c.args.at.marks) = omega (arith, c.loop-asked-test.true, ap length wanted) in
+pub returns-in-Some : goal.returns-in-Some
+returns-in-Some c =
     c.loop-asked.invariant
-    ∙ run_begun c.args.at.marks c.loop-asked.asked c.run_asking-place.result.0 c.run_asking-place.result.1 _ c.args.places.now c.requires few
-    (c.run_asking-place.ensures.run ∙ ap (λ (ms : List ℕ). filter (is_in_run ms c.loop-asked.asked) c.args.places.now) wanted) c.if-place-end.true c.run_asking-place.ensures.bound
+    ∙ run_behind c.args.symbols.now c.loop-asked.mark c.loop-asked.asked c.with_symbol-mark.result _ c.args.places.now c.loop-asked-test.true (c.with_symbol-mark.ensures)
+    ∙ run_begun (asked_texts c.args.symbols.now) c.run_of-run.result c.with_symbol-mark.result (c.loop-asked.asked + 1) c.args.places.now c.in-Some.place c.run_of-run.ensures.run c.run_of-run.ensures.mark c.run_of-run.ensures.asked
+    c.in-Some.ensures.value
+    ∙ ap (λ (at : EndRuns). c.in-Some.place ∷ runs_left (asked_texts c.args.symbols.now) at c.args.places.now) (sym c.stepped.ensures)
 
 -- it has none
 pub loop-asked-preserved : goal.loop-asked-preserved
 loop-asked-preserved c =
-    let wanted : c.before_zero-wanted.result.now ≡ before_zero c.args.at.marks = c.before_zero-wanted.ensures.value ∙ ap before_zero c.as_slice.ensures in
-    let few : c.loop-asked.asked ≤ length (before_zero c.args.at.marks) = omega (arith, c.loop-asked-test.true, ap length wanted) in
     c.loop-asked.invariant
-    ∙ run_passed (before_zero c.args.at.marks) c.loop-asked.asked c.run_asking-place.result.0 c.run_asking-place.result.1 c.args.places.now (are_marks c.args.at.marks) c.requires few
-    (c.run_asking-place.ensures.run ∙ ap (λ (ms : List ℕ). filter (is_in_run ms c.loop-asked.asked) c.args.places.now) wanted) c.if-place-end.false
-
--- no run is left
-pub returns : goal.returns
-returns c =
-    let wanted : c.before_zero-wanted.result.now ≡ before_zero c.args.at.marks = c.before_zero-wanted.ensures.value ∙ ap before_zero c.as_slice.ensures in
-    let past : length (before_zero c.args.at.marks) < c.loop-asked.asked = omega (arith, c.loop-asked-test.false, ap length wanted) in
-    c.loop-asked.invariant ∙ none_asked (before_zero c.args.at.marks) c.loop-asked.asked c.args.places.now past
+    ∙ run_behind c.args.symbols.now c.loop-asked.mark c.loop-asked.asked c.with_symbol-mark.result _ c.args.places.now c.loop-asked-test.true (c.with_symbol-mark.ensures)
+    ∙ ap (λ (ps : List EndPlace). ps ++ runs_behind c.with_symbol-mark.result (c.loop-asked.asked + 1) (drop (c.loop-asked.asked + 1) (asked_texts c.args.symbols.now)) c.args.places.now)
+    (sym c.run_of-run.ensures.run ∙ c.in_default.ensures.value)

@@ -1,8 +1,9 @@
-use Rattle.std.proofs.Common.{◌≡◌}
-use Rattle.std.specs.Prelude.{filter}
-use Rattle.end_index.specs.Runs.{before_zero, is_later}
+use Rattle.std.proofs.Common.{◌≡◌, drop}
+use Rattle.partial_path.specs.Keys.{asked_texts}
+use Rattle.end_index.specs.Runs.{runs_behind}
 use Rattle.end_index.proofs.runs.next_run.Given as goal
 
--- what is left makes at least so many of the symbols asked for
+-- what is left makes more than so many of the symbols asked for
 abbrev pub invariant-loop-asked : goal.invariant-loop-asked
-invariant-loop-asked l = filter (is_later (before_zero l.fn.at.marks) l.fn.at.asked) l.places ≡ filter (is_later (before_zero l.fn.at.marks) l.asked) l.places
+invariant-loop-asked l =
+    runs_behind l.fn.at.mark l.fn.at.asked (drop l.fn.at.asked (asked_texts l.symbols)) l.places ≡ runs_behind l.mark l.asked (drop l.asked (asked_texts l.symbols)) l.places
