@@ -1,5 +1,5 @@
--- Which clause rests on which file. `EndIndex::of` on Places and, for the order, on Ordered; `EndSource::ends` on Given,
--- which Ending, Places and Marked serve; `EndSource::next_end` on Ordered and Among; `EndSource::path_to` on Listed.
+-- Which clause rests on which file. `EndIndex::of` on Places and Dealt and, for the order, on Ordered; `EndSource::ends` on
+-- Given, which Ending, Places and Marked serve; `EndSource::next_end` on Ordered and Among; `EndSource::path_to` on Listed.
 mod Ordered
 mod Marked
 mod Places
@@ -7,3 +7,4 @@ mod Ending
 mod Given
 mod Among
 mod Listed
+mod Dealt

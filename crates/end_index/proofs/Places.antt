@@ -193,19 +193,7 @@ module _ (passes : Rule → Bool) where
       ∙ sym (ap (λ (rs : List Rule). done ++ ends_in passes file place rs) (drop_more rules place d h))
       ∙ e
 
-  pub file_added : (files : List FileRules) (i : ℕ) (f : FileRules) (rules : List Rule) (done more whole : List EndPlace) → slice_get files i ≡ Some f → rules ≡ f.rules
-      → more ≡ done ++ ends_in passes i 0 rules → done ++ ends_after passes i (drop i files) ≡ whole → more ++ ends_after passes (i + 1) (drop (i + 1) files) ≡ whole
-  file_added files i f rules done more whole found same is e =
-      ap (λ (ps : List EndPlace). ps ++ ends_after passes (i + 1) (drop (i + 1) files)) (is ∙ ap (λ (rs : List Rule). done ++ ends_in passes i 0 rs) same)
-      ∙ append_assoc done (ends_in passes i 0 f.rules) (ends_after passes (i + 1) (drop (i + 1) files))
-      ∙ sym (ap (λ (fs : List FileRules). done ++ ends_after passes i fs) (file_first files i f found))
-      ∙ e
-
   -- at the end all were gathered
   pub ends_over : (file place : ℕ) (rules : List Rule) (done whole : List EndPlace) → length rules ≤ place → done ++ ends_in passes file place (drop place rules) ≡ whole → done ≡ whole
   ends_over file place rules done whole h e =
       sym (append-nil done) ∙ sym (ap (λ (rs : List Rule). done ++ ends_in passes file place rs) (drop_all place rules h)) ∙ e
-
-  pub files_over : (first : ℕ) (files : List FileRules) (done whole : List EndPlace) → length files ≤ first → done ++ ends_after passes first (drop first files) ≡ whole → done ≡ whole
-  files_over first files done whole h e =
-      sym (append-nil done) ∙ sym (ap (λ (fs : List FileRules). done ++ ends_after passes first fs) (drop_all first files h)) ∙ e

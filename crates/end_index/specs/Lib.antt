@@ -2,3 +2,4 @@ pub mod Marks
 pub mod Runs
 pub mod Ends
 pub mod Looks
+pub mod Shares

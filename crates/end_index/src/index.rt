@@ -1,8 +1,10 @@
 use crate::marks::mark_made;
 use crate::place::{EndPlace, order};
+use crate::sharing::index_of;
 use partial_path::{End, Spot, StoredPath, StoredPaths};
 use std::alloc::{AllocError, Global};
 use std::marker::Model;
+use std::thread::Threads;
 use version_tree::View;
 
 /// Of all paths of the files that a user sees those that end at the root, and those that end by the stack and make no
@@ -22,24 +24,27 @@ impl Model for EndIndex {
 }
 
 impl EndIndex {
-    ghost use Rattle.std.specs.Prelude.{◌≡◌, ◌++◌, [], ◌∷◌, IfOk, OnOk};
+    ghost use Rattle.std.specs.Prelude.{◌≡◌, ◌++◌, [], ◌∷◌, IfOk, IsPermutation, OnOk};
     ghost use Rattle.end_index.specs.Ends.{IsEndIndexOf, ends_at_root, ends_by_stack, ends_in};
+    ghost use Rattle.end_index.specs.Runs.{AreByRank};
 
-    /// The index of what the user sees. The one error is want of memory. It goes over all paths once, and sorts those
-    /// that end so.
-    pub fn of(alloc: Global, view: &View) -> Result<EndIndex, AllocError>
+    /// The index of what the user sees. The one error is want of memory. It goes over all paths once, on several threads
+    /// where there are many files, and sorts those that end so.
+    pub fn of<R: Threads + Sync>(rt: &R, alloc: Global, view: &View) -> Result<EndIndex, AllocError>
         ensures { IfOk result (IsEndIndexOf view.now) }
     {
-        let mut ends = EndIndex {
+        index_of(rt, alloc, view)
+    }
+
+    /// No path. It takes no memory.
+    pub(crate) fn new(alloc: Global) -> EndIndex
+        ensures root { result.root ≡ [] }
+        ensures stack { result.stack ≡ [] }
+    {
+        EndIndex {
             root: Vec::new(alloc),
             stack: Vec::new(alloc),
-        };
-        for file in 0..view.row_count() {
-            ends.add_file(&view.paths(file).get().paths(), file)?;
         }
-        sort(&mut ends.root);
-        sort(&mut ends.stack);
-        Ok(ends)
     }
 
     /// The paths that end at the root.
@@ -56,8 +61,38 @@ impl EndIndex {
         self.stack.as_slice()
     }
 
+    /// Puts those of another one behind these. The one error is want of memory.
+    pub(crate) fn append(&mut self, mut more: EndIndex) -> Result<(), AllocError>
+        ensures root { OnOk result (self.new.root ≡ self.old.root ++ more.root) }
+        ensures stack { OnOk result (self.new.stack ≡ self.old.stack ++ more.stack) }
+    {
+        self.root.append(&mut more.root)?;
+        self.stack.append(&mut more.stack)?;
+        Ok(())
+    }
+
+    /// Puts the paths in order. It takes no memory.
+    pub(crate) fn sort(&mut self)
+        ensures root { IsPermutation self.old.root self.new.root }
+        ensures stack { IsPermutation self.old.stack self.new.stack }
+    {
+        self.root.sort_unstable_by(|a, b| order(a, b));
+        self.stack.sort_unstable_by(|a, b| order(a, b));
+    }
+
+    /// Puts the paths in order, of which many that follow one another are. The one error is want of memory.
+    pub(crate) fn merge(&mut self) -> Result<(), AllocError>
+        ensures root { OnOk result (IsPermutation self.old.root self.new.root
+            × AreByRank self.new.root) }
+        ensures stack { OnOk result (IsPermutation self.old.stack self.new.stack
+            × AreByRank self.new.stack) }
+    {
+        merge(&mut self.root)?;
+        merge(&mut self.stack)
+    }
+
     /// Adds those of these paths of the file with that number that end so. The one error is want of memory.
-    fn add_file(&mut self, paths: &StoredPaths<'_>, file: u32) -> Result<(), AllocError>
+    pub(crate) fn add_file(&mut self, paths: &StoredPaths<'_>, file: u32) -> Result<(), AllocError>
         ensures root { OnOk result (self.new.root
             ≡ self.old.root ++ ends_in ends_at_root file 0 paths.now) }
         ensures stack { OnOk result (self.new.stack
@@ -89,16 +124,17 @@ impl EndIndex {
     }
 }
 
-ghost use Rattle.std.specs.Prelude.{◌≡◌, IsPermutation};
+ghost use Rattle.std.specs.Prelude.{◌≡◌, IsPermutation, OnOk};
 ghost use Rattle.end_index.specs.Runs.{AreByRank};
 ghost use Rattle.end_index.specs.Ends.{end_place};
 
-/// Puts the paths in order. It takes no memory.
-fn sort(places: &mut Vec<EndPlace>)
+/// Puts the paths in order: runs of them that are in order are found, and merged. The one error is want of memory.
+fn merge(places: &mut Vec<EndPlace>) -> Result<(), AllocError>
     ensures all { IsPermutation places.old.items places.new.items }
-    ensures order { AreByRank places.new.items }
+    ensures order { OnOk result (AreByRank places.new.items) }
 {
-    places.sort_unstable_by(|a, b| order(a, b));
+    places.sort_by(|a, b| order(a, b))?;
+    Ok(())
 }
 
 /// The path at that place of the file with that number.

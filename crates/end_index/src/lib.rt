@@ -9,6 +9,7 @@ mod nodes;
 mod outside;
 mod place;
 mod runs;
+mod sharing;
 mod source;
 
 pub use index::EndIndex;

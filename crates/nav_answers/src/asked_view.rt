@@ -12,6 +12,7 @@ use partial_path::Bounds;
 use stacks_vars::NodeAt;
 use std::alloc::Global;
 use std::marker::Model;
+use std::thread::Threads;
 use version_tree::View;
 use whole_search::Hit;
 
@@ -136,8 +137,13 @@ impl AskedView {
 
     /// The references from which a bounded complete run leads to the definition, in file order; `Many` where too many
     /// back lists lead to it, and else `NoMemory` where memory is refused. What is asked for by where it ends is listed
-    /// the first time, in time that follows the files, and kept.
-    pub(crate) fn leading(&mut self, alloc: Global, node: NodeAt) -> Result<Vec<NodeAt>, BackFault>
+    /// the first time, on several threads in time that follows the files, and kept.
+    pub(crate) fn leading<R: Threads + Sync>(
+        &mut self,
+        rt: &R,
+        alloc: Global,
+        node: NodeAt,
+    ) -> Result<Vec<NodeAt>, BackFault>
         requires definition { IsTrue (is_definition_of (graphs_seen self.old) node.file node.node) }
         ensures leading { IfOk result
             (λ rows. AreThoseThatReach (graphs_seen self.old) node rows.items) }
@@ -147,7 +153,7 @@ impl AskedView {
     {
         let ends = match self.ends.take() {
             Some(ends) => ends,
-            None => EndIndex::of(alloc, &self.view)?,
+            None => EndIndex::of(rt, alloc, &self.view)?,
         };
         let found = leading_by(alloc, &self.view, &ends, node);
         self.ends = Some(ends);

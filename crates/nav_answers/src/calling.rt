@@ -39,7 +39,8 @@ use whole_search::Hit;
 /// So a crowded reference elsewhere refuses nothing, and the time follows what leads to the definition: back lists are
 /// joined from the definition on, and each reference that begins one is asked for its definitions, as a job between
 /// `enter` and `leave` of the gate, on several threads, as by `references`. What `references` found is taken where it is
-/// kept. The first time on a view its paths by where they end are listed and kept, which follows the files.
+/// kept. The first time on a view its paths by where they end are listed on several threads and kept, which follows the
+/// files.
 pub fn callers<R: Threads + Sync, G: Gate + Sync>(
     rt: &R,
     alloc: Global,
@@ -78,7 +79,7 @@ fn callers_of<R: Threads + Sync, G: Gate + Sync>(
     if seen.has_each(Bounds::usual()) {
         return rows_of_references(rt, alloc, seen, index, gate, node);
     }
-    match seen.leading(alloc, node) {
+    match seen.leading(rt, alloc, node) {
         Ok(leading) => callers_among(rt, alloc, seen.view(), index, gate, node, &leading),
         Err(BackFault::Many) => rows_of_references(rt, alloc, seen, index, gate, node),
         Err(BackFault::NoMemory) => Err(AskFault::NoMemory),
