@@ -17,6 +17,7 @@ use Rattle.partial_path.specs.Counted.{IsBoundedComplete, IsCrowded, HasLimit}
 use Rattle.partial_path.specs.Sources.{IsSourceFile, graphs_of}
 use Rattle.stitcher.specs.Found.{EdgePath}
 use Rattle.stitcher.specs.declared.open.Open.{Open}
+use Rattle.stitcher.specs.declared.tally.Progress.{Progress}
 use Rattle.stitcher.specs.declared.tally.Tally.{Tally}
 use Rattle.stitcher.specs.declared.trail.Level.{Level}
 use Rattle.stitcher.specs.Joins.{Asked, Joined, none_joined, next_start, is_bounded_complete, is_bounded_counted, is_past_bounds, joined_by, goes_on, offered_to, met, ahead}
@@ -139,25 +140,26 @@ module _ (laws : CutLaws) (q : Asked) (sources : All IsSourceFile q.files) (begi
   under_of trail rest o t g =
       turned q g.done (opens_of trail rest) (opened trail o) (subst (IsUnderWay q g.done) (opens_last trail rest o) g.under)
 
-  going_there : (trail : List Level) (rest work : List Open) (o : Open) (t u : Tally) → IsGoing q trail (rest ++ o ∷ []) t → IsExtended q (levels_of trail o) (opened trail o) t u rest work → AreAdded q (levels_of trail o) rest work → IsGoing q (levels_of trail o) work u
-  going_there trail rest work o t u g e a =
+  going_there : (trail : List Level) (o : Open) (old new : Progress) → IsGoing q trail (old.work.items ++ o ∷ []) old.tally → IsExtended q (levels_of trail o) (opened trail o) old new → AreAdded q (levels_of trail o) old new → IsGoing q (levels_of trail o) new.work.items new.tally
+  going_there trail o old new g e a =
+      let rest = old.work.items in
       let j = opened trail o in
-      let is = open_of q trail rest o t g in
+      let is = open_of q trail rest o old.tally g in
       let found = flat_map (joined_by q j) e.0 in
       let front = stacked_front rest o g.stacked in
       let kept : opens_of (levels_of trail o) rest ≡ opens_of trail rest = opens_kept trail o rest front.1 is.depth in
-      let opens : opens_of (levels_of trail o) work ≡ opens_of trail rest ++ filter (goes_on q) found =
+      let opens : opens_of (levels_of trail o) new.work.items ≡ opens_of trail rest ++ filter (goes_on q) found =
       e.2.opens ∙ ap (λ (xs : List Joined). xs ++ filter (goes_on q) found) kept in record {
         done = g.done ++ found;
         under = subst (IsUnderWay q (g.done ++ found)) (sym opens)
-            (goes_on_under_way laws q sources begins g.done (opens_of trail rest) found j (under_of trail rest o t g) (open_stands q trail o is) (open_goes q trail o is)
+            (goes_on_under_way laws q sources begins g.done (opens_of trail rest) found j (under_of trail rest o old.tally g) (open_stands q trail o is) (open_goes q trail o is)
             (are_found j e.0 (open_goes q trail o is) e.1));
         tallied = record {
           first = g.tallied.first;
           none = g.tallied.none;
           zero = g.tallied.zero;
           unlimited = g.tallied.unlimited;
-          noted = noted_after q g.done found g.tallied.first t u g.tallied.noted e.2.noted;
+          noted = noted_after q g.done found g.tallied.first old.tally new.tally g.tallied.noted e.2.noted;
         };
         going = subst (AllByRecursion (IsOpen q (levels_of trail o))) (sym a.1)
             (all-append (IsOpen q (levels_of trail o)) rest a.0
@@ -175,22 +177,23 @@ module _ (laws : CutLaws) (q : Asked) (sources : All IsSourceFile q.files) (begi
       }
 
   -- one of the open ones is gone on from
-  pub going_on : (trail after : List Level) (rest work : List Open) (o : Open) (t u : Tally) → IsGoing q trail (rest ++ o ∷ []) t → after ≡ levels_of trail o → IsExtended q after (opened trail o) t u rest work → AreAdded q after rest work → IsGoing q after work u
-  going_on trail after rest work o t u g same e a =
-      subst (λ (ls : List Level). IsGoing q ls work u) (sym same)
-      (going_there trail rest work o t u g
-      (subst (λ (ls : List Level). IsExtended q ls (opened trail o) t u rest work) same e)
-      (subst (λ (ls : List Level). AreAdded q ls rest work) same a))
+  pub going_on : (trail after : List Level) (o : Open) (old new : Progress) → IsGoing q trail (old.work.items ++ o ∷ []) old.tally → after ≡ levels_of trail o → IsExtended q after (opened trail o) old new → AreAdded q after old new → IsGoing q after new.work.items new.tally
+  going_on trail after o old new g same e a =
+      subst (λ (ls : List Level). IsGoing q ls new.work.items new.tally) (sym same)
+      (going_there trail o old new g
+      (subst (λ (ls : List Level). IsExtended q ls (opened trail o) old new) same e)
+      (subst (λ (ls : List Level). AreAdded q ls old new) same a))
 
   -- then fewer are ahead
-  pub fewer : (trail after : List Level) (rest work : List Open) (o : Open) (t u : Tally) → IsGoing q trail (rest ++ o ∷ []) t → after ≡ levels_of trail o → IsExtended q after (opened trail o) t u rest work → length (flat_map (onward q) (opens_of after work)) < length (flat_map (onward q) (opens_of trail (rest ++ o ∷ [])))
-  fewer trail after rest work o t u g same e =
+  pub fewer : (trail after : List Level) (o : Open) (old new : Progress) → IsGoing q trail (old.work.items ++ o ∷ []) old.tally → after ≡ levels_of trail o → IsExtended q after (opened trail o) old new → length (flat_map (onward q) (opens_of after new.work.items)) < length (flat_map (onward q) (opens_of trail (old.work.items ++ o ∷ [])))
+  fewer trail after o old new g same e =
+      let rest = old.work.items in
       let j = opened trail o in
-      let is = open_of q trail rest o t g in
+      let is = open_of q trail rest o old.tally g in
       let found = flat_map (joined_by q j) e.0 in
       let front = stacked_front rest o g.stacked in
       let kept : opens_of after rest ≡ opens_of trail rest = ap (λ (ls : List Level). opens_of ls rest) same ∙ opens_kept trail o rest front.1 is.depth in
-      let opens : opens_of after work ≡ opens_of trail rest ++ filter (goes_on q) found =
+      let opens : opens_of after new.work.items ≡ opens_of trail rest ++ filter (goes_on q) found =
       e.2.opens ∙ ap (λ (xs : List Joined). xs ++ filter (goes_on q) found) kept in
       let now = ap (λ (xs : List Joined). length (flat_map (onward q) xs)) opens in
       let less = fewer_ahead laws q sources begins (opens_of trail rest) found j (open_stands q trail o is) (open_goes q trail o is) (are_found j e.0 (open_goes q trail o is) e.1) in
@@ -200,16 +203,19 @@ module _ (laws : CutLaws) (q : Asked) (sources : All IsSourceFile q.files) (begi
       omega arith
 
   -- the first paths were joined to the reference
-  pub going_first : (work : List Open) (t u : Tally) → t.complete.items ≡ [] → t.counted ≡ 0 → t.limit ≡ false → IsExtended q [] (none_joined q) t u [] work → AreAdded q [] [] work → IsGoing q [] work u
-  going_first work t u none zero unlimited e a =
-      let found = flat_map (joined_by q (none_joined q)) e.0 in record {
+  pub going_first : (old new : Progress) → old.work.items ≡ [] → old.tally.complete.items ≡ [] → old.tally.counted ≡ 0 → old.tally.limit ≡ false → IsExtended q [] (none_joined q) old new → AreAdded q [] old new → IsGoing q [] new.work.items new.tally
+  going_first old new none first zero unlimited e a =
+      let found = flat_map (joined_by q (none_joined q)) e.0 in
+      let opens : opens_of [] new.work.items ≡ filter (goes_on q) found =
+      e.2.opens ∙ ap (λ (ws : List Open). opens_of [] ws ++ filter (goes_on q) found) none in
+      let added : new.work.items ≡ a.0 = a.1 ∙ ap (λ (ws : List Open). ws ++ a.0) none in record {
         done = found;
-        under = subst (IsUnderWay q found) (sym e.2.opens)
+        under = subst (IsUnderWay q found) (sym opens)
             (goes_on_under_way laws q sources begins [] [] found (none_joined q) (begins_under_way laws q sources begins) (none_stands q) refl (are_found (none_joined q) e.0 refl e.1));
-        tallied = record { first = t; none = none; zero = zero; unlimited = unlimited; noted = e.2.noted };
-        going = subst (AllByRecursion (IsOpen q [])) (sym a.1)
+        tallied = record { first = old.tally; none = first; zero = zero; unlimited = unlimited; noted = e.2.noted };
+        going = subst (AllByRecursion (IsOpen q [])) (sym added)
             (each_member (IsOpen q []) a.0 (λ x h. open_last q [] x (at_member (IsLast q []) x a.0 a.2 h)));
-        stacked = subst IsStacked (sym a.1)
+        stacked = subst IsStacked (sym added)
             (same_depths 0 a.0 (each_member (λ (y : Open). y.depth ≡ 0) a.0 (λ y h. (at_member (IsLast q []) y a.0 a.2 h).depth)));
       }
 

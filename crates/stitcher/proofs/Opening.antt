@@ -1,11 +1,11 @@
 -- Which runs are still to be gone on from, and what is known of them.
-use Rattle.std.proofs.Common.{◌≡◌, ℕ, ◌+◌, ◌≤◌, Bool, true, false, ◌&&◌, ◌||◌, nat_le, leb-true, List, [], ◌∷◌, ◌++◌, map, length, take, drop, Some, All, IsTrue, sym, refl, ap, ◌∙◌, subst, arith, filter, flat_map, append_assoc, append-nil, length-append, IsPermutation, inl}
+use Rattle.std.proofs.Common.{◌≡◌, ℕ, ◌+◌, ◌≤◌, Bool, true, false, ◌&&◌, ◌||◌, nat_le, leb-true, List, [], ◌∷◌, ◌++◌, map, length, take, drop, Some, All, IsTrue, get_or, sym, refl, ap, ◌∙◌, subst, arith, filter, flat_map, append_assoc, append-nil, length-append, IsPermutation, inl}
 use Rattle.std.specs.List.{AllByRecursion}
 use Rattle.std.proofs.lemmas.Bool.{and_parts, and_from, or_right}
 use Rattle.std.proofs.lemmas.List.{map-append, take-append-le, take-append-drop, length-take-le}
 use Rattle.std.proofs.lemmas.List.Elements.{recursion_from_All, All-from_recursion, filter-append}
 use Rattle.std.proofs.lemmas.List.Concat.{flat_map-append}
-use Rattle.std.proofs.Math.Seq.{take-length}
+use Rattle.std.proofs.Math.Seq.{get_or-append_seam, take-length}
 use Rattle.partial_path.specs.declared.config.Config.{Config}
 use Rattle.partial_path.specs.declared.rule.Start.TheVariants.{Before, After}
 use Rattle.partial_path.specs.Limits.{max_runs}
@@ -14,12 +14,14 @@ use Rattle.partial_path.specs.Apply.{apply}
 use Rattle.partial_path.specs.Moved.{moved}
 use Rattle.partial_path.specs.Cutting.{LeadFrom, landings, edge_count, heights}
 use Rattle.partial_path.specs.Laws.{AreStraightPaths}
+use Rattle.stitcher.specs.declared.note.Run.{Run}
 use Rattle.stitcher.specs.declared.open.Open.{Open}
-use Rattle.stitcher.specs.declared.tally.Tally.{Tally}
+use Rattle.stitcher.specs.declared.tally.Progress.{Progress}
 use Rattle.stitcher.specs.declared.trail.Level.{Level}
-use Rattle.stitcher.specs.Joins.{Asked, Joined, joined, with_path, origin, is_none, start_behind, next_start, is_at_cut, is_bounded, is_bounded_counted, keeps_straight, joined_by, goes_on, offered_to}
-use Rattle.stitcher.specs.Opens.{opened, opened_at, opens_of, those, levels_of, AreOpen, IsOpen, IsLast, AreAdded, AreTried, IsOverfull}
-use Rattle.stitcher.specs.Trail.{Moves, path_of, paths_of, landed_at, IsHere, IsOffered}
+use Rattle.stitcher.specs.declared.trail.Standing.{Standing}
+use Rattle.stitcher.specs.Joins.{Asked, IsAsked, Joined, joined, with_path, origin, is_none, start_behind, next_start, is_at_cut, is_bounded, is_bounded_counted, keeps_straight, joined_by, goes_on, offered_to}
+use Rattle.stitcher.specs.Opens.{opened, opened_at, opens_of, those, levels_of, AreOpen, IsLanded, IsOpen, IsLast, AreTaken, IsOverfull}
+use Rattle.stitcher.specs.Trail.{Moves, path_of, paths_of, landed_at, stood, IsHere, IsOffered, IsStanding}
 use Rattle.list_facts.proofs.Each.{all-append}
 use Rattle.list_facts.specs.Members.{IsIn}
 use Rattle.stitcher.proofs.Leading.{lead_with, landings-with}
@@ -60,42 +62,46 @@ module _ (q : Asked) (trail : List Level) (at : Config) (level : Level) (here : 
       }
 
 -- nothing was added; one was, where the test passes; and more were
-pub added_none : (q : Asked) (trail : List Level) (ws : List Open) → AreAdded q trail ws ws
+abbrev Adds : Asked → List Level → List Open → List Open → Type 0
+Adds q trail before after = (more : List Open) × (after ≡ before ++ more) × AllByRecursion (IsLast q trail) more
+
+pub added_none : (q : Asked) (trail : List Level) (ws : List Open) → Adds q trail ws ws
 added_none q trail ws = ([], sym (append-nil ws), tt)
 
 added_by : (q : Asked) (trail : List Level) (b : Bool) (o : Open) → (b ≡ true → IsLast q trail o) → AllByRecursion (IsLast q trail) (those b o)
 added_by q trail true o is = (is refl, tt)
 added_by q trail false o is = tt
 
-pub added_one : (q : Asked) (trail : List Level) (before after : List Open) (b : Bool) (o : Open) → after ≡ before ++ those b o → (b ≡ true → IsLast q trail o) → AreAdded q trail before after
+pub added_one : (q : Asked) (trail : List Level) (before after : List Open) (b : Bool) (o : Open) → after ≡ before ++ those b o → (b ≡ true → IsLast q trail o) → Adds q trail before after
 added_one q trail before after b o e is = (those b o, e, added_by q trail b o is)
 
-pub added_more : (q : Asked) (trail : List Level) (a b c : List Open) → AreAdded q trail a b → AreAdded q trail b c → AreAdded q trail a c
+pub added_more : (q : Asked) (trail : List Level) (a b c : List Open) → Adds q trail a b → Adds q trail b c → Adds q trail a c
 added_more q trail a b c m n = (
   m.0 ++ n.0,
   n.1 ∙ (ap (λ (ws : List Open). ws ++ n.0) m.1 ∙ append_assoc a m.0 n.0),
   all-append (IsLast q trail) m.0 n.0 m.2 n.2,
 )
 
-pub last_of : (q : Asked) (trail : List Level) (edges : ℕ) (level : Level) (cut bounded : Bool) → cut ≡ is_at_cut q level.at → bounded ≡ is_bounded q (with_path (paths_of trail) (path_of level)) → (IsTrue (is_at_cut q level.at) → IsHere q (trail ++ level ∷ []) level.at) → edges ≡ edge_count (with_path (paths_of trail) (path_of level)) → All (λ (l : Level). Moves l.file l.path) trail → Moves level.file level.path → (cut && bounded) ≡ true → IsLast q trail (opened_at trail edges level)
-last_of q trail edges level cut bounded c b here count moves one t =
-    let both = and_parts cut bounded t in
-    let there : is_at_cut q level.at ≡ true = sym c ∙ both.0 in
-    let within : is_bounded q (with_path (paths_of trail) (path_of level)) ≡ true = sym b ∙ both.1 in
+pub last_of : (q : Asked) (trail : List Level) (run : Run) → IsLanded q trail run → (run.cut && run.bounded) ≡ true → IsLast q trail (opened_at trail run)
+last_of q trail run h t =
+    let level = run.level in
+    let both = and_parts run.cut run.bounded t in
+    let there : is_at_cut q level.at ≡ true = sym h.cut ∙ both.0 in
+    let within : is_bounded q (with_path (paths_of trail) (path_of level)) ≡ true = sym h.bounded ∙ both.1 in
     let same = paths_with trail level in record {
       depth = refl;
       levels = record {
-        here = here there;
+        here = h.here there;
         goes = subst (λ (ps : List (ℕ × Rule)). goes_on q (joined ps level.at) ≡ true) (sym same)
             (or_right (is_none (with_path (paths_of trail) (path_of level))) (is_at_cut q level.at && is_bounded q (with_path (paths_of trail) (path_of level))) (and_from (is_at_cut q level.at) (is_bounded q (with_path (paths_of trail) (path_of level))) there within));
-        edges = count ∙ ap edge_count (sym same);
-        moves = all_with (λ (l : Level). Moves l.file l.path) trail level moves one;
+        edges = h.edges ∙ ap edge_count (sym same);
+        moves = all_with (λ (l : Level). Moves l.file l.path) trail level h.moves h.level;
       };
     }
 
 -- the first of the offered paths are too many, with the one that is one run too many
-pub overfull : (q : Asked) (trail : List Level) (from : Joined) (gone rest all : List (ℕ × Rule)) (p : ℕ × Rule) (a b : Tally) (w v : List Open) → gone ++ p ∷ rest ≡ all → IsPermutation (offered_to q from) all → AreTried q trail from gone a b w v → b.counted ≡ max_runs → length (filter (is_bounded_counted q) (joined_by q from p)) ≡ 1 → IsOverfull q from a.counted
-overfull q trail from gone rest all p a b w v is perm t full one = record {
+pub overfull : (q : Asked) (trail : List Level) (from : Joined) (gone rest all : List (ℕ × Rule)) (p : ℕ × Rule) (a b : Progress) → gone ++ p ∷ rest ≡ all → IsPermutation (offered_to q from) all → AreTaken q trail (flat_map (joined_by q from) gone) a b → b.tally.counted ≡ max_runs → length (filter (is_bounded_counted q) (joined_by q from p)) ≡ 1 → IsOverfull q from a.tally.counted
+overfull q trail from gone rest all p a b is perm t full one = record {
   part = gone ++ p ∷ [];
   rest = rest;
   offered = subst (IsPermutation (offered_to q from)) (sym (append_assoc gone (p ∷ []) rest ∙ is)) perm;
@@ -106,7 +112,7 @@ overfull q trail from gone rest all p a b w v is perm t full one = record {
       ap (λ (xs : List Joined). length (filter (is_bounded_counted q) xs)) whole
       ∙ (ap length (filter-append (is_bounded_counted q) (flat_map (joined_by q from) gone) (joined_by q from p))
       ∙ length-append (filter (is_bounded_counted q) (flat_map (joined_by q from) gone)) (filter (is_bounded_counted q) (joined_by q from p))) in
-      let so_far : b.counted ≡ a.counted + length (filter (is_bounded_counted q) (flat_map (joined_by q from) gone)) = t.noted.counted in
+      let so_far : b.tally.counted ≡ a.tally.counted + length (filter (is_bounded_counted q) (flat_map (joined_by q from) gone)) = t.noted.counted in
       omega arith);
 }
 
@@ -169,3 +175,23 @@ open_bounded q trail o h =
     let bounded = and_parts (nat_le (edge_count paths) q.bounds.edges) (nat_le (heights (origin q) paths) q.bounds.depth) (and_parts (is_at_cut q o.level.at) (is_bounded q paths) later).1 in
     subst (λ (ps : List (ℕ × Rule)). (edge_count ps ≤ q.bounds.edges) × (heights (origin q) ps ≤ q.bounds.depth)) (sym (paths_with (take o.depth trail) o.level))
     (leb-true (edge_count paths) q.bounds.edges bounded.0, leb-true (heights (origin q) paths) q.bounds.depth bounded.1)
+
+-- the level behind those up to the depth is the open one's own
+pub last_level : (trail : List Level) (o : Open) (l : Level) (items : List Level) → o.depth ≤ length trail → items ≡ levels_of trail o → l ≡ get_or items o.depth l → l ≡ o.level
+last_level trail o l items fits is there =
+    there ∙ (ap (λ (ls : List Level). get_or ls o.depth l) is
+    ∙ (ap (λ (n : ℕ). get_or (levels_of trail o) n l) (sym (length-take-le o.depth trail fits)) ∙ get_or-append_seam (take o.depth trail) o.level [] l))
+
+-- there the search stands where it is gone on from
+pub stands_open : (q : Asked) (asked : IsAsked q) (s : Standing) (trail : List Level) (o : Open) → IsOpen q trail o → s.trail.now ≡ levels_of trail o → s.at.now ≡ o.level.at → s.begin ≡ After s.at.now.spot → s.edges ≡ o.edges → IsStanding q s
+stands_open q asked s trail o h levels at begin edges =
+    let within = open_bounded q trail o h in record {
+      asked = asked;
+      here = subst (λ (ls : List Level). IsHere q ls s.at.now) (sym levels) (subst (IsHere q (levels_of trail o)) (sym at) h.levels.here);
+      begin = begin
+          ∙ (begins_behind q trail o s.at.now ∙ ap (λ (ls : List Level). next_start q (joined (paths_of ls) s.at.now)) (sym levels));
+      edges = edges ∙ (h.levels.edges ∙ ap (λ (ls : List Level). edge_count (paths_of ls)) (sym levels));
+      few_edges = subst (λ (n : ℕ). n ≤ q.bounds.edges) (sym (edges ∙ h.levels.edges)) within.0;
+      low = subst (λ (ls : List Level). heights (origin q) (paths_of ls) ≤ q.bounds.depth) (sym levels) within.1;
+      moves = subst (All (λ (l : Level). Moves l.file l.path)) (sym levels) h.levels.moves;
+    }

@@ -22,14 +22,15 @@ use Rattle.partial_path.specs.Moved.{moved, moved_start, moved_pre, moved_post, 
 use Rattle.partial_path.specs.Walks.{is_cut_spot_of}
 use Rattle.partial_path.specs.Sources.{IsSourceFile, graphs_of}
 use Rattle.partial_path.specs.Laws.{PathsAreRuns, RunsEndInFiles}
+use Rattle.stitcher.specs.declared.tally.Progress.{Progress}
 use Rattle.stitcher.specs.declared.tally.Tally.{Tally}
 use Rattle.stitcher.specs.declared.trail.Level.{Level}
 use Rattle.stitcher.specs.Ends.{IsEndOf, end_cut, leaves_none, may_land}
 use Rattle.stitcher.specs.Joins.{Asked, Joined, joined, with_path, is_none, is_at_cut, is_at_result, is_bounded, joined_by, goes_on}
-use Rattle.stitcher.specs.Opens.{kept_runs, IsNoted}
+use Rattle.stitcher.specs.Opens.{kept_runs, AreTaken, IsNoted}
 use Rattle.stitcher.specs.Trail.{paths_of, IsHere, IsOffered}
 use Rattle.stitcher.proofs.Joining.{spot_next}
-use Rattle.stitcher.proofs.Within.{some_there, and_false, or_false, none_noted, by_apply}
+use Rattle.stitcher.proofs.Within.{some_there, and_false, or_false, none_more, none_taken, by_apply}
 use Rattle.stitcher.proofs.Noting.{noted, opened_as}
 
 -- the stacks that a rule makes where its variables stand for these
@@ -142,11 +143,7 @@ module _ (q : Asked) (trail : List Level) (at : Config) (p : ℕ × Rule) where
         opened_as q (paths_of trail) p next false false (is_bounded q (with_path (paths_of trail) p)) (uncut next e) (no_result next e) refl [] [] refl
 
     -- so nothing is noted of it, and it isn't gone on from
-    pub pruned_noted : (t : Tally) → IsNoted q (joined_by q (joined (paths_of trail) at) p) t t
-    pruned_noted t =
-        by_apply q trail at p (λ (xs : List Joined). IsNoted q xs t t) (apply (moved p.0 p.1) at) refl (none_noted q t) (λ next e. one_pruned next t e)
-
-    pub pruned_opens : (opens : List Joined) → opens ≡ opens ++ filter (goes_on q) (joined_by q (joined (paths_of trail) at) p)
-    pruned_opens opens =
-        by_apply q trail at p (λ (xs : List Joined). opens ≡ opens ++ filter (goes_on q) xs) (apply (moved p.0 p.1) at) refl (sym (append-nil opens))
-        (λ next e. sym (append-nil opens) ∙ ap (λ (xs : List Joined). opens ++ xs) (one_shut next e))
+    pub pruned_taken : (a : Progress) → AreTaken q trail (joined_by q (joined (paths_of trail) at) p) a a
+    pruned_taken a =
+        by_apply q trail at p (λ (xs : List Joined). AreTaken q trail xs a a) (apply (moved p.0 p.1) at) refl (none_taken q trail a)
+        (λ next e. none_more q trail (joined (with_path (paths_of trail) p) next ∷ []) a (one_pruned next a.tally e) (one_shut next e))

@@ -6,14 +6,19 @@ use Rattle.std.proofs.lemmas.List.Elements.{filter-append}
 use Rattle.std.proofs.lemmas.List.Concat.{flat_map-append}
 use Rattle.std.proofs.lemmas.List.Folds.{list_any-append}
 use Rattle.std.proofs.lemmas.List.Sorted.{IsPermutation-sym, Contains-permutation}
+use Rattle.stacks_vars.specs.declared.items.SymbolItem.{SymbolItem}
 use Rattle.partial_path.specs.declared.config.Config.{Config}
+use Rattle.partial_path.specs.declared.rule.Start.{Start}
+use Rattle.partial_path.specs.PathSets.{FileRules}
+use Rattle.partial_path.specs.Sources.{rules_offered}
 use Rattle.partial_path.specs.Rules.{Rule}
-use Rattle.stitcher.specs.declared.open.Open.{Open}
+use Rattle.stitcher.specs.declared.tally.Progress.{Progress}
 use Rattle.stitcher.specs.declared.tally.Tally.{Tally}
 use Rattle.stitcher.specs.declared.trail.Level.{Level}
+use Rattle.stitcher.specs.declared.trail.Standing.{Standing}
 use Rattle.stitcher.specs.Joins.{Asked, Joined, joined, joined_by, goes_on, offered_to, next_start, is_bounded_complete, is_bounded_counted, is_past_bounds}
-use Rattle.stitcher.specs.Opens.{opens_of, kept_runs, joined_run, IsNoted, AreTried}
-use Rattle.stitcher.specs.Trail.{paths_of, IsOffered}
+use Rattle.stitcher.specs.Opens.{opens_of, kept_runs, joined_run, IsNoted, AreTaken}
+use Rattle.stitcher.specs.Trail.{paths_of, stood, IsOffered, IsStanding}
 use Rattle.list_facts.specs.Members.{IsIn}
 use Rattle.list_facts.proofs.Members.{IsIn-append_right, IsIn-from_Contains, Contains-from_IsIn}
 use Rattle.stitcher.proofs.Offered.{offered_stored}
@@ -41,16 +46,23 @@ noted_after q xs ys a b c m n = record {
       ∙ ap (λ (t : Bool). a.limit || t) (sym (list_any-append (is_past_bounds q) xs ys))));
 }
 
-pub tried_more : (q : Asked) (trail : List Level) (from : Joined) (gone : List (ℕ × Rule)) (p : ℕ × Rule) (a b c : Tally) (w0 w1 w2 : List Open) → AreTried q trail from gone a b w0 w1 → IsNoted q (joined_by q from p) b c → opens_of trail w2 ≡ opens_of trail w1 ++ filter (goes_on q) (joined_by q from p) → AreTried q trail from (gone ++ p ∷ []) a c w0 w2
-tried_more q trail from gone p a b c w0 w1 w2 t n o =
+pub taken_more : (q : Asked) (trail : List Level) (from : Joined) (gone : List (ℕ × Rule)) (p : ℕ × Rule) (a b c : Progress) → AreTaken q trail (flat_map (joined_by q from) gone) a b → AreTaken q trail (joined_by q from p) b c → AreTaken q trail (flat_map (joined_by q from) (gone ++ p ∷ [])) a c
+taken_more q trail from gone p a b c t n =
     let whole : flat_map (joined_by q from) (gone ++ p ∷ []) ≡ flat_map (joined_by q from) gone ++ joined_by q from p =
     flat_map-append (joined_by q from) gone (p ∷ []) ∙ ap (λ (xs : List Joined). flat_map (joined_by q from) gone ++ xs) (append-nil (joined_by q from p)) in record {
-      noted = subst (λ (xs : List Joined). IsNoted q xs a c) (sym whole) (noted_after q (flat_map (joined_by q from) gone) (joined_by q from p) a b c t.noted n);
+      noted = subst (λ (xs : List Joined). IsNoted q xs a.tally c.tally) (sym whole) (noted_after q (flat_map (joined_by q from) gone) (joined_by q from p) a.tally b.tally c.tally t.noted n.noted);
       opens =
-          o ∙ (ap (λ (xs : List Joined). xs ++ filter (goes_on q) (joined_by q from p)) t.opens
-          ∙ (append_assoc (opens_of trail w0) (filter (goes_on q) (flat_map (joined_by q from) gone)) (filter (goes_on q) (joined_by q from p))
-          ∙ ap (λ (xs : List Joined). opens_of trail w0 ++ xs) (sym (ap (filter (goes_on q)) whole ∙ filter-append (goes_on q) (flat_map (joined_by q from) gone) (joined_by q from p)))));
+          n.opens ∙ (ap (λ (xs : List Joined). xs ++ filter (goes_on q) (joined_by q from p)) t.opens
+          ∙ (append_assoc (opens_of trail a.work.items) (filter (goes_on q) (flat_map (joined_by q from) gone)) (filter (goes_on q) (joined_by q from p))
+          ∙ ap (λ (xs : List Joined). opens_of trail a.work.items ++ xs) (sym (ap (filter (goes_on q)) whole ∙ filter-append (goes_on q) (flat_map (joined_by q from) gone) (joined_by q from p)))));
     }
+
+-- what the look-up offers is what is offered where the search stands
+pub offered_there : (q : Asked) (here : Standing) (files : List FileRules) (symbols : List SymbolItem) (all : List (ℕ × Rule)) → IsStanding q here → files ≡ q.files → symbols ≡ here.at.now.stacks.symbols → IsPermutation (rules_offered files here.begin symbols) all → IsPermutation (offered_to q (stood here)) all
+offered_there q here files symbols all h f s p =
+    subst (λ (begin : Start). IsPermutation (rules_offered q.files begin here.at.now.stacks.symbols) all) h.begin
+    (subst (λ (fs : List FileRules). IsPermutation (rules_offered fs here.begin here.at.now.stacks.symbols) all) f
+    (subst (λ (xs : List SymbolItem). IsPermutation (rules_offered files here.begin xs) all) s p))
 
 -- each path of the look-up is offered
 pub one_offered : (q : Asked) (trail : List Level) (at : Config) (gone left all : List (ℕ × Rule)) (p : ℕ × Rule) → gone ++ p ∷ left ≡ all → IsPermutation (offered_to q (joined (paths_of trail) at)) all → IsOffered q trail at p

@@ -16,10 +16,11 @@ use Rattle.partial_path.specs.FileNumbers.{FileZeroMoves}
 use Rattle.partial_path.specs.PathSets.{IsLandingRule}
 use Rattle.partial_path.specs.Sources.{IsSourceFile}
 use Rattle.partial_path.specs.Cutting.{edge_count, heights, path_edges}
+use Rattle.stitcher.specs.declared.tally.Progress.{Progress}
 use Rattle.stitcher.specs.declared.tally.Tally.{Tally}
 use Rattle.stitcher.specs.declared.trail.Level.{Level}
 use Rattle.stitcher.specs.Joins.{Asked, Joined, joined, with_path, origin, is_at_cut, is_at_result, is_bounded, keeps_straight, landed, joined_by, goes_on}
-use Rattle.stitcher.specs.Opens.{kept_runs, those, IsNoted}
+use Rattle.stitcher.specs.Opens.{kept_runs, opens_of, those, AreTaken, IsNoted}
 use Rattle.stitcher.specs.Trail.{Moves, paths_of, IsHere, IsOffered}
 use Rattle.list_facts.proofs.Members.{at_member, IsIn-from_Contains}
 use Rattle.stitcher.proofs.Offered.{source_at}
@@ -70,6 +71,16 @@ none_noted q t = record {
   limit = or_false t.limit;
 }
 
+-- what is noted as nothing was, and isn't gone on from, changes nothing
+pub none_more : (q : Asked) (trail : List Level) (xs : List Joined) (a : Progress) → IsNoted q xs a.tally a.tally → [] ≡ filter (goes_on q) xs → AreTaken q trail xs a a
+none_more q trail xs a noted none = record {
+  noted = noted;
+  opens = sym (append-nil (opens_of trail a.work.items)) ∙ ap (λ (js : List Joined). opens_of trail a.work.items ++ js) none;
+}
+
+pub none_taken : (q : Asked) (trail : List Level) (a : Progress) → AreTaken q trail [] a a
+none_taken q trail a = none_more q trail [] a (none_noted q a.tally) refl
+
 module _ (q : Asked) (trail : List Level) (at : Config) (p : ℕ × Rule) where
   j : Joined
   j = joined (paths_of trail) at
@@ -103,11 +114,7 @@ module _ (q : Asked) (trail : List Level) (at : Config) (p : ℕ × Rule) where
   by_apply P None e none one = none
   by_apply P (Some next) e none one = by_keeps P next (keeps_straight q (paths_of trail) next) none (one next e)
 
-  pub past_noted : (t : Tally) → t.limit ≡ true → ((next : Config) → apply (moved p.0 p.1) at ≡ Some next → is_bounded q (with_path (paths_of trail) p) ≡ false) → IsNoted q (joined_by q (joined (paths_of trail) at) p) t t
-  past_noted t limit past =
-      by_apply (λ (xs : List Joined). IsNoted q xs t t) (apply (moved p.0 p.1) at) refl (none_noted q t) (λ next e. one_past next t limit (past next e))
-
-  pub past_opens : (opens : List Joined) → ((next : Config) → apply (moved p.0 p.1) at ≡ Some next → is_bounded q (with_path (paths_of trail) p) ≡ false) → opens ≡ opens ++ filter (goes_on q) (joined_by q (joined (paths_of trail) at) p)
-  past_opens opens past =
-      by_apply (λ (xs : List Joined). opens ≡ opens ++ filter (goes_on q) xs) (apply (moved p.0 p.1) at) refl (sym (append-nil opens))
-      (λ next e. sym (append-nil opens) ∙ ap (λ (xs : List Joined). opens ++ xs) (one_stops next (past next e)))
+  pub past_taken : (a : Progress) → a.tally.limit ≡ true → ((next : Config) → apply (moved p.0 p.1) at ≡ Some next → is_bounded q (with_path (paths_of trail) p) ≡ false) → AreTaken q trail (joined_by q (joined (paths_of trail) at) p) a a
+  past_taken a limit past =
+      by_apply (λ (xs : List Joined). AreTaken q trail xs a a) (apply (moved p.0 p.1) at) refl (none_taken q trail a)
+      (λ next e. none_more q trail (joined (with_path (paths_of trail) p) next ∷ []) a (one_past next a.tally limit (past next e)) (one_stops next (past next e)))

@@ -1,6 +1,6 @@
 -- Which lists of stored paths are met from a reference: each is joined from a shorter one that is bounded and
 -- ends at a cut, and a path that is offered where that one lands. No public clause cites the order.
-use Rattle.std.specs.Prelude.{ℕ, zero, suc, ◌+◌, ◌-◌, List, [], ◌∷◌, ◌++◌, length, Bool, true, false, not, ◌&&◌, ◌||◌, nat_le, if◌then◌else◌}
+use Rattle.std.specs.Prelude.{◌≡◌, All, Some, ℕ, zero, suc, ◌+◌, ◌-◌, List, [], ◌∷◌, ◌++◌, length, Bool, true, false, not, ◌&&◌, ◌||◌, nat_le, if◌then◌else◌}
 use Rattle.std.specs.Option.{option_map_or}
 use Rattle.std.specs.List.{list_any, filter, flat_map}
 use Rattle.stacks_vars.specs.declared.scopes.NodeAt.{NodeAt}
@@ -16,7 +16,8 @@ use Rattle.partial_path.specs.Apply.{apply}
 use Rattle.partial_path.specs.Moved.{moved}
 use Rattle.partial_path.specs.Walks.{is_cut_spot_of}
 use Rattle.partial_path.specs.PathSets.{FileRules}
-use Rattle.partial_path.specs.Sources.{graphs_of, rules_offered}
+use Rattle.partial_path.specs.Sources.{IsSourceFile, graphs_of, rules_offered}
+use Rattle.partial_path.specs.Step.{start}
 use Rattle.partial_path.specs.Cutting.{edge_count, heights, landings, at_cuts}
 
 -- what is asked: over these files, from this reference, whose runs start there, within these bounds
@@ -25,6 +26,16 @@ pub record Asked : Type 0 where
   pub node : NodeAt
   pub start : Config
   pub bounds : Bounds
+
+-- what is asked of these files: their runs start where the reference is entered
+abbrev pub asked : List FileRules → NodeAt → Bounds → Asked
+asked files node bounds =
+    record { files = files; node = node; start = option_map_or (λ (c : Config). c) (start (graphs_of files) node) (at_node node no_stacks); bounds = bounds }
+
+-- the files are those of a source, and the reference can be entered
+pub record IsAsked (q : Asked) : Type 0 where
+  pub sources : All IsSourceFile q.files
+  pub begins : start (graphs_of q.files) q.node ≡ Some q.start
 
 -- stored paths that were joined from the reference on, and where the last of them lands
 pub record Joined : Type 0 where

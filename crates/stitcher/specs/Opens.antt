@@ -9,13 +9,16 @@ use Rattle.partial_path.specs.declared.config.Spot.TheVariants.{At}
 use Rattle.partial_path.specs.Limits.{max_runs}
 use Rattle.partial_path.specs.Cutting.{edge_count}
 use Rattle.partial_path.specs.Counted.{IsCrowded, HasLimit}
+use Rattle.partial_path.specs.Laws.{IsSpotOf}
 use Rattle.partial_path.specs.Sources.{graphs_of}
 use Rattle.stitcher.specs.Answers.{AreCompleteRuns}
 use Rattle.stitcher.specs.Found.{EdgePath}
+use Rattle.stitcher.specs.declared.note.Run.{Run}
 use Rattle.stitcher.specs.declared.open.Open.{Open}
+use Rattle.stitcher.specs.declared.tally.Progress.{Progress}
 use Rattle.stitcher.specs.declared.tally.Tally.{Tally}
 use Rattle.stitcher.specs.declared.trail.Level.{Level}
-use Rattle.stitcher.specs.Joins.{Asked, Joined, joined, with_path, is_bounded_complete, is_bounded_counted, is_past_bounds, joined_by, goes_on, offered_to}
+use Rattle.stitcher.specs.Joins.{Asked, Joined, joined, with_path, is_at_cut, is_bounded, is_bounded_complete, is_bounded_counted, is_past_bounds, joined_by, goes_on, offered_to}
 use Rattle.stitcher.specs.Laws.{joined_edges}
 use Rattle.stitcher.specs.Trail.{Moves, paths_of, path_of, IsHere}
 
@@ -27,9 +30,24 @@ opened trail o = joined (with_path (paths_of (take o.depth trail)) (path_of o.le
 abbrev pub opens_of : List Level → List Open → List Joined
 opens_of trail opens = map (opened trail) opens
 
--- an open one whose last path is joined to the whole trail
-abbrev pub opened_at : List Level → ℕ → Level → Open
-opened_at trail edges level = record { depth = length trail; edges = edges; level = level }
+-- the joined paths of a run that is longer than the trail by its last path
+abbrev pub run_of : List Level → Run → Joined
+run_of trail run = joined (with_path (paths_of trail) (path_of run.level)) run.level.at
+
+-- that run as an open one
+abbrev pub opened_at : List Level → Run → Open
+opened_at trail run = record { depth = length trail; edges = run.edges; level = run.level }
+
+-- it was joined to the trail as it is told: whether it is bounded and ends at a cut, how many edges it has, and that it
+-- leads on from a cut
+pub record IsLanded (q : Asked) (trail : List Level) (run : Run) : Type 0 where
+  pub spot : IsSpotOf (graphs_of q.files) run.level.at.spot
+  pub bounded : run.bounded ≡ is_bounded q (with_path (paths_of trail) (path_of run.level))
+  pub cut : run.cut ≡ is_at_cut q run.level.at
+  pub here : IsTrue (is_at_cut q run.level.at) → IsHere q (trail ++ run.level ∷ []) run.level.at
+  pub edges : run.edges ≡ edge_count (with_path (paths_of trail) (path_of run.level))
+  pub moves : All (λ (l : Level). Moves l.file l.path) trail
+  pub level : Moves run.level.file run.level.path
 
 -- the one, where the test passes
 abbrev pub those : {X : Type 0} → Bool → X → List X
@@ -53,15 +71,15 @@ pub record IsNoted (q : Asked) (xs : List Joined) (old new : Tally) : Type 0 whe
   pub complete : kept_runs new.complete.items ≡ kept_runs old.complete.items ++ map joined_run (filter (is_bounded_complete q) xs)
   pub limit : new.limit ≡ (old.limit || list_any (is_past_bounds q) xs)
 
--- paths of which each was joined there, and noted and opened as it landed
-pub record AreTried (q : Asked) (trail : List Level) (from : Joined) (paths : List (ℕ × Rule)) (old new : Tally) (before after : List Open) : Type 0 where
-  pub noted : IsNoted q (flat_map (joined_by q from) paths) old new
-  pub opens : opens_of trail after ≡ opens_of trail before ++ filter (goes_on q) (flat_map (joined_by q from) paths)
+-- the joined paths were noted, and opened where more paths are joined to them
+pub record AreTaken (q : Asked) (trail : List Level) (xs : List Joined) (old new : Progress) : Type 0 where
+  pub noted : IsNoted q xs old.tally new.tally
+  pub opens : opens_of trail new.work.items ≡ opens_of trail old.work.items ++ filter (goes_on q) xs
 
--- all that are offered there were so joined, in some order
-abbrev pub IsExtended : Asked → List Level → Joined → Tally → Tally → List Open → List Open → Type 0
-IsExtended q trail from old new before after =
-    (paths : List (ℕ × Rule)) × IsPermutation (offered_to q from) paths × AreTried q trail from paths old new before after
+-- all that are offered there were joined, in some order
+abbrev pub IsExtended : Asked → List Level → Joined → Progress → Progress → Type 0
+IsExtended q trail from old new =
+    (paths : List (ℕ × Rule)) × IsPermutation (offered_to q from) paths × AreTaken q trail (flat_map (joined_by q from) paths) old new
 
 -- the first of the offered paths, in some order, are already too many with those that were counted before
 pub record IsOverfull (q : Asked) (from : Joined) (counted : ℕ) : Type 0 where
@@ -91,8 +109,8 @@ pub record IsLast (q : Asked) (trail : List Level) (o : Open) : Type 0 where
   pub levels : AreOpen q (trail ++ o.level ∷ []) o
 
 -- such ones were added to the open ones
-abbrev pub AreAdded : Asked → List Level → List Open → List Open → Type 0
-AreAdded q trail before after = (more : List Open) × (after ≡ before ++ more) × AllByRecursion (IsLast q trail) more
+abbrev pub AreAdded : Asked → List Level → Progress → Progress → Type 0
+AreAdded q trail old new = (more : List Open) × (new.work.items ≡ old.work.items ++ more) × AllByRecursion (IsLast q trail) more
 
 -- what was noted in all tells of the runs of the reference
 pub record IsEnded (q : Asked) (t : Tally) : Type 0 where

@@ -1,46 +1,34 @@
 //! One open run gone on from.
-ghost use Rattle.std.specs.Prelude.{◌≡◌, ◌≤◌, All, OnOk, Some};
-ghost use Rattle.partial_path.specs.Limits.{max_runs};
-ghost use Rattle.partial_path.specs.Sources.{IsSourceFile, graphs_of};
-ghost use Rattle.partial_path.specs.Step.{start};
-ghost use Rattle.stitcher.specs.Opens.{IsExtended, AreAdded, IsOverfull, IsOpen, levels_of, opened};
-ghost use Rattle.stitcher.specs.Trail.{asked};
+ghost use Rattle.std.specs.Prelude.{◌≡◌, OnOk};
+ghost use Rattle.stitcher.specs.Joins.{IsAsked};
+ghost use Rattle.stitcher.specs.Opens.{AreAdded, IsExtended, IsOpen, IsOverfull, levels_of, opened};
 
 use crate::extend::extend;
 use crate::found::StitchFault;
 use crate::open::Open;
-use crate::query::Query;
 use crate::room::{Room, cut_back};
-use crate::tally::Tally;
-use crate::trail::Level;
+use crate::search::Search;
+use crate::tally::Progress;
+use crate::trail::{Level, Standing};
 use partial_path::{PathSource, Start};
 
 /// Goes on from an open run: the trail is cut back to where the run left it and gets its last path, and each path that
 /// is offered where that one landed is joined.
 pub fn advance<'a, P: PathSource>(
     room: &mut Room<'a>,
-    source: &'a P,
-    query: Query,
+    search: &Search<'a, P>,
     from: Open<'a>,
     trail: &mut Vec<Level<'a>>,
-    work: &mut Vec<Open<'a>>,
-    tally: &mut Tally<'a>,
+    progress: &mut Progress<'a>,
 ) -> Result<(), StitchFault>
-    requires sources { All IsSourceFile (P.files source.now) }
-    requires begins { start (graphs_of (P.files source.now)) query.node
-        ≡ Some (asked (P.files source.now) query).start }
-    requires open { IsOpen (asked (P.files source.now) query) trail.old.items from }
-    requires few { tally.old.counted ≤ max_runs }
+    requires asked { IsAsked search.now }
+    requires open { IsOpen search.now trail.old.items from }
     ensures trail { OnOk result (trail.new.items ≡ levels_of trail.old.items from.entry) }
-    ensures extended { OnOk result (IsExtended (asked (P.files source.now) query) trail.new.items
-        (opened trail.old.items from.entry) tally.old tally.new work.old.items work.new.items) }
-    ensures few { OnOk result (tally.new.counted ≤ max_runs) }
-    ensures added { OnOk result
-        (AreAdded
-        (asked (P.files source.now) query) trail.new.items work.old.items work.new.items) }
-    ensures crowded { result ≡ Err StitchFault.Crowded
-        → IsOverfull (asked (P.files source.now) query)
-        (opened trail.old.items from.entry) tally.old.counted }
+    ensures extended { OnOk result (IsExtended search.now trail.new.items
+        (opened trail.old.items from.entry) progress.old progress.new) }
+    ensures added { OnOk result (AreAdded search.now trail.new.items progress.old progress.new) }
+    ensures crowded { result ≡ Err StitchFault.Crowded → IsOverfull search.now
+        (opened trail.old.items from.entry) progress.old.tally.counted }
 {
     let depth = from.depth;
     let edges = from.edges;
@@ -48,5 +36,11 @@ pub fn advance<'a, P: PathSource>(
     trail.push(from.level)?;
     let at = &trail[depth].at;
     let begin = Start::After(at.spot());
-    extend(room, source, query, begin, trail, at, edges, work, tally)
+    let here = Standing {
+        trail,
+        at,
+        begin,
+        edges,
+    };
+    extend(room, search, &here, progress)
 }

@@ -1,46 +1,39 @@
 //! The first paths of a reference.
-ghost use Rattle.std.specs.Prelude.{◌≡◌, ◌≤◌, All, OnOk, [], Some};
-ghost use Rattle.partial_path.specs.Limits.{max_runs};
-ghost use Rattle.partial_path.specs.Sources.{IsSourceFile, graphs_of};
-ghost use Rattle.partial_path.specs.Step.{start};
-ghost use Rattle.stitcher.specs.Joins.{none_joined};
-ghost use Rattle.stitcher.specs.Opens.{IsExtended, AreAdded, IsOverfull};
-ghost use Rattle.stitcher.specs.Trail.{asked};
+ghost use Rattle.std.specs.Prelude.{◌≡◌, OnOk, []};
+ghost use Rattle.stitcher.specs.Joins.{IsAsked, none_joined};
+ghost use Rattle.stitcher.specs.Opens.{AreAdded, IsExtended, IsOverfull};
 
 use crate::extend::extend;
 use crate::found::StitchFault;
-use crate::open::Open;
-use crate::query::Query;
 use crate::room::Room;
-use crate::tally::Tally;
+use crate::search::Search;
+use crate::tally::Progress;
+use crate::trail::Standing;
 use partial_path::{PathSource, Spot, Start};
 
 /// Joins each path that is offered before the reference, and notes what comes of them.
 pub fn begin<'a, P: PathSource>(
     room: &mut Room<'a>,
-    source: &'a P,
-    query: Query,
-    work: &mut Vec<Open<'a>>,
-    tally: &mut Tally<'a>,
+    search: &Search<'a, P>,
+    progress: &mut Progress<'a>,
 ) -> Result<(), StitchFault>
-    requires sources { All IsSourceFile (P.files source.now) }
-    requires begins { start (graphs_of (P.files source.now)) query.node
-        ≡ Some (asked (P.files source.now) query).start }
-    requires few { tally.old.counted ≤ max_runs }
-    ensures extended { OnOk result (IsExtended (asked (P.files source.now) query) []
-        (none_joined
-        (asked (P.files source.now) query)) tally.old tally.new work.old.items work.new.items) }
-    ensures few { OnOk result (tally.new.counted ≤ max_runs) }
-    ensures added { OnOk result
-        (AreAdded (asked (P.files source.now) query) [] work.old.items work.new.items) }
+    requires asked { IsAsked search.now }
+    ensures extended { OnOk result
+        (IsExtended search.now [] (none_joined search.now) progress.old progress.new) }
+    ensures added { OnOk result (AreAdded search.now [] progress.old progress.new) }
     ensures crowded { result ≡ Err StitchFault.Crowded
-        → IsOverfull (asked (P.files source.now) query)
-        (none_joined (asked (P.files source.now) query)) tally.old.counted }
+        → IsOverfull search.now (none_joined search.now) progress.old.tally.counted }
 {
     let mut at = room.take()?;
-    at.put(Spot::At(query.node));
-    let begin = Start::Before(query.node);
-    extend(room, source, query, begin, &[], &at, 0, work, tally)?;
+    at.put(Spot::At(search.node));
+    let begin = Start::Before(search.node);
+    let here = Standing {
+        trail: &[],
+        at: &at,
+        begin,
+        edges: 0,
+    };
+    extend(room, search, &here, progress)?;
     room.give(at);
     Ok(())
 }

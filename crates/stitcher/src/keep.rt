@@ -1,11 +1,11 @@
 ghost use Rattle.std.specs.Prelude.{◌≡◌, ◌++◌, All, IfOk, IsOk, OnOk, true, false};
 ghost use Rattle.partial_path.specs.declared.config.Spot.TheVariants.{Root};
-ghost use Rattle.partial_path.specs.Cutting.{path_edges};
 ghost use Rattle.stitcher.specs.Joins.{with_path};
-ghost use Rattle.stitcher.specs.Opens.{kept_runs, those};
+ghost use Rattle.stitcher.specs.Opens.{joined_run, kept_runs, run_of, those};
 ghost use Rattle.stitcher.specs.Trail.{Moves, paths_of, path_of};
 
 use crate::complete::{CompleteRun, RunPath};
+use crate::note::Run;
 use crate::room::Room;
 use crate::trail::Level;
 use partial_path::Spot;
@@ -32,35 +32,28 @@ fn paths_with<'a>(
     Ok(paths)
 }
 
-/// Keeps the run of the trail and the level, which has so many edges, where it is complete: its paths, and the node where
-/// it ends. It takes memory for a complete one alone.
+/// Keeps the run where it is complete: its paths, and the node where it ends. It takes memory for a complete one alone.
 pub fn keep_if<'a>(
     room: &mut Room<'a>,
     complete: &mut Vec<CompleteRun<'a>>,
-    is_complete: bool,
     trail: &[Level<'a>],
-    level: &Level<'a>,
-    count: usize,
+    run: &Run<'a>,
+    is_complete: bool,
 ) -> Result<(), AllocError>
     requires trail { All (λ l. Moves l.file l.path) trail.now }
-    requires level { Moves level.now.file level.now.path }
-    requires node { is_complete ≡ true → level.now.at.spot ≡ Root → ⊥ }
-    ensures kept { OnOk result (kept_runs complete.new.items
-        ≡ kept_runs complete.old.items
-        ++ those is_complete (
-          path_edges (with_path (paths_of trail.now)
-              (path_of level.now)),
-          level.now.at.spot,
-        )) }
+    requires level { Moves run.now.level.file run.now.level.path }
+    requires node { is_complete ≡ true → run.now.level.at.spot ≡ Root → ⊥ }
+    ensures kept { OnOk result (kept_runs complete.new.items ≡ kept_runs complete.old.items
+        ++ those is_complete (joined_run (run_of trail.now run.now))) }
     ensures memory { is_complete ≡ false → IsOk result }
 {
     if !is_complete {
         return Ok(());
     }
-    let Spot::At(end) = level.at.spot() else {
+    let Spot::At(end) = run.level.at.spot() else {
         return Ok(());
     };
-    let paths = paths_with(room, trail, level)?;
-    complete.push(CompleteRun::of(paths, count, end))?;
+    let paths = paths_with(room, trail, &run.level)?;
+    complete.push(CompleteRun::of(paths, run.edges, end))?;
     Ok(())
 }

@@ -1,26 +1,32 @@
-ghost use Rattle.std.specs.Prelude.{◌≡◌, ◌≤◌, ◌+◌, ◌&&◌, ℕ, nat_le, length, IfSome};
+ghost use Rattle.std.specs.Prelude.{◌≡◌, ◌≤◌, ◌<◌, ◌+◌, ◌^◌, ◌&&◌, ℕ, nat_le, length, IfSome};
 ghost use Rattle.partial_path.specs.Apply.{height};
 ghost use Rattle.partial_path.specs.Moved.{moved, moved_end, FitsEnd};
-ghost use Rattle.partial_path.specs.Spots.{is_definition_spot};
-ghost use Rattle.partial_path.specs.Walks.{is_cut_spot_of};
 ghost use Rattle.partial_path.specs.Sources.{graphs_of};
 ghost use Rattle.partial_path.specs.Laws.{IsSpotOf};
 ghost use Rattle.stitcher.specs.Ends.{IsEndOf, end_cut, may_land};
-ghost use Rattle.stitcher.specs.Joins.{is_none};
+ghost use Rattle.stitcher.specs.Joins.{is_at_cut, is_at_result};
 
-use partial_path::{Bounds, End, LentConfig, PathSource, Spot, StoredPath};
+use crate::search::Search;
+use partial_path::{End, LentConfig, PathSource, Spot, StoredPath};
 use stacks_vars::NodeAt;
 
-/// Whether runs are within the bounds with a path more, which meets the configuration where they stand: whether they
-/// have few enough edges with it, and it isn't too high there.
-pub fn is_within(bounds: Bounds, edges: usize, path: &StoredPath<'_>, at: &LentConfig<'_>) -> bool
+/// Whether runs are within the search's bounds with a path more, which meets the configuration where they stand: whether
+/// they have few enough edges with it, and it isn't too high there.
+pub fn is_within<P: PathSource>(
+    search: &Search<'_, P>,
+    edges: usize,
+    path: &StoredPath<'_>,
+    at: &LentConfig<'_>,
+) -> bool
     requires met { length path.now.pre.symbols ≤ length at.now.stacks.symbols }
-    requires few { edges ≤ bounds.edges }
-    ensures { (base : ℕ)
+    requires few { edges ≤ search.now.bounds.edges }
+    ensures counts { edges + length path.now.edges < 2 ^ 64 }
+    ensures within { (base : ℕ)
         → result
-        ≡ (nat_le (edges + length path.now.edges) bounds.edges && nat_le
-        (height (moved base path.now) at.now) bounds.depth) }
+        ≡ (nat_le (edges + length path.now.edges) search.now.bounds.edges && nat_le
+        (height (moved base path.now) at.now) search.now.bounds.depth) }
 {
+    let bounds = search.bounds;
     let left = at.symbols().len() - path.asked().len();
     path.edge_numbers().len() <= bounds.edges as usize - edges
         && path.peak() <= bounds.depth
@@ -28,13 +34,17 @@ pub fn is_within(bounds: Bounds, edges: usize, path: &StoredPath<'_>, at: &LentC
 }
 
 /// Whether runs are cut where a path of the file ends; None where the stack tells where that is.
-pub fn is_cut_end<P: PathSource>(source: &P, file: u32, path: &StoredPath<'_>) -> Option<bool>
+pub fn is_cut_end<P: PathSource>(
+    search: &Search<'_, P>,
+    file: u32,
+    path: &StoredPath<'_>,
+) -> Option<bool>
     requires fits { FitsEnd file path.now.end }
-    requires spot { IsEndOf (graphs_of (P.files source.now)) (moved_end file path.now.end) }
-    ensures { result ≡ end_cut (graphs_of (P.files source.now)) (moved_end file path.now.end) }
+    requires spot { IsEndOf (graphs_of search.now.files) (moved_end file path.now.end) }
+    ensures { result ≡ end_cut (graphs_of search.now.files) (moved_end file path.now.end) }
 {
     match path.end() {
-        End::At(Spot::At(end)) => Some(source.is_cut(&NodeAt {
+        End::At(Spot::At(end)) => Some(search.source.is_cut(&NodeAt {
             file: file + end.file,
             node: end.node,
         })),
@@ -52,28 +62,29 @@ pub fn may_land(cut: Option<bool>, path: &StoredPath<'_>, at: &LentConfig<'_>) -
 }
 
 /// Whether a run that lands there is cut there; it may be known.
-pub fn is_at_cut<P: PathSource>(source: &P, known: Option<bool>, at: &LentConfig<'_>) -> bool
-    requires known { IfSome known
-        (λ cut. cut ≡ is_cut_spot_of (graphs_of (P.files source.now)) at.now.spot) }
-    requires spot { IsSpotOf (graphs_of (P.files source.now)) at.now.spot }
-    ensures { result ≡ is_cut_spot_of (graphs_of (P.files source.now)) at.now.spot }
+pub fn is_at_cut<P: PathSource>(
+    search: &Search<'_, P>,
+    known: Option<bool>,
+    at: &LentConfig<'_>,
+) -> bool
+    requires known { IfSome known (λ cut. cut ≡ is_at_cut search.now at.now) }
+    requires spot { IsSpotOf (graphs_of search.now.files) at.now.spot }
+    ensures { result ≡ is_at_cut search.now at.now }
 {
     match (known, at.spot()) {
         (Some(cut), _) => cut,
         (None, Spot::Root) => true,
-        (None, Spot::At(node)) => source.is_cut(&node),
+        (None, Spot::At(node)) => search.source.is_cut(&node),
     }
 }
 
 /// Whether a run that lands there has its definition.
-pub fn is_at_result<P: PathSource>(source: &P, at: &LentConfig<'_>) -> bool
-    requires { IsSpotOf (graphs_of (P.files source.now)) at.now.spot }
-    ensures { result
-        ≡ (is_definition_spot
-        (graphs_of (P.files source.now)) at.now.spot && is_none at.now.stacks.symbols) }
+pub fn is_at_result<P: PathSource>(search: &Search<'_, P>, at: &LentConfig<'_>) -> bool
+    requires { IsSpotOf (graphs_of search.now.files) at.now.spot }
+    ensures { result ≡ is_at_result search.now at.now }
 {
     match at.spot() {
         Spot::Root => false,
-        Spot::At(node) => at.symbols().is_empty() && source.is_definition(&node),
+        Spot::At(node) => at.symbols().is_empty() && search.source.is_definition(&node),
     }
 }

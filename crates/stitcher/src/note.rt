@@ -1,74 +1,53 @@
-ghost use Rattle.std.specs.Prelude.{◌≡◌, ◌≤◌, ◌++◌, [], ◌∷◌, All, IsTrue, OnOk, filter};
+ghost use Rattle.std.specs.Prelude.{◌≡◌, [], ◌∷◌, IsTrue, OnOk};
 ghost use Rattle.partial_path.specs.Limits.{max_runs};
-ghost use Rattle.partial_path.specs.Cutting.{edge_count};
-ghost use Rattle.partial_path.specs.Walks.{is_cut_spot_of};
-ghost use Rattle.partial_path.specs.Sources.{graphs_of};
-ghost use Rattle.partial_path.specs.Laws.{IsSpotOf};
-ghost use Rattle.stitcher.specs.Joins.{joined, with_path, is_bounded, is_bounded_counted, goes_on};
-ghost use Rattle.stitcher.specs.Opens.{opens_of, IsNoted, AreAdded};
-ghost use Rattle.stitcher.specs.Trail.{Moves, asked, paths_of, path_of, IsHere};
+ghost use Rattle.stitcher.specs.Joins.{is_bounded_counted};
+ghost use Rattle.stitcher.specs.Opens.{AreAdded, AreTaken, IsLanded, run_of};
 
 use crate::found::StitchFault;
 use crate::keep::keep_if;
 use crate::landing::is_at_result;
-use crate::open::{Open, push_if};
-use crate::query::Query;
+use crate::open::push_if;
 use crate::room::Room;
-use crate::tally::Tally;
+use crate::search::Search;
+use crate::tally::Progress;
 use crate::trail::Level;
 use partial_path::PathSource;
 
-/// Notes the run of the trail and the level, told whether it is bounded and ends at a cut, and how many edges it has: it is
-/// counted and kept as it lands, and open where more paths are joined to it.
+/// A run that is longer than the trail by a path, as it landed.
+#[derive(Drop)]
+pub struct Run<'a> {
+    /// Its last path, and where that landed.
+    pub level: Level<'a>,
+    /// How many edges its paths have together.
+    pub edges: usize,
+    pub bounded: bool,
+    /// Whether it ends at a cut.
+    pub cut: bool,
+}
+
+/// Notes the run, which is longer than the trail by a path: it is counted and kept as it lands, and open where more paths
+/// are joined to it.
 pub fn note<'a, P: PathSource>(
     room: &mut Room<'a>,
-    source: &P,
-    query: Query,
+    search: &Search<'a, P>,
     trail: &[Level<'a>],
-    edges: usize,
-    bounded: bool,
-    cut: bool,
-    level: Level<'a>,
-    work: &mut Vec<Open<'a>>,
-    tally: &mut Tally<'a>,
+    run: Run<'a>,
+    progress: &mut Progress<'a>,
 ) -> Result<(), StitchFault>
-    requires spot { IsSpotOf (graphs_of (P.files source.now)) level.at.spot }
-    requires bounded { bounded
-        ≡ is_bounded (asked (P.files source.now) query)
-        (with_path (paths_of trail.now) (path_of level)) }
-    requires cut { cut ≡ is_cut_spot_of (graphs_of (P.files source.now)) level.at.spot }
-    requires here { IsTrue (is_cut_spot_of (graphs_of (P.files source.now)) level.at.spot)
-        → IsHere (asked (P.files source.now) query) (trail.now ++ level ∷ []) level.at }
-    requires edges { edges ≡ edge_count (with_path (paths_of trail.now) (path_of level)) }
-    requires trail { All (λ l. Moves l.file l.path) trail.now }
-    requires level { Moves level.file level.path }
-    requires few { tally.old.counted ≤ max_runs }
-    ensures noted { OnOk result (IsNoted (asked (P.files source.now) query)
-        (joined
-        (with_path (paths_of trail.now)
-        (path_of level.entry)) level.entry.at ∷ []) tally.old tally.new) }
-    ensures opens { OnOk result (opens_of trail.now work.new.items
-        ≡ opens_of trail.now work.old.items
-        ++ filter (goes_on (asked (P.files source.now) query))
-        (joined (with_path (paths_of trail.now) (path_of level.entry)) level.entry.at ∷ [])) }
-    ensures added { OnOk result
-        (AreAdded (asked (P.files source.now) query) trail.now work.old.items work.new.items) }
-    ensures few { OnOk result (tally.new.counted ≤ max_runs) }
-    ensures full { result ≡ Err StitchFault.Crowded → tally.old.counted ≡ max_runs }
+    requires run { IsLanded search.now trail.now run }
+    ensures taken { OnOk result (AreTaken search.now trail.now
+        (run_of trail.now run.entry ∷ []) progress.old progress.new) }
+    ensures added { OnOk result (AreAdded search.now trail.now progress.old progress.new) }
+    ensures full { result ≡ Err StitchFault.Crowded → progress.old.tally.counted ≡ max_runs }
     ensures crowded { result ≡ Err StitchFault.Crowded
-        → IsTrue (is_bounded_counted (asked (P.files source.now) query)
-        (joined (with_path (paths_of trail.now) (path_of level.entry)) level.entry.at)) }
+        → IsTrue (is_bounded_counted search.now (run_of trail.now run.entry)) }
 {
-    let complete = is_at_result(source, &level.at);
-    tally.count(cut | complete, bounded)?;
-    keep_if(
-        room,
-        &mut tally.complete,
-        complete & bounded,
-        trail,
-        &level,
-        edges,
-    )?;
-    push_if(room, work, cut & bounded, trail, edges, level)?;
+    let complete = is_at_result(search, &run.level.at);
+    let tally = &mut progress.tally;
+    tally.count(run.cut | complete, run.bounded)?;
+    let is_kept = complete & run.bounded;
+    keep_if(room, &mut tally.complete, trail, &run, is_kept)?;
+    let goes_on = run.cut & run.bounded;
+    push_if(room, &mut progress.work, trail, run, goes_on)?;
     Ok(())
 }

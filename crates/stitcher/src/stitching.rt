@@ -6,15 +6,14 @@ ghost use Rattle.partial_path.specs.Counted.{IsCrowded, HasLimit};
 ghost use Rattle.partial_path.specs.Sources.{IsSourceFile, graphs_of};
 ghost use Rattle.stitcher.specs.Answers.{AreCompleteRuns};
 ghost use Rattle.stitcher.specs.Opens.{IsEnded};
-ghost use Rattle.stitcher.specs.Trail.{asked};
 
 use crate::advance::advance;
 use crate::begin::begin;
 use crate::found::{StitchFault, Stitched};
 use crate::laws::cutting_laws;
-use crate::query::Query;
 use crate::room::Room;
-use crate::tally::Tally;
+use crate::search::Search;
+use crate::tally::{Progress, Tally};
 use partial_path::{Bounds, PathSource, Start};
 use stacks_vars::NodeAt;
 
@@ -47,11 +46,12 @@ pub fn stitch<'a, P: PathSource>(
     ensures not_crowded { OnOk result (IsSomeAnd (start (graphs_of (P.files source.now))
         (node_at file node)) (λ c. ¬ IsCrowded bounds (graphs_of (P.files source.now)) c)) }
 {
-    let query = Query {
+    let search = Search {
+        source,
         node: NodeAt { file, node },
         bounds,
     };
-    let tally = join_all(room, source, query)?;
+    let tally = join_all(room, &search)?;
     Ok(Stitched {
         complete: tally.complete,
         limit: tally.limit,
@@ -61,32 +61,32 @@ pub fn stitch<'a, P: PathSource>(
 /// Joins paths to the reference until none is left to be joined, and tells what was found.
 fn join_all<'a, P: PathSource>(
     room: &mut Room<'a>,
-    source: &'a P,
-    query: Query,
+    search: &Search<'a, P>,
 ) -> Result<Tally<'a>, StitchFault>
-    requires begins { start (graphs_of (P.files source.now)) query.node
-        ≡ Some (asked (P.files source.now) query).start }
-    ensures ended { IfOk result (λ tally. IsEnded (asked (P.files source.now) query) tally) }
+    requires begins { start (graphs_of search.now.files) search.now.node ≡ Some search.now.start }
+    ensures ended { IfOk result (λ tally. IsEnded search.now tally) }
     ensures crowded { result ≡ Err StitchFault.Crowded
-        → IsCrowded query.bounds (graphs_of (P.files source.now))
-        (asked (P.files source.now) query).start }
+        → IsCrowded search.now.bounds (graphs_of search.now.files) search.now.start }
 {
     cutting_laws();
-    are_sources(source, query.node);
-    let mut tally = Tally::with(room.take_complete());
+    are_sources(search);
+    let mut progress = Progress {
+        tally: Tally::with(room.take_complete()),
+        work: room.take_work(),
+    };
     let mut trail = room.take_trail();
-    let mut work = room.take_work();
-    begin(room, source, query, &mut work, &mut tally)?;
-    while let Some(open) = work.pop() {
-        advance(room, source, query, open, &mut trail, &mut work, &mut tally)?;
+    begin(room, search, &mut progress)?;
+    while let Some(open) = progress.work.pop() {
+        advance(room, search, open, &mut trail, &mut progress)?;
     }
-    room.keep(trail, work);
-    Ok(tally)
+    room.keep(trail, progress.work);
+    Ok(progress.tally)
 }
 
 /// Tells that the source has checked graphs with their path sets, which each look-up says.
-fn are_sources<P: PathSource>(source: &P, node: NodeAt)
-    ensures { All IsSourceFile (P.files source.now) }
+fn are_sources<P: PathSource>(search: &Search<'_, P>)
+    ensures { All IsSourceFile search.now.files }
 {
-    source.path_from(&Start::Before(node), None, 0);
+    let start = Start::Before(search.node);
+    search.source.path_from(&start, None, 0);
 }

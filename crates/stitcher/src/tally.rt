@@ -3,7 +3,15 @@ ghost use Rattle.partial_path.specs.Limits.{max_runs};
 
 use crate::complete::CompleteRun;
 use crate::found::StitchFault;
+use crate::open::Open;
 use partial_path::MAX_RUNS;
+
+/// How far a search has come: the runs that are still to be gone on from, and what was found so far.
+#[derive(Drop)]
+pub struct Progress<'a> {
+    pub work: Vec<Open<'a>>,
+    pub tally: Tally<'a>,
+}
 
 /// What was found so far.
 #[derive(Drop)]
@@ -14,6 +22,7 @@ pub struct Tally<'a> {
     pub counted: usize,
     /// Whether some counted run isn't bounded.
     pub limit: bool,
+    ghost few: { counted ≤ max_runs },
 }
 
 impl<'a> Tally<'a> {
@@ -33,10 +42,8 @@ impl<'a> Tally<'a> {
     /// Counts a run, told whether it is counted and whether it is bounded; `Crowded` where there were as many that are
     /// both as a reference may have. It takes no memory.
     pub fn count(&mut self, lands: bool, bounded: bool) -> Result<(), StitchFault>
-        requires { self.old.counted ≤ max_runs }
         ensures counted { OnOk result (self.new.counted
             ≡ self.old.counted + (if lands && bounded then 1 else 0)) }
-        ensures few { OnOk result (self.new.counted ≤ max_runs) }
         ensures complete { self.new.complete ≡ self.old.complete }
         ensures limit { OnOk result (self.new.limit ≡ (self.old.limit || (lands && not bounded))) }
         ensures full { result ≡ Err StitchFault.Crowded → self.old.counted ≡ max_runs }

@@ -6,7 +6,7 @@ ghost use Rattle.partial_path.specs.Laws.{IsAtStart};
 ghost use Rattle.partial_path.specs.Cutting.{edges_in};
 ghost use Rattle.stitcher.specs.Trail.{Moves, landed_at};
 
-use partial_path::{EdgeAt, LentConfig, Spot, StoredPath};
+use partial_path::{EdgeAt, LentConfig, Spot, Start, StoredPath};
 use stacks_vars::NodeAt;
 use std::alloc::AllocError;
 
@@ -17,6 +17,17 @@ pub struct Level<'a> {
     pub file: u32,
     pub path: StoredPath<'a>,
     pub at: LentConfig<'a>,
+}
+
+/// Where a search stands: which paths are joined at the moment, and where the last of them landed.
+#[derive(Drop)]
+pub struct Standing<'t, 'a> {
+    pub trail: &'t [Level<'a>],
+    pub at: &'t LentConfig<'a>,
+    /// Where the next path begins.
+    pub begin: Start,
+    /// How many edges the paths have together.
+    pub edges: usize,
 }
 
 /// Whether a configuration where a run lands is the start of the reference's runs.
