@@ -16,7 +16,7 @@ use Rattle.partial_path.specs.Runs.{run, IsApart}
 use Rattle.partial_path.specs.Counted.{IsBoundedComplete, IsCrowded, HasLimit}
 use Rattle.partial_path.specs.Sources.{IsSourceFile, graphs_of}
 use Rattle.stitcher.specs.Found.{EdgePath}
-use Rattle.stitcher.specs.declared.open.Open.{Open}
+use Rattle.stitcher.specs.declared.trail.Open.{Open}
 use Rattle.stitcher.specs.declared.tally.Progress.{Progress}
 use Rattle.stitcher.specs.declared.tally.Tally.{Tally}
 use Rattle.stitcher.specs.declared.trail.Level.{Level}

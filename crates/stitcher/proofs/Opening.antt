@@ -15,13 +15,13 @@ use Rattle.partial_path.specs.Moved.{moved}
 use Rattle.partial_path.specs.Cutting.{LeadFrom, landings, edge_count, heights}
 use Rattle.partial_path.specs.Laws.{AreStraightPaths}
 use Rattle.stitcher.specs.declared.note.Run.{Run}
-use Rattle.stitcher.specs.declared.open.Open.{Open}
+use Rattle.stitcher.specs.declared.trail.Open.{Open}
 use Rattle.stitcher.specs.declared.tally.Progress.{Progress}
 use Rattle.stitcher.specs.declared.trail.Level.{Level}
 use Rattle.stitcher.specs.declared.trail.Standing.{Standing}
 use Rattle.stitcher.specs.Joins.{Asked, IsAsked, Joined, joined, with_path, origin, is_none, start_behind, next_start, is_at_cut, is_bounded, is_bounded_counted, keeps_straight, joined_by, goes_on, offered_to}
 use Rattle.stitcher.specs.Opens.{opened, opened_at, opens_of, those, levels_of, AreOpen, IsLanded, IsOpen, IsLast, AreTaken, IsOverfull}
-use Rattle.stitcher.specs.Trail.{Moves, path_of, paths_of, landed_at, stood, IsHere, IsOffered, IsStanding}
+use Rattle.stitcher.specs.Trail.{Moves, path_of, paths_of, landed_at, IsHere, IsOffered, IsStanding}
 use Rattle.list_facts.proofs.Each.{all-append}
 use Rattle.list_facts.specs.Members.{IsIn}
 use Rattle.stitcher.proofs.Leading.{lead_with, landings-with}

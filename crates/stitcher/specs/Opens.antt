@@ -14,7 +14,7 @@ use Rattle.partial_path.specs.Sources.{graphs_of}
 use Rattle.stitcher.specs.Answers.{AreCompleteRuns}
 use Rattle.stitcher.specs.Found.{EdgePath}
 use Rattle.stitcher.specs.declared.note.Run.{Run}
-use Rattle.stitcher.specs.declared.open.Open.{Open}
+use Rattle.stitcher.specs.declared.trail.Open.{Open}
 use Rattle.stitcher.specs.declared.tally.Progress.{Progress}
 use Rattle.stitcher.specs.declared.tally.Tally.{Tally}
 use Rattle.stitcher.specs.declared.trail.Level.{Level}

@@ -44,10 +44,12 @@ pub fn is_cut_end<P: PathSource>(
     ensures { result ≡ end_cut (graphs_of search.now.files) (moved_end file path.now.end) }
 {
     match path.end() {
-        End::At(Spot::At(end)) => Some(search.source.is_cut(&NodeAt {
-            file: file + end.file,
-            node: end.node,
-        })),
+        End::At(Spot::At(end)) => Some(
+            search.source.is_cut(&NodeAt {
+                file: file + end.file,
+                node: end.node,
+            }),
+        ),
         End::At(Spot::Root) => Some(true),
         End::ByStack => None,
     }

@@ -1,18 +1,13 @@
 //! Stitching: the runs of a reference over the whole graph of a list of files, found by joining stored paths.
 #![tactic(auto)]
 
-mod advance;
-mod begin;
 mod complete;
-mod extend;
 mod found;
 mod join;
-mod keep;
 mod landing;
 mod laws;
 mod matching;
 mod note;
-mod open;
 mod room;
 mod search;
 mod stitching;

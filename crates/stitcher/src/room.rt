@@ -2,8 +2,7 @@
 ghost use Rattle.std.specs.Prelude.{◌≡◌, take, []};
 
 use crate::complete::{CompleteRun, RunPath};
-use crate::open::Open;
-use crate::trail::Level;
+use crate::trail::{Level, Open};
 use partial_path::{LentConfig, Spot};
 use std::alloc::{AllocError, Global};
 use std::mem;

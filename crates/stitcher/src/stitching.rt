@@ -1,20 +1,22 @@
-ghost use Rattle.std.specs.Prelude.{◌≡◌, ◌≤◌, ◌↔◌, All, IfOk, OnOk, IsTrue, IsSomeAnd, Some};
+ghost use Rattle.std.specs.Prelude.{◌≡◌, ◌↔◌, [], All, IfOk, OnOk, IsTrue, IsSomeAnd, Some};
 ghost use Rattle.graph_nodes.specs.Whole.{is_reference_of};
 ghost use Rattle.partial_path.specs.Spots.{node_at};
 ghost use Rattle.partial_path.specs.Step.{start};
 ghost use Rattle.partial_path.specs.Counted.{IsCrowded, HasLimit};
 ghost use Rattle.partial_path.specs.Sources.{IsSourceFile, graphs_of};
 ghost use Rattle.stitcher.specs.Answers.{AreCompleteRuns};
-ghost use Rattle.stitcher.specs.Opens.{IsEnded};
+ghost use Rattle.stitcher.specs.Joins.{IsAsked, none_joined};
+ghost use Rattle.stitcher.specs.Opens.{AreAdded, IsEnded, IsExtended, IsOpen, IsOverfull, levels_of, opened};
+ghost use Rattle.stitcher.specs.Trail.{IsStanding, stood};
 
-use crate::advance::advance;
-use crate::begin::begin;
 use crate::found::{StitchFault, Stitched};
+use crate::join::join;
 use crate::laws::cutting_laws;
-use crate::room::Room;
+use crate::room::{Room, cut_back};
 use crate::search::Search;
 use crate::tally::{Progress, Tally};
-use partial_path::{Bounds, PathSource, Start};
+use crate::trail::{Level, Open, Standing};
+use partial_path::{Bounds, PathSource, Spot, Start};
 use stacks_vars::NodeAt;
 
 /// The bounded complete runs of a reference of the source's files, each once, in no order that is told, and whether
@@ -89,4 +91,88 @@ fn are_sources<P: PathSource>(search: &Search<'_, P>)
 {
     let start = Start::Before(search.node);
     search.source.path_from(&start, None, 0);
+}
+
+/// Joins each path that is offered before the reference, and notes what comes of them.
+fn begin<'a, P: PathSource>(
+    room: &mut Room<'a>,
+    search: &Search<'a, P>,
+    progress: &mut Progress<'a>,
+) -> Result<(), StitchFault>
+    requires asked { IsAsked search.now }
+    ensures extended { OnOk result
+        (IsExtended search.now [] (none_joined search.now) progress.old progress.new) }
+    ensures added { OnOk result (AreAdded search.now [] progress.old progress.new) }
+    ensures crowded { result ≡ Err StitchFault.Crowded
+        → IsOverfull search.now (none_joined search.now) progress.old.tally.counted }
+{
+    let mut at = room.take()?;
+    at.put(Spot::At(search.node));
+    let begin = Start::Before(search.node);
+    let here = Standing {
+        trail: &[],
+        at: &at,
+        begin,
+        edges: 0,
+    };
+    extend(room, search, &here, progress)?;
+    room.give(at);
+    Ok(())
+}
+
+/// Goes on from an open run: the trail is cut back to where the run left it and gets its last path, and each path that
+/// is offered where that one landed is joined.
+fn advance<'a, P: PathSource>(
+    room: &mut Room<'a>,
+    search: &Search<'a, P>,
+    from: Open<'a>,
+    trail: &mut Vec<Level<'a>>,
+    progress: &mut Progress<'a>,
+) -> Result<(), StitchFault>
+    requires asked { IsAsked search.now }
+    requires open { IsOpen search.now trail.old.items from }
+    ensures trail { OnOk result (trail.new.items ≡ levels_of trail.old.items from.entry) }
+    ensures extended { OnOk result (IsExtended search.now trail.new.items
+        (opened trail.old.items from.entry) progress.old progress.new) }
+    ensures added { OnOk result (AreAdded search.now trail.new.items progress.old progress.new) }
+    ensures crowded { result ≡ Err StitchFault.Crowded → IsOverfull search.now
+        (opened trail.old.items from.entry) progress.old.tally.counted }
+{
+    let depth = from.depth;
+    let edges = from.edges;
+    cut_back(room, trail, depth);
+    trail.push(from.level)?;
+    let at = &trail[depth].at;
+    let begin = Start::After(at.spot());
+    let here = Standing {
+        trail,
+        at,
+        begin,
+        edges,
+    };
+    extend(room, search, &here, progress)
+}
+
+/// Joins each path that is offered where the search stands, and notes what comes of them.
+fn extend<'a, P: PathSource>(
+    room: &mut Room<'a>,
+    search: &Search<'a, P>,
+    here: &Standing<'_, 'a>,
+    progress: &mut Progress<'a>,
+) -> Result<(), StitchFault>
+    requires here { IsStanding search.now here.now }
+    ensures extended { OnOk result
+        (IsExtended search.now here.now.trail.now (stood here.now) progress.old progress.new) }
+    ensures added { OnOk result (AreAdded search.now here.now.trail.now progress.old progress.new) }
+    ensures crowded { result ≡ Err StitchFault.Crowded
+        → IsOverfull search.now (stood here.now) progress.old.tally.counted }
+{
+    let source = search.source;
+    let symbols = here.at.symbols();
+    let mut next = source.offers(&here.begin, symbols);
+    while let Some(found) = source.next_offer(symbols, next) {
+        next = found.2;
+        join(room, search, here, found.0, &found.1, progress)?;
+    }
+    Ok(())
 }

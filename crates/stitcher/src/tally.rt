@@ -3,7 +3,7 @@ ghost use Rattle.partial_path.specs.Limits.{max_runs};
 
 use crate::complete::CompleteRun;
 use crate::found::StitchFault;
-use crate::open::Open;
+use crate::trail::Open;
 use partial_path::MAX_RUNS;
 
 /// How far a search has come: the runs that are still to be gone on from, and what was found so far.

@@ -19,6 +19,17 @@ pub struct Level<'a> {
     pub at: LentConfig<'a>,
 }
 
+/// Joined paths that are still to be gone on from.
+#[derive(Drop)]
+pub struct Open<'a> {
+    /// How many levels of the trail come before its last path.
+    pub depth: usize,
+    /// How many edges its paths have together.
+    pub edges: usize,
+    /// Its last path, and where that landed.
+    pub level: Level<'a>,
+}
+
 /// Where a search stands: which paths are joined at the moment, and where the last of them landed.
 #[derive(Drop)]
 pub struct Standing<'t, 'a> {

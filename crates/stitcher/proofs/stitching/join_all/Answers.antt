@@ -4,7 +4,7 @@ use Rattle.std.proofs.Common.{◌≡◌, ◌<◌, ◌-◌, ◌∙◌, ℕ, Err, 
 use Rattle.std.proofs.lemmas.Result.{err_from_is_err_and}
 use Rattle.stitcher.specs.Found.{EdgePath}
 use Rattle.stitcher.specs.declared.found.StitchFault.TheVariants.{Crowded}
-use Rattle.stitcher.specs.declared.open.Open.{Open}
+use Rattle.stitcher.specs.declared.trail.Open.{Open}
 use Rattle.stitcher.specs.declared.trail.Level.{Level}
 use Rattle.stitcher.specs.Opens.{opens_of}
 use Rattle.stitcher.proofs.UnderWay.{onward}

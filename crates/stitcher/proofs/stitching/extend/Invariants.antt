@@ -3,7 +3,7 @@ use Rattle.partial_path.specs.Rules.{Rule}
 use Rattle.stitcher.specs.Joins.{joined_by}
 use Rattle.stitcher.specs.Opens.{AreTaken, AreAdded}
 use Rattle.stitcher.specs.Trail.{stood}
-use Rattle.stitcher.proofs.extend.extend.Given as goal
+use Rattle.stitcher.proofs.stitching.extend.Given as goal
 
 abbrev pub invariant-loop-found : goal.invariant-loop-found
 invariant-loop-found g l = record {

@@ -5,7 +5,7 @@ use Rattle.stitcher.specs.declared.trail.Level.{Level}
 use Rattle.stitcher.specs.Opens.{levels_of}
 use Rattle.stitcher.specs.Trail.{landed_at}
 use Rattle.stitcher.proofs.Opening.{last_level, stands_open}
-use Rattle.stitcher.proofs.advance.advance.Goals as goal
+use Rattle.stitcher.proofs.stitching.advance.Goals as goal
 
 pub extend-requires : goal.extend-requires
 extend-requires g c =
