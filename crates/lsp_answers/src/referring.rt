@@ -18,7 +18,7 @@ use crate::outcomes::{Project, located, outcome_of_fault};
 use crate::querying::{Place, definitions};
 use graph_nodes::Span;
 use lsp_wire::Outcome;
-use nav_answers::{AskFault, AskedView, definition_at, references_of_any};
+use nav_answers::{AskFault, AskedView, Over, definition_at, references_of_any};
 use nav_io::Gate;
 use partial_path::{Bounds, FilePaths};
 use root_index::RootIndex;
@@ -121,44 +121,38 @@ fn targets(alloc: Global, view: &View, index: &RootIndex, place: &Place) -> Resu
 /// The references of all the targets, in the usual bounds. All are asked about at once: each reference that is asked lists
 /// all its definitions anyway.
 fn refer_to_all<R: Threads + Sync, G: Gate + Sync>(
-    rt: &R,
-    alloc: Global,
+    over: &Over<'_, R, G>,
     seen: &mut AskedView,
-    index: &RootIndex,
-    gate: &G,
     targets: &[Row],
 ) -> Result<Rows, AskFault>
-    requires index { IsIndexOfView index.now seen.old }
+    requires index { IsIndexOfView over.now.index.now seen.old }
     ensures reply { result ≢ Err ask.NoMemory
         → IsReferencesOfAnyReply usual (graph_rows seen.old) targets.now result }
     ensures same { seen.new ≡ seen.old }
 {
-    references_of_any(rt, alloc, seen, index, gate, targets, Bounds::usual())
+    references_of_any(over, seen, targets, Bounds::usual())
 }
 
 /// What an editor is told of the references of what stands at the place, and of the targets too where the declaration is
 /// asked for. All targets are asked about at once. What was found of the references is kept beside the view. The one
 /// error is want of memory.
 pub fn tell_references<R: Threads + Sync, G: Gate + Sync>(
-    rt: &R,
-    alloc: Global,
+    over: &Over<'_, R, G>,
     seen: &mut AskedView,
-    index: &RootIndex,
-    gate: &G,
     project: &Project<'_>,
     asked: &ReferencesOf<'_>,
 ) -> Result<Outcome, AllocError>
-    requires index { IsIndexOfView index.now seen.old }
+    requires index { IsIndexOfView over.now.index.now seen.old }
     ensures told { IfOk result
         (TellsReferences (graph_rows seen.old) project.now.root.now
         (texts_in project.now.texts.now) asked.now.declaration asked.now.place.now.path
         (at.Point asked.now.place.now.line asked.now.place.now.column)) }
     ensures same { seen.new ≡ seen.old }
 {
-    match targets(alloc, seen.view(), index, asked.place) {
+    match targets(over.alloc, seen.view(), over.index, asked.place) {
         Ok(targets) => {
-            let found = refer_to_all(rt, alloc, seen, index, gate, targets.items());
-            tell_found(alloc, project, targets, found, asked.declaration)
+            let found = refer_to_all(over, seen, targets.items());
+            tell_found(over.alloc, project, targets, found, asked.declaration)
         }
         Err(fault) => outcome_of_fault(fault),
     }

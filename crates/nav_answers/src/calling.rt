@@ -14,6 +14,7 @@ use crate::asking::Query;
 use crate::defining::rows_told;
 use crate::found::{AskFault, At, ask_fault};
 use crate::meaning::{Asked, meant};
+use crate::over::Over;
 use crate::parts::Parts;
 use crate::referring::{MOST_LINKS, references_to};
 use crate::rows::{hit_of, in_order};
@@ -22,7 +23,6 @@ use crate::source::ViewSource;
 use back_stitch::BackFault;
 use nav_io::Gate;
 use partial_path::Bounds;
-use root_index::RootIndex;
 use stacks_vars::NodeAt;
 use std::alloc::{AllocError, Global};
 use std::thread::Threads;
@@ -42,66 +42,57 @@ use whole_search::Hit;
 /// kept. The first time on a view its paths by where they end are listed on several threads and kept, which follows the
 /// files.
 pub fn callers<R: Threads + Sync, G: Gate + Sync>(
-    rt: &R,
-    alloc: Global,
+    over: &Over<'_, R, G>,
     seen: &mut AskedView,
-    index: &RootIndex,
-    gate: &G,
     path: &str,
     at: At,
 ) -> Result<Rows, AskFault>
-    requires { IsIndexOfView index.now seen.old }
+    requires { IsIndexOfView over.now.index.now seen.old }
     ensures reply { result ≢ Err AskFault.NoMemory
         → IsCallersReply (graph_rows seen.old) path.now at result }
     ensures same { seen.new ≡ seen.old }
 {
     match meant(seen.view(), Asked::Definition, path, at) {
-        Ok(node) => callers_of(rt, alloc, seen, index, gate, node),
+        Ok(node) => callers_of(over, seen, node),
         Err(fault) => Err(fault),
     }
 }
 
 /// The same of the definition at a node.
 fn callers_of<R: Threads + Sync, G: Gate + Sync>(
-    rt: &R,
-    alloc: Global,
+    over: &Over<'_, R, G>,
     seen: &mut AskedView,
-    index: &RootIndex,
-    gate: &G,
     node: NodeAt,
 ) -> Result<Rows, AskFault>
-    requires index { IsIndexOfView index.now seen.old }
+    requires index { IsIndexOfView over.now.index.now seen.old }
     requires definition { IsTrue (is_definition_of (graphs_seen seen.old) node.file node.node) }
     ensures reply { result ≢ Err AskFault.NoMemory
         → IsCallerReply (graph_rows seen.old) node result }
     ensures same { seen.new ≡ seen.old }
 {
     if seen.has_each(Bounds::usual()) {
-        return rows_of_references(rt, alloc, seen, index, gate, node);
+        return rows_of_references(over, seen, node);
     }
-    match seen.leading(rt, alloc, node) {
-        Ok(leading) => callers_among(rt, alloc, seen.view(), index, gate, node, &leading),
-        Err(BackFault::Many) => rows_of_references(rt, alloc, seen, index, gate, node),
+    match seen.leading(over.rt, over.alloc, node) {
+        Ok(leading) => callers_among(over, seen.view(), node, &leading),
+        Err(BackFault::Many) => rows_of_references(over, seen, node),
         Err(BackFault::NoMemory) => Err(AskFault::NoMemory),
     }
 }
 
 /// What `references` tells of the definition, without its flag.
 fn rows_of_references<R: Threads + Sync, G: Gate + Sync>(
-    rt: &R,
-    alloc: Global,
+    over: &Over<'_, R, G>,
     seen: &mut AskedView,
-    index: &RootIndex,
-    gate: &G,
     node: NodeAt,
 ) -> Result<Rows, AskFault>
-    requires { IsIndexOfView index.now seen.old }
+    requires { IsIndexOfView over.now.index.now seen.old }
     ensures reply { result ≢ Err AskFault.NoMemory
         → TellsUnless (IsAnyCrowded usual (graphs_in (graph_rows seen.old)))
         (graph_rows seen.old) node result }
     ensures same { seen.new ≡ seen.old }
 {
-    match references_to(rt, alloc, seen, index, gate, node, Bounds::usual()) {
+    match references_to(over, seen, node, Bounds::usual()) {
         Ok(answer) => Ok(answer.rows),
         Err(fault) => Err(fault),
     }
@@ -109,21 +100,18 @@ fn rows_of_references<R: Threads + Sync, G: Gate + Sync>(
 
 /// Those of the references that lead to the definition which have it among their own, where none of them is crowded.
 fn callers_among<R: Threads + Sync, G: Gate + Sync>(
-    rt: &R,
-    alloc: Global,
+    over: &Over<'_, R, G>,
     view: &View,
-    index: &RootIndex,
-    gate: &G,
     node: NodeAt,
     leading: &[NodeAt],
 ) -> Result<Rows, AskFault>
-    requires index { IsIndexOfView index.now view.now }
+    requires index { IsIndexOfView over.now.index.now view.now }
     requires leading { AreThoseThatReach (graphs_seen view.now) node leading.now }
     ensures { result ≢ Err AskFault.NoMemory
         → TellsUnless (LeadsCrowded (graphs_in (graph_rows view.now)) node)
         (graph_rows view.now) node result }
 {
-    let source = ViewSource::of(view, index);
+    let source = ViewSource::of(view, over.index);
     let query = Query {
         view,
         source: &source,
@@ -131,10 +119,10 @@ fn callers_among<R: Threads + Sync, G: Gate + Sync>(
         bounds: Bounds::usual(),
         most: MOST_LINKS,
     };
-    match ask_all(rt, alloc, &query, gate, leading) {
+    match ask_all(over, &query, leading) {
         Ok(parts) => {
-            let hits = callers_by(alloc, view, node, leading, &parts)?;
-            Ok(rows_told(alloc, view, &hits)?)
+            let hits = callers_by(over.alloc, view, node, leading, &parts)?;
+            Ok(rows_told(over.alloc, view, &hits)?)
         }
         Err(fault) => Err(ask_fault(fault)),
     }

@@ -13,13 +13,13 @@ use crate::defining::answer_of;
 use crate::found::{AskFault, At};
 use crate::listing::all_references;
 use crate::meaning::{Asked, meant};
+use crate::over::Over;
 use crate::parts::Parts;
 use crate::rows::{hit_of, in_order};
 use crate::sharing::ask_all;
 use crate::source::{ForMany, ViewSource};
 use nav_io::Gate;
 use partial_path::Bounds;
-use root_index::RootIndex;
 use stacks_vars::NodeAt;
 use std::alloc::{AllocError, Global};
 use std::thread::Threads;
@@ -48,79 +48,67 @@ pub const MOST_LINKS: usize = 2_097_152;
 /// refused while they are asked, nothing is kept. Where the references have more than some 2,097,152 definitions in all,
 /// those that aren't meant are let go meanwhile, and nothing is kept either.
 pub fn references<R: Threads + Sync, G: Gate + Sync>(
-    rt: &R,
-    alloc: Global,
+    over: &Over<'_, R, G>,
     seen: &mut AskedView,
-    index: &RootIndex,
-    gate: &G,
     path: &str,
     at: At,
     bounds: Bounds,
 ) -> Result<Answer, AskFault>
-    requires { IsIndexOfView index.now seen.old }
+    requires { IsIndexOfView over.now.index.now seen.old }
     ensures reply { result ≢ Err AskFault.NoMemory
         → IsReferencesReply bounds (graph_rows seen.old) path.now at result }
     ensures same { seen.new ≡ seen.old }
 {
     match meant(seen.view(), Asked::Definition, path, at) {
-        Ok(node) => references_to(rt, alloc, seen, index, gate, node, bounds),
+        Ok(node) => references_to(over, seen, node, bounds),
         Err(fault) => Err(fault),
     }
 }
 
 /// The same of the definition at a node.
 pub fn references_to<R: Threads + Sync, G: Gate + Sync>(
-    rt: &R,
-    alloc: Global,
+    over: &Over<'_, R, G>,
     seen: &mut AskedView,
-    index: &RootIndex,
-    gate: &G,
     node: NodeAt,
     bounds: Bounds,
 ) -> Result<Answer, AskFault>
-    requires { IsIndexOfView index.now seen.old }
+    requires { IsIndexOfView over.now.index.now seen.old }
     ensures reply { result ≢ Err AskFault.NoMemory
         → IsReferenceReply bounds (graph_rows seen.old) node result }
     ensures same { seen.new ≡ seen.old }
 {
-    references_to_any(rt, alloc, seen, index, gate, &[hit_of(node)], bounds)
+    references_to_any(over, seen, &[hit_of(node)], bounds)
 }
 
 /// The answer that tells of the references of these definitions, from what is kept of all references, or else from what
 /// is found of them, which is then kept.
 pub fn references_to_any<R: Threads + Sync, G: Gate + Sync>(
-    rt: &R,
-    alloc: Global,
+    over: &Over<'_, R, G>,
     seen: &mut AskedView,
-    index: &RootIndex,
-    gate: &G,
     definitions: &[Hit],
     bounds: Bounds,
 ) -> Result<Answer, AskFault>
-    requires { IsIndexOfView index.now seen.old }
+    requires { IsIndexOfView over.now.index.now seen.old }
     ensures reply { result ≢ Err AskFault.NoMemory
         → IsReplyToAny bounds (graph_rows seen.old) definitions.now result }
     ensures each { IfOk result (λ _. (definition : Hit) → Contains definitions.now definition
         → HasReferences bounds (graphs_in (graph_rows seen.old)) definition) }
     ensures same { seen.new ≡ seen.old }
 {
-    let known = known_of(rt, alloc, seen, index, gate, definitions, bounds)?;
-    let found = answer_from(alloc, seen.view(), &known, definitions);
+    let known = known_of(over, seen, definitions, bounds)?;
+    let found = answer_from(over.alloc, seen.view(), &known, definitions);
     seen.keep_known(known, definitions);
     found
 }
 
 /// What is kept of the references, or else what is found of them for these definitions; the one error is want of memory.
 fn known_of<R: Threads + Sync, G: Gate + Sync>(
-    rt: &R,
-    alloc: Global,
+    over: &Over<'_, R, G>,
     seen: &mut AskedView,
-    index: &RootIndex,
-    gate: &G,
     definitions: &[Hit],
     bounds: Bounds,
 ) -> Result<Known, AllocError>
-    requires { IsIndexOfView index.now seen.old }
+    requires { IsIndexOfView over.now.index.now seen.old }
     ensures known { IfOk result (IsKnownOf (graphs_seen seen.old) definitions.now) }
     ensures bounds { IfOk result (λ known. known.bounds ≡ bounds) }
     ensures same { seen.new ≡ seen.old }
@@ -128,8 +116,8 @@ fn known_of<R: Threads + Sync, G: Gate + Sync>(
     match seen.take_known(bounds) {
         Some(known) => Ok(known),
         None => {
-            let many = ForMany::of(alloc, seen.view(), index)?;
-            let source = ViewSource::with(seen.view(), index, Some(&many));
+            let many = ForMany::of(over.alloc, seen.view(), over.index)?;
+            let source = ViewSource::with(seen.view(), over.index, Some(&many));
             let query = Query {
                 view: seen.view(),
                 source: &source,
@@ -137,17 +125,15 @@ fn known_of<R: Threads + Sync, G: Gate + Sync>(
                 bounds,
                 most: MOST_LINKS,
             };
-            find_all(rt, alloc, &query, gate)
+            find_all(over, &query)
         }
     }
 }
 
 /// What is found of all references of the files that are seen; the one error is want of memory.
 fn find_all<R: Threads + Sync, G: Gate + Sync>(
-    rt: &R,
-    alloc: Global,
+    over: &Over<'_, R, G>,
     query: &Query,
-    gate: &G,
 ) -> Result<Known, AllocError>
     requires { query.now.source.now.rows ≡ query.now.view.now }
     ensures known { IfOk result
@@ -155,7 +141,7 @@ fn find_all<R: Threads + Sync, G: Gate + Sync>(
     ensures bounds { IfOk result (λ known. known.bounds ≡ query.now.bounds) }
 {
     let bounds = query.bounds;
-    match links_of_all(rt, alloc, query, gate) {
+    match links_of_all(over, query) {
         Ok(parts) => Ok(Known {
             bounds,
             told: Told::Each(parts),
@@ -181,10 +167,8 @@ fn told_of(fault: StitchFault) -> Result<Told, AllocError>
 
 /// All references of the files that are seen, each with each of its definitions.
 fn links_of_all<R: Threads + Sync, G: Gate + Sync>(
-    rt: &R,
-    alloc: Global,
+    over: &Over<'_, R, G>,
     query: &Query,
-    gate: &G,
 ) -> Result<Parts, StitchFault>
     requires { query.now.source.now.rows ≡ query.now.view.now }
     ensures found { IfOk result
@@ -194,8 +178,8 @@ fn links_of_all<R: Threads + Sync, G: Gate + Sync>(
     ensures crowded { result ≡ Err StitchFault.Crowded
         → IsAnyCrowded query.now.bounds (graphs_seen query.now.view.now) }
 {
-    let all = all_references(alloc, query.view)?;
-    ask_all(rt, alloc, query, gate, &all)
+    let all = all_references(over.alloc, query.view)?;
+    ask_all(over, query, &all)
 }
 
 /// The answer that tells of the references of the definitions, from what was found of all references.

@@ -6,6 +6,7 @@ ghost use Rattle.nav_answers.specs.Twins.{AreKept};
 use crate::asking::Query;
 use crate::jobs::add_found;
 use crate::links::Links;
+use crate::over::Over;
 use crate::parts::Parts;
 use crate::twins::Searched;
 use nav_io::Gate;
@@ -39,10 +40,8 @@ type Share = Result<Links, StitchFault>;
 /// the runs 1, n + 1 and so on. Where one of them has a fault, the fault is told once all threads have ended, of
 /// those of several the first by the threads' order.
 pub fn ask_all<R: Threads + Sync, G: Gate + Sync>(
-    rt: &R,
-    alloc: Global,
+    over: &Over<'_, R, G>,
     query: &Query,
-    gate: &G,
     all: &[NodeAt],
 ) -> Result<Parts, StitchFault>
     requires source { query.now.source.now.rows ≡ query.now.view.now }
@@ -53,9 +52,9 @@ pub fn ask_all<R: Threads + Sync, G: Gate + Sync>(
     ensures crowded { result ≡ Err StitchFault.Crowded
         → IsCrowdedAmong query.now.bounds (graphs_seen query.now.view.now) all.now }
 {
-    let mut shares = empty_shares(alloc, thread_count(rt, all.len()))?;
-    ask_shares(rt, alloc, query, gate, all, &mut shares);
-    together(alloc, query, all, shares)
+    let mut shares = empty_shares(over.alloc, thread_count(over.rt, all.len()))?;
+    ask_shares(over, query, all, &mut shares);
+    together(over.alloc, query, all, shares)
 }
 
 /// On how many threads so many references are asked: one for each processor, and no more than there are references.
@@ -82,10 +81,8 @@ fn empty_shares(alloc: Global, count: usize) -> Result<Vec<Share>, AllocError>
 
 /// Asks the references, each share on a thread of its own where one can be made.
 fn ask_shares<R: Threads + Sync, G: Gate + Sync>(
-    rt: &R,
-    alloc: Global,
+    over: &Over<'_, R, G>,
     query: &Query,
-    gate: &G,
     all: &[NodeAt],
     shares: &mut [Share],
 )
@@ -98,6 +95,12 @@ fn ask_shares<R: Threads + Sync, G: Gate + Sync>(
         (graphs_seen query.now.view.now) query.now.definitions.now all.now (length shares.old) i
         (slice_index_or shares.new i d) }
 {
+    let Over {
+        rt,
+        alloc,
+        gate,
+        ..
+    } = *over;
     let step = shares.len();
     thread::for_each_mut(
         rt,

@@ -7,11 +7,11 @@ ghost use Rattle.nav_answers.specs.Replies.{IsReferencesOfAnyReply};
 use crate::asked_view::AskedView;
 use crate::found::{AskFault, At};
 use crate::meaning::{Asked, meant};
+use crate::over::Over;
 use crate::referring::references_to_any;
 use crate::rows::hit_of;
 use nav_io::Gate;
 use partial_path::Bounds;
-use root_index::RootIndex;
 use std::alloc::{AllocError, Global};
 use std::thread::Threads;
 use version_tree::{Row, Rows, View};
@@ -27,25 +27,22 @@ use whole_search::Hit;
 /// Each reference of the files is asked once, on several threads, as by `references`, however many definitions there
 /// are; what was found is kept beside the view and serves the next time, as there.
 pub fn references_of_any<R: Threads + Sync, G: Gate + Sync>(
-    rt: &R,
-    alloc: Global,
+    over: &Over<'_, R, G>,
     seen: &mut AskedView,
-    index: &RootIndex,
-    gate: &G,
     definitions: &[Row],
     bounds: Bounds,
 ) -> Result<Rows, AskFault>
-    requires { IsIndexOfView index.now seen.old }
+    requires { IsIndexOfView over.now.index.now seen.old }
     ensures reply { result ≢ Err AskFault.NoMemory
         → IsReferencesOfAnyReply bounds (graph_rows seen.old) definitions.now result }
     ensures same { seen.new ≡ seen.old }
 {
-    let hits = definitions_named(alloc, seen.view(), definitions)?;
+    let hits = definitions_named(over.alloc, seen.view(), definitions)?;
     let named = hits.as_slice();
     if named.is_empty() {
-        return Ok(Rows::of(Vec::new(alloc)));
+        return Ok(Rows::of(Vec::new(over.alloc)));
     }
-    match references_to_any(rt, alloc, seen, index, gate, named, bounds) {
+    match references_to_any(over, seen, named, bounds) {
         Ok(answer) => Ok(answer.rows),
         Err(fault) => Err(fault),
     }

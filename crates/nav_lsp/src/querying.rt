@@ -8,6 +8,7 @@ ghost use Rattle.nav_lsp.specs.Held.{HoldsAll, IsReady};
 use crate::editor::Editor;
 use lsp_answers::{ReferencesOf, place_of, tell_definitions, tell_references};
 use lsp_wire::{Outcome, Position};
+use nav_answers::Over;
 use nav_io::Gate;
 use nav_session::Means;
 use std::alloc::{AllocError, Global};
@@ -69,15 +70,13 @@ pub(crate) fn reference<R: Threads + Sync, B: Pins, G: Gate + Sync>(
         place: &place,
         declaration,
     };
-    let outcome = tell_references(
+    let over = Over {
         rt,
         alloc,
-        &mut view,
-        &pinned.index,
+        index: &pinned.index,
         gate,
-        &editor.project(),
-        &asked,
-    )?;
+    };
+    let outcome = tell_references(&over, &mut view, &editor.project(), &asked)?;
     editor.keep_view(view);
     Ok(outcome)
 }

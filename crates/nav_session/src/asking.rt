@@ -8,7 +8,7 @@ ghost use Rattle.nav_session.specs.Desks.{Replies, HasItsView, moment};
 use crate::desk::Desk;
 use crate::means::Means;
 use crate::refusals::{callers_reply, query_reply};
-use nav_answers::At;
+use nav_answers::{At, Over};
 use nav_io::Gate;
 use nav_proto::{Bounds, PlainError, Point, Reply};
 use std::alloc::{AllocError, Global};
@@ -77,16 +77,13 @@ pub fn references<R: Threads + Sync, B: Pins, G: Gate + Sync>(
     let Means { rt, alloc, gate } = *means;
     let pinned = board.pinned();
     let mut view = desk.take_view(alloc, &pinned.version)?;
-    let found = nav_answers::references(
+    let over = Over {
         rt,
         alloc,
-        &mut view,
-        &pinned.index,
+        index: &pinned.index,
         gate,
-        path,
-        at,
-        bounds,
-    );
+    };
+    let found = nav_answers::references(&over, &mut view, path, at, bounds);
     desk.keep_view(view);
     query_reply(found)
 }
@@ -115,7 +112,13 @@ pub fn callers<R: Threads + Sync, B: Pins, G: Gate + Sync>(
     let Means { rt, alloc, gate } = *means;
     let pinned = board.pinned();
     let mut view = desk.take_view(alloc, &pinned.version)?;
-    let found = nav_answers::callers(rt, alloc, &mut view, &pinned.index, gate, path, at);
+    let over = Over {
+        rt,
+        alloc,
+        index: &pinned.index,
+        gate,
+    };
+    let found = nav_answers::callers(&over, &mut view, path, at);
     desk.keep_view(view);
     callers_reply(found)
 }
