@@ -1,10 +1,11 @@
 -- The references of files: which they are, in which order, and that the code lists them.
-use Rattle.std.proofs.Common.{◌≡◌, refl, sym, ◌∙◌, ap, subst, ℕ, zero, suc, ◌+◌, ◌<◌, ◌≤◌, List, [], ◌∷◌, ◌++◌, length, drop, Bool, true, false, cond, if◌then◌else◌, Option, Some, None, IsSomeAnd, slice_get, inl, inr, ◌⊎◌, append_assoc, arith}
+use Rattle.std.proofs.Common.{◌≡◌, refl, sym, ◌∙◌, ap, subst, ℕ, zero, suc, ◌+◌, ◌<◌, ◌≤◌, List, [], ◌∷◌, ◌++◌, length, drop, Bool, true, false, cond, if◌then◌else◌, Option, Some, None, IsSomeAnd, slice_get, inl, inr, ◌⊎◌, append_assoc, take, set, arith}
 use Rattle.std.specs.List.{AllByRecursion}
 use Rattle.std.specs.Option.{option_and_then, option_map_or}
-use Rattle.std.proofs.lemmas.List.{drop_more, append-nil}
+use Rattle.std.proofs.lemmas.List.{drop_more, append-nil, take-set, take_more_set}
 use Rattle.std.proofs.lemmas.Option.{none-some, same_Some, slice_get_within, slice_get_cases, get_or_from_slice_get}
 use Rattle.std.proofs.Math.ListN.{drop_of_length-le}
+use mir.Val.{bool_byte}
 use Rattle.graph_nodes.specs.declared.node.Node.{Node}
 use Rattle.graph_nodes.specs.Graph.{Graph, is_reference, is_reference_kind}
 use Rattle.stacks_vars.specs.declared.scopes.NodeAt.{NodeAt}
@@ -56,6 +57,27 @@ place_passed file n nodes xs lt is = elim (slice_get_cases nodes n).1 [
   | inl found ↦ node_passed file n nodes found.0 xs found.2 (as_kind nodes n found.0 false found.2 is)
   | inr past ↦ absurd (omega (arith, past.0, lt))
 ]
+
+-- what is counted for one node
+pub counts_one : (b : Bool) → bool_byte b ≤ 1
+counts_one true = omega arith
+counts_one false = omega arith
+
+-- A node is put down behind those that were found, and counts where it is a reference.
+put_one : (file n : ℕ) (nodes : List Node) (found : List NodeAt) (count : ℕ) (b : Bool) → n < length nodes → count < length found → is_reference nodes n ≡ b
+    → take (count + bool_byte b) (set found count (node_at file n)) ++ references_in file (n + 1) (drop (n + 1) nodes) ≡ take count found ++ references_in file n (drop n nodes)
+put_one file n nodes found count true lt room is =
+    ap (λ xs. xs ++ references_in file (n + 1) (drop (n + 1) nodes)) (take_more_set found count (node_at file n) room) ∙ sym (place_listed file n nodes (take count found) lt is)
+put_one file n nodes found count false lt room is =
+    let none : count + 0 ≡ count = omega arith in
+    ap (λ k. take k (set found count (node_at file n)) ++ references_in file (n + 1) (drop (n + 1) nodes)) none
+    ∙ ap (λ xs. xs ++ references_in file (n + 1) (drop (n + 1) nodes)) (take-set found count (node_at file n))
+    ∙ sym (place_passed file n nodes (take count found) lt is)
+
+pub put_down : (file n : ℕ) (nodes : List Node) (found : List NodeAt) (count more : ℕ) (b : Bool) → n < length nodes → count < length found → is_reference nodes n ≡ b → more ≡ bool_byte b
+    → take (count + more) (set found count (node_at file n)) ++ references_in file (n + 1) (drop (n + 1) nodes) ≡ take count found ++ references_in file n (drop n nodes)
+put_down file n nodes found count more b lt room is counted =
+    ap (λ k. take (count + k) (set found count (node_at file n)) ++ references_in file (n + 1) (drop (n + 1) nodes)) counted ∙ put_one file n nodes found count b lt room is
 
 pub nodes_over : (file n : ℕ) (nodes : List Node) (xs : List NodeAt) → length nodes ≤ n → xs ++ references_in file n (drop n nodes) ≡ xs
 nodes_over file n nodes xs h = ap (λ ns. xs ++ references_in file n ns) (drop_of_length-le nodes h) ∙ append-nil xs

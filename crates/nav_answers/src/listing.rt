@@ -1,4 +1,4 @@
-ghost use Rattle.std.specs.Prelude.{◌≡◌, ◌++◌, IfOk, OnOk};
+ghost use Rattle.std.specs.Prelude.{◌≡◌, ◌≤◌, ◌+◌, ◌++◌, drop, length, IfOk, OnOk};
 ghost use Rattle.nav_answers.specs.Asking.{references_from, references_in};
 ghost use Rattle.nav_answers.specs.Sources.{graphs_seen};
 
@@ -6,6 +6,9 @@ use partial_path::FilePaths;
 use stacks_vars::NodeAt;
 use std::alloc::{AllocError, Global};
 use version_tree::View;
+
+/// How many nodes are looked at, at most, before the references among them are added. The room for so many has a kilobyte.
+const MOST_AT_ONCE: u32 = 128;
 
 /// All references of the files that are seen, in file order; the one error is want of memory.
 pub fn all_references(alloc: Global, view: &View) -> Result<Vec<NodeAt>, AllocError>
@@ -23,10 +26,42 @@ fn add_references(file: &FilePaths, number: u32, all: &mut Vec<NodeAt>) -> Resul
     ensures { OnOk result (all.new.items ≡ all.old.items
         ++ references_in number 0 file.now.graph.nodes) }
 {
-    for node in 0..file.node_count() {
-        if file.is_reference(node) {
-            all.push(NodeAt { file: number, node })?;
-        }
+    let count = file.node_count();
+    let mut from = 0;
+    while from < count {
+        let end = from + MOST_AT_ONCE.min(count - from);
+        add_between(file, number, from, end, all)?;
+        from = end;
     }
     Ok(())
+}
+
+/// Adds the references among the nodes from one position up to another. Whether a node is one can't be foretold, and a
+/// processor that guesses wrong loses more time than a node takes. So nothing is decided by it: each node is put down, and
+/// the next one takes its place where it is no reference.
+fn add_between(
+    file: &FilePaths,
+    number: u32,
+    from: u32,
+    end: u32,
+    all: &mut Vec<NodeAt>,
+) -> Result<(), AllocError>
+    requires order { from ≤ end }
+    requires few { end ≤ from + 128 }
+    requires inside { end ≤ length file.now.graph.nodes }
+    ensures { OnOk result
+        (all.new.items ++ references_in number end (drop end file.now.graph.nodes)
+        ≡ all.old.items ++ references_in number from (drop from file.now.graph.nodes)) }
+{
+    let blank = NodeAt {
+        file: number,
+        node: 0,
+    };
+    let mut found = [blank; MOST_AT_ONCE as usize];
+    let mut count = 0;
+    for node in from..end {
+        found[count] = NodeAt { file: number, node };
+        count += usize::from(file.is_reference(node));
+    }
+    all.extend_from_slice(&found[..count])
 }
