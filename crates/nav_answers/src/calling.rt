@@ -1,7 +1,8 @@
-ghost use Rattle.std.specs.Prelude.{◌≡◌, ◌≢◌, ◌∷◌, [], Err, IfOk, IsTrue};
+ghost use Rattle.std.specs.Prelude.{◌≡◌, ◌≢◌, ◌∷◌, [], Err, IfOk, IfSome, IsTrue};
 ghost use Rattle.graph_nodes.specs.Whole.{is_definition_of};
 ghost use Rattle.version_tree.specs.Graphs.{graph_rows};
 ghost use Rattle.root_index.specs.Roots.{IsIndexOfView};
+ghost use Rattle.root_index.specs.SeenFiles.{AreSeenFiles};
 ghost use Rattle.whole_search.specs.Answers.{AreReferences, IsAnyCrowded};
 ghost use Rattle.back_stitch.specs.Lists.{usual, AreThoseThatReach};
 ghost use Rattle.nav_answers.specs.Asking.{AreLinksOf};
@@ -23,11 +24,16 @@ use crate::source::ViewSource;
 use back_stitch::BackFault;
 use nav_io::Gate;
 use partial_path::Bounds;
+use root_index::{RootIndex, SeenFiles};
 use stacks_vars::NodeAt;
 use std::alloc::{AllocError, Global};
 use std::thread::Threads;
 use version_tree::{Rows, View};
 use whole_search::Hit;
+
+/// How many references are asked, at most, with no table of the files' numbers. A table has a number for each path from the
+/// root in the whole version, and a reference meets some tens of these paths.
+const FEW: usize = 256;
 
 /// Who refers to the definition that is meant in the file with the path, within the bounds of a query that states none:
 /// a row for each reference of the files that are seen that has it among its definitions, in file order. It is `NoFile`
@@ -111,7 +117,8 @@ fn callers_among<R: Threads + Sync, G: Gate + Sync>(
         → TellsUnless (LeadsCrowded (graphs_in (graph_rows view.now)) node)
         (graph_rows view.now) node result }
 {
-    let source = ViewSource::of(view, over.index);
+    let files = numbers_for(over.alloc, view, over.index, leading.len())?;
+    let source = ViewSource::with(view, over.index, files.as_ref());
     let query = Query {
         view,
         source: &source,
@@ -126,6 +133,23 @@ fn callers_among<R: Threads + Sync, G: Gate + Sync>(
         }
         Err(fault) => Err(ask_fault(fault)),
     }
+}
+
+/// The numbers of the files of the index's paths in the view, where so many references are asked that to find all of them
+/// once takes less than to find each as it is met; the one error is want of memory.
+fn numbers_for(
+    alloc: Global,
+    view: &View,
+    index: &RootIndex,
+    references: usize,
+) -> Result<Option<SeenFiles>, AllocError>
+    ensures { IfOk result (λ files. IfSome files (AreSeenFiles index.now view.now)) }
+{
+    if references <= FEW {
+        return Ok(None);
+    }
+    let files = index.seen_files(alloc, view)?;
+    Ok(Some(files))
 }
 
 /// The references of the definition, in file order, from what was found of those that lead to it; the one error is want

@@ -16,8 +16,8 @@ callers_by-requires-clause-parts g c =
     links_are c.usual.result (graphs_seen c.args.view.now) c.args.node c.hit_of.result c.args.leading.now c.in-Ok.parts
     (usual_is c.usual.result c.usual.ensures.edges c.usual.ensures.depth) c.hit_of.ensures c.in-Ok.ensures.found
 
-pub returns-in_ok-rows_told-in-Ok : goal.returns-in_ok-rows_told-in-Ok
-returns-in_ok-rows_told-in-Ok g c _ =
+pub returns-in-Ok : goal.returns-in-Ok
+returns-in-Ok g c _ =
     rows_tell c.args.view.now c.args.node c.in_ok-hits-in-Ok.hits.items c.in_ok-rows_told-in-Ok.field-0
     (none_leads (graphs_seen c.args.view.now) c.args.node c.args.leading.now c.requires.leading c.in-Ok.parts
     (links_are c.usual.result (graphs_seen c.args.view.now) c.args.node c.hit_of.result c.args.leading.now c.in-Ok.parts
@@ -25,8 +25,8 @@ returns-in_ok-rows_told-in-Ok g c _ =
     c.in_ok-hits-in-Ok.ensures
     (c.in_ok-rows_told-in-Ok.ensures ∙ ap (λ (hits : List Hit). map (row_of (graph_rows c.args.view.now)) hits) c.deref.ensures.value)
 
-pub returns-in-Err : goal.returns-in-Err
-returns-in-Err g c h =
+pub returns : goal.returns
+returns g c h =
     let p = was_crowded c.in-Err.fault c.ask_fault.result c.ask_fault.ensures (λ e. h (ap (λ x. Err x) e)) in
     subst (λ (told : AskFault). TellsUnless (LeadsCrowded (graphs_in (graph_rows c.args.view.now)) c.args.node) (graph_rows c.args.view.now) c.args.node (Err told)) (sym p.1)
     (crowded_tells c.args.view.now c.args.node
