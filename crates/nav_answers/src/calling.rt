@@ -2,13 +2,12 @@ ghost use Rattle.std.specs.Prelude.{◌≡◌, ◌≢◌, ◌∷◌, [], Err, If
 ghost use Rattle.graph_nodes.specs.Whole.{is_definition_of};
 ghost use Rattle.version_tree.specs.Graphs.{graph_rows};
 ghost use Rattle.root_index.specs.Roots.{IsIndexOfView};
-ghost use Rattle.root_index.specs.SeenFiles.{AreSeenFiles};
 ghost use Rattle.whole_search.specs.Answers.{AreReferences, IsAnyCrowded};
 ghost use Rattle.back_stitch.specs.Lists.{usual, AreThoseThatReach};
 ghost use Rattle.nav_answers.specs.Asking.{AreLinksOf};
 ghost use Rattle.nav_answers.specs.Callers.{IsCallerReply, IsCallersReply, LeadsCrowded, TellsUnless};
 ghost use Rattle.nav_answers.specs.Replies.{graphs_in, hit_of};
-ghost use Rattle.nav_answers.specs.Sources.{graphs_seen};
+ghost use Rattle.nav_answers.specs.Sources.{IsForMany, graphs_seen};
 
 use crate::asked_view::AskedView;
 use crate::asking::Query;
@@ -20,19 +19,19 @@ use crate::parts::Parts;
 use crate::referring::{MOST_LINKS, references_to};
 use crate::rows::{hit_of, in_order};
 use crate::sharing::ask_all;
-use crate::source::ViewSource;
+use crate::source::{ForMany, ViewSource};
 use back_stitch::BackFault;
 use nav_io::Gate;
 use partial_path::Bounds;
-use root_index::{RootIndex, SeenFiles};
+use root_index::RootIndex;
 use stacks_vars::NodeAt;
 use std::alloc::{AllocError, Global};
 use std::thread::Threads;
 use version_tree::{Rows, View};
 use whole_search::Hit;
 
-/// How many references are asked, at most, with no table of the files' numbers. A table has a number for each path from the
-/// root in the whole version, and a reference meets some tens of these paths.
+/// How many references are asked, at most, with no table of the files. A table has a number for each path from the root in
+/// the whole version, and a handle for each file; a reference meets some tens of these paths.
 const FEW: usize = 256;
 
 /// Who refers to the definition that is meant in the file with the path, within the bounds of a query that states none:
@@ -117,8 +116,8 @@ fn callers_among<R: Threads + Sync, G: Gate + Sync>(
         → TellsUnless (LeadsCrowded (graphs_in (graph_rows view.now)) node)
         (graph_rows view.now) node result }
 {
-    let files = numbers_for(over.alloc, view, over.index, leading.len())?;
-    let source = ViewSource::with(view, over.index, files.as_ref());
+    let many = for_so_many(over.alloc, view, over.index, leading.len())?;
+    let source = ViewSource::with(view, over.index, many.as_ref());
     let query = Query {
         view,
         source: &source,
@@ -135,21 +134,21 @@ fn callers_among<R: Threads + Sync, G: Gate + Sync>(
     }
 }
 
-/// The numbers of the files of the index's paths in the view, where so many references are asked that to find all of them
-/// once takes less than to find each as it is met; the one error is want of memory.
-fn numbers_for(
+/// What serves look-ups in the view, where so many references are asked that to make it once takes less than to find the
+/// number of each path's file as it is met; the one error is want of memory.
+fn for_so_many(
     alloc: Global,
     view: &View,
     index: &RootIndex,
     references: usize,
-) -> Result<Option<SeenFiles>, AllocError>
-    ensures { IfOk result (λ files. IfSome files (AreSeenFiles index.now view.now)) }
+) -> Result<Option<ForMany>, AllocError>
+    ensures { IfOk result (λ many. IfSome many (IsForMany view.now index.now)) }
 {
     if references <= FEW {
         return Ok(None);
     }
-    let files = index.seen_files(alloc, view)?;
-    Ok(Some(files))
+    let many = ForMany::of(alloc, view, index)?;
+    Ok(Some(many))
 }
 
 /// The references of the definition, in file order, from what was found of those that lead to it; the one error is want
