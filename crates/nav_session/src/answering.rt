@@ -158,36 +158,17 @@ pub fn reply_to<R: Threads + Sync, B: Commits<R>, G: Gate + Sync, L: Ledger>(
         → steps.new ≤ steps.old + total }
     ensures no_steps { OnOk result (docs_of_request request ≡ [] → steps.new ≡ steps.old) }
 {
-    let Means { rt, alloc, .. } = *means;
     match request {
         Request::Quit => Ok(Reply::Done),
         Request::Hello { user } => Ok(hello(desk, board, user)),
         Request::Pin => Ok(pin(desk, board)),
         Request::Commit { base, edits } => commit(means, desk, board, base, edits, steps),
-        Request::Grant { user, prefix } => rule(
-            rt,
-            alloc,
-            desk,
-            board,
-            Edit::Grant { user, prefix },
-        ),
-        Request::Revoke { user, prefix } => rule(
-            rt,
-            alloc,
-            desk,
-            board,
-            Edit::Revoke { user, prefix },
-        ),
-        Request::Deny { user, prefix } => rule(rt, alloc, desk, board, Edit::Deny { user, prefix }),
-        Request::Undeny { user, prefix } => rule(
-            rt,
-            alloc,
-            desk,
-            board,
-            Edit::Undeny { user, prefix },
-        ),
+        Request::Grant { user, prefix } => rule(means, desk, board, Edit::Grant { user, prefix }),
+        Request::Revoke { user, prefix } => rule(means, desk, board, Edit::Revoke { user, prefix }),
+        Request::Deny { user, prefix } => rule(means, desk, board, Edit::Deny { user, prefix }),
+        Request::Undeny { user, prefix } => rule(means, desk, board, Edit::Undeny { user, prefix }),
         Request::Define { path, at, bounds } => define(
-            alloc,
+            means.alloc,
             desk,
             board,
             path.as_str(),

@@ -4,6 +4,7 @@ ghost use Rattle.nav_session.specs.Sessions.{IsJudged, IsRuled, asker_of};
 ghost use Rattle.nav_session.specs.Desks.{Replies, GoesOn, IsLeftOff, HasItsView, is_accepted, is_indexed, moment, session_at};
 
 use crate::desk::Desk;
+use crate::means::Means;
 use crate::refusals::commit_reply;
 use nav_proto::Reply;
 use std::alloc::{AllocError, Global};
@@ -12,9 +13,8 @@ use version_tree::Edit;
 
 /// The reply to a change of who may see what, where the user may change anything. The one error is want of memory.
 #[tactic(auto, using(crate::proofs::Asked::operator_by, crate::proofs::Asked::refused_change, crate::proofs::Kept::adds_none))]
-pub fn rule<R, B: Commits<R>>(
-    rt: &R,
-    alloc: Global,
+pub fn rule<R, B: Commits<R>, G>(
+    means: &Means<'_, R, G>,
     desk: &mut Desk,
     board: &mut B,
     edit: Edit,
@@ -34,7 +34,7 @@ pub fn rule<R, B: Commits<R>>(
 {
     match desk.change_refusal() {
         Some(error) => Ok(Reply::Plain(error)),
-        None => judge(rt, alloc, desk, board, None, &[edit]),
+        None => judge(means.rt, means.alloc, desk, board, None, &[edit]),
     }
 }
 
