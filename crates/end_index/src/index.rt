@@ -28,8 +28,8 @@ impl EndIndex {
     ghost use Rattle.end_index.specs.Ends.{IsEndIndexOf, ends_at_root, ends_by_stack, ends_in};
     ghost use Rattle.end_index.specs.Runs.{AreByRank};
 
-    /// The index of what the user sees. The one error is want of memory. It goes over all paths once, on several threads
-    /// where there are many files, and sorts those that end so.
+    /// The index of what the user sees. The one error is want of memory. It goes over all paths once, on several
+    /// threads where there are many files, and sorts those that end so.
     pub fn of<R: Threads + Sync>(rt: &R, alloc: Global, view: &View) -> Result<EndIndex, AllocError>
         ensures { IfOk result (IsEndIndexOf view.now) }
     {

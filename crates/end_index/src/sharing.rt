@@ -18,9 +18,9 @@ const FEW_FILES: u32 = 64;
 /// What one thread lists of its files.
 type Share = Result<EndIndex, AllocError>;
 
-/// The index of what the user sees. The one error is want of memory. With n threads the first one goes over the files 0,
-/// n, 2n and so on, the next one over the files 1, n + 1 and so on, and each puts in order what it lists. Then the lists
-/// are put one behind the other, and merged.
+/// The index of what the user sees. The one error is want of memory. With n threads the first one goes over the files
+/// 0, n, 2n and so on, the next one over the files 1, n + 1 and so on, and each puts in order what it lists. Then the
+/// lists are put one behind the other, and merged.
 pub(crate) fn index_of<R: Threads + Sync>(
     rt: &R,
     alloc: Global,
@@ -67,8 +67,8 @@ fn list_shares<R: Threads + Sync>(
     )
 }
 
-/// The paths of the files `first`, `first + step` and so on, in order, where `first` is less than `step`. The one error is
-/// want of memory.
+/// The paths of the files `first`, `first + step` and so on, in order, where `first` is less than `step`. The one error
+/// is want of memory.
 fn list_share(alloc: Global, view: &View, first: usize, step: usize) -> Share
     requires { 0 < step }
     ensures { IfOk result (IsShareOf view.now step first) }
