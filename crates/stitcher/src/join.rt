@@ -94,9 +94,9 @@ pub fn landing_of<'a, P: PathSource>(
     }))
 }
 
-/// Joins a stored path that is offered where the search stands, and notes what comes of it. A path that ends at no cut and
-/// leaves symbols isn't applied: no run is told of there. Past the bounds it is looked at only until one counted run past
-/// them is found.
+/// Joins a stored path that is offered where the search stands, and notes what comes of it. A path that ends at no cut
+/// and leaves symbols isn't applied: no run is told of there. Past the bounds it is looked at only until one counted run
+/// past them is found.
 pub fn join<'a, P: PathSource>(
     room: &mut Room<'a>,
     search: &Search<'a, P>,

@@ -10,8 +10,8 @@ use crate::search::Search;
 use partial_path::{End, LentConfig, PathSource, Spot, StoredPath};
 use stacks_vars::NodeAt;
 
-/// Whether runs are within the search's bounds with a path more, which meets the configuration where they stand: whether
-/// they have few enough edges with it, and it isn't too high there.
+/// Whether runs are within the search's bounds with a path more, which meets the configuration where they stand:
+/// whether they have few enough edges with it, and it isn't too high there. In any case so many edges can be counted.
 pub fn is_within<P: PathSource>(
     search: &Search<'_, P>,
     edges: usize,

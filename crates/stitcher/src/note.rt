@@ -28,8 +28,8 @@ pub struct Run<'a> {
     pub cut: bool,
 }
 
-/// Notes the run, which is longer than the trail by a path: it is counted and kept as it lands, and open where more paths
-/// are joined to it.
+/// Notes the run, which is longer than the trail by a path: it is counted and kept as it lands, and open where more
+/// paths are joined to it.
 pub fn note<'a, P: PathSource>(
     room: &mut Room<'a>,
     search: &Search<'a, P>,

@@ -22,6 +22,7 @@ pub struct Tally<'a> {
     pub counted: usize,
     /// Whether some counted run isn't bounded.
     pub limit: bool,
+    // No more than a reference may have.
     ghost few: { counted ≤ max_runs },
 }
 
