@@ -30,9 +30,9 @@ use std::thread::Threads;
 use version_tree::{Rows, View};
 use whole_search::Hit;
 
-/// How many references are asked, at most, with no table of the files. A table has a number for each path from the root in
-/// the whole version, and a handle for each file; a reference meets some tens of these paths.
-const FEW: usize = 256;
+/// How many references for each file pay for tables of the files. Counted in instructions, the table of numbers takes for
+/// a file what it saves for four to seven references.
+const MANY_A_FILE: usize = 8;
 
 /// Who refers to the definition that is meant in the file with the path, within the bounds of a query that states none:
 /// a row for each reference of the files that are seen that has it among its definitions, in file order. It is `NoFile`
@@ -144,7 +144,7 @@ fn for_so_many(
 ) -> Result<Option<ForMany>, AllocError>
     ensures { IfOk result (λ many. IfSome many (IsForMany view.now index.now)) }
 {
-    if references <= FEW {
+    if references / MANY_A_FILE < view.row_count() as usize {
         return Ok(None);
     }
     let many = ForMany::of(alloc, view, index)?;
