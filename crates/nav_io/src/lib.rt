@@ -7,6 +7,7 @@ mod house;
 mod lines;
 mod mem;
 mod notices;
+mod settling;
 mod sink;
 mod source;
 mod std_io;

@@ -9,6 +9,7 @@ mod held;
 mod search;
 
 use crate::Source;
+use crate::settling::Ballast;
 use crate::taking::{CHUNK, TakeError, is_large, let_go};
 use held::{find_bytes, find_line, put_behind, take_bytes, take_line};
 use search::find_whole;
@@ -70,6 +71,7 @@ pub struct LineReader {
     ended: bool,
     /// Where a read puts what it takes, `CHUNK` bytes that stay for all reads.
     chunk: Vec<u8>,
+    ballast: Ballast,
 }
 
 impl Model for LineReader {
@@ -107,6 +109,7 @@ impl LineReader {
                 searched: 0,
                 ended: false,
                 chunk,
+                ballast: Ballast::new(alloc),
             }),
             Err(_) => Err(NoMemory),
         }
@@ -156,6 +159,7 @@ impl LineReader {
             &mut self.ended,
             &mut self.chunk,
             source,
+            &mut self.ballast,
         )?;
         self.searched = 0;
         Ok(take_line(&self.held, &mut self.start, len))

@@ -5,6 +5,7 @@ ghost use Rattle.std.specs.Io.KnownBytes.{prepend_known, IsAtEnd};
 ghost use Rattle.nav_io.specs.declared.taking.TakeError.TheVariants.{ReadFault, NoMemory};
 ghost use Rattle.nav_io.specs.Faults.{HasRisen};
 
+use crate::settling::Ballast;
 use crate::{Failed, Source};
 use std::alloc::AllocError;
 
@@ -52,6 +53,19 @@ pub fn let_go(held: &mut Vec<u8>, start: &mut usize)
     cut_front(held, start);
     if was_large {
         give_back(held);
+    }
+}
+
+/// As `let_go`; after a very long line what its answer left is given back too.
+pub(crate) fn settle(held: &mut Vec<u8>, start: &mut usize, ballast: &mut Ballast)
+    requires { start.old ≤ vec_len held.old }
+    ensures items { held.new.items ≡ drop start.old held.old.items }
+    ensures start { start.new ≡ 0 }
+{
+    let was_large = is_large(*start);
+    let_go(held, start);
+    if was_large {
+        ballast.give_back();
     }
 }
 

@@ -9,7 +9,11 @@ ghost use Rattle.nav_io.specs.Reading.{is_whole, has_bytes, bytes_at_front};
 use super::search::{find_newline, newline_after, within_limit};
 use super::{LINE_MAX, LineError, NoMemory};
 use crate::Source;
-use crate::taking::{CHUNK, let_go, take_chunk, take_until};
+use crate::settling::Ballast;
+use crate::taking::{CHUNK, let_go, settle, take_chunk, take_until};
+
+/// Once so many bytes of a line are held the line may be a very long one, behind which memory is given back.
+const LONG: usize = 262_144;
 
 /// Lets go of the bytes before `start` where they are more than half, so that all calls together move no more
 /// bytes than they let go.
@@ -44,7 +48,12 @@ pub(super) fn put_behind(
 
 /// Takes chunks until a newline is held or the source is at its end, and answers the length of the first line. It takes
 /// no chunk once more bytes are held than a line may have, so what is held has a bound.
-fn fill<S: Source>(held: &mut Vec<u8>, chunk: &mut [u8], source: &mut S) -> Result<usize, LineError>
+fn fill<S: Source>(
+    held: &mut Vec<u8>,
+    chunk: &mut [u8],
+    source: &mut S,
+    ballast: &mut Ballast,
+) -> Result<usize, LineError>
     requires room { CHUNK ≤ length chunk.old }
     requires no_newline { line_len held.old.items ≡ length held.old.items }
     ensures kept { prepend_known held.new.items (S.left source.new)
@@ -63,6 +72,9 @@ fn fill<S: Source>(held: &mut Vec<u8>, chunk: &mut [u8], source: &mut S) -> Resu
 {
     while held.len() <= LINE_MAX {
         let before = held.len();
+        if before > LONG {
+            ballast.take();
+        }
         let taken = take_chunk(held, chunk, source)?;
         if taken == 0 {
             return Ok(before);
@@ -83,6 +95,7 @@ pub(super) fn find_line<S: Source>(
     ended: &mut bool,
     chunk: &mut [u8],
     source: &mut S,
+    ballast: &mut Ballast,
 ) -> Result<usize, LineError>
     requires room { CHUNK ≤ length chunk.old }
     requires within { start.old ≤ vec_len held.old }
@@ -119,12 +132,12 @@ pub(super) fn find_line<S: Source>(
         return Ok(within_limit(len)?);
     }
     // Room is taken for what is unanswered alone, and behind a line that was answered there is mostly little.
-    let_go(held, start);
+    settle(held, start, ballast);
     if *ended {
         return Ok(within_limit(held.len())?);
     }
     *searched = 0;
-    let len = fill(held, chunk, source)?;
+    let len = fill(held, chunk, source, ballast)?;
     *ended = len == held.len();
     Ok(len)
 }
