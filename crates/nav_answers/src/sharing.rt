@@ -57,15 +57,28 @@ pub fn ask_all<R: Threads + Sync, G: Gate + Sync>(
     together(over.alloc, query, all, shares)
 }
 
-/// On how many threads so many references are asked: one for each processor, and no more than there are references.
+/// On how many threads so many references are asked: on two for each processor, so that one which other programs slow
+/// down leaves its part to the others, but on one where there is one processor; and on no more than there are references.
 fn thread_count<R: Threads>(rt: &R, references: usize) -> usize
     ensures some { 0 < result }
     ensures few { result ≤ 8 }
 {
     match thread::available_parallelism(rt) {
-        Ok(count) => count.get().min(MOST_THREADS).min(references).max(1),
-        Err(_) => 1,
+        Ok(count) if count.get() > 1 => threads_for(count.get(), references),
+        _ => 1,
     }
+}
+
+/// On how many of so many processors' threads, at least one and at most eight.
+fn threads_for(processors: usize, references: usize) -> usize
+    ensures some { 0 < result }
+    ensures few { result ≤ 8 }
+{
+    processors
+        .saturating_mul(2)
+        .min(MOST_THREADS)
+        .min(references)
+        .max(1)
 }
 
 /// So many shares, in which nothing is found yet.

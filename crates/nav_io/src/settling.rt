@@ -7,15 +7,12 @@
 
 use std::alloc::Global;
 
-/// The small sizes of which the C library keeps blocks, and values of JSON make many: from this one up to that one, in
-/// steps, and that of an array of 32 values. Of those between them it may keep some where they lie.
-const LEAST: usize = 24;
-
-const MOST: usize = 536;
-
-const STEP: usize = 16;
-
-const ARRAY: usize = 1_032;
+/// The sizes of which values of JSON make many blocks, of those of which the C library keeps some: texts, small arrays,
+/// arrays of 16 and of 32 values, and nodes of an object's members. A longer text makes little more than it is long.
+const SIZES: [usize; 22] = [
+    24, 40, 56, 72, 88, 104, 120, 136, 152, 168, 184, 200, 216, 232, 248, 264, 280, 520, 680, 776,
+    792, 1_032,
+];
 
 /// How many blocks of each size it keeps for a thread.
 const KEPT: usize = 7;
@@ -61,13 +58,11 @@ impl Ballast {
     }
 }
 
-/// Takes so many blocks of each small size as the C library keeps; fewer where memory is refused.
+/// Takes so many blocks of each of these sizes as the C library keeps; fewer where memory is refused.
 fn take_small(alloc: Global, blocks: &mut Vec<Vec<u8>>) {
-    let sizes = (MOST - LEAST) / STEP + 1;
-    for i in 0..sizes {
-        take_blocks(alloc, LEAST + i * STEP, KEPT, blocks);
+    for size in SIZES {
+        take_blocks(alloc, size, KEPT, blocks);
     }
-    take_blocks(alloc, ARRAY, KEPT, blocks);
 }
 
 /// Takes room at the end of the thread's memory, of which nothing is written, and gives it back at once, so that the C
