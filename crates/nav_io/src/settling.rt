@@ -7,12 +7,15 @@
 
 use std::alloc::Global;
 
-/// The sizes of which values of JSON make many blocks, of those of which the C library keeps some: texts, small arrays,
-/// arrays of 16 and of 32 values, and nodes of an object's members. A longer text makes little more than it is long.
-const SIZES: [usize; 22] = [
-    24, 40, 56, 72, 88, 104, 120, 136, 152, 168, 184, 200, 216, 232, 248, 264, 280, 520, 680, 776,
-    792, 1_032,
-];
+/// The small sizes of which the C library keeps blocks: from this one up to that one, in steps.
+const LEAST: usize = 24;
+
+const MOST: usize = 1_032;
+
+const STEP: usize = 16;
+
+/// A size of which it keeps none.
+const BEYOND: usize = 2_048;
 
 /// How many blocks of each size it keeps for a thread.
 const KEPT: usize = 7;
@@ -47,21 +50,35 @@ impl Ballast {
         }
     }
 
-    /// Gives the blocks back, in place of those that the C library keeps, and then the room at the end of the thread's
-    /// memory.
+    /// Gives the blocks back in place of those that the C library keeps, which then are put together with what is free
+    /// beside them; takes them from it again and gives them back as it keeps none; and then gives back the room at the end
+    /// of the thread's memory.
     pub(crate) fn give_back(&mut self) {
         let mut kept = Vec::new(self.alloc);
         take_small(self.alloc, &mut kept);
         self.blocks = Vec::new(self.alloc);
         kept.clear();
+        take_small(self.alloc, &mut kept);
+        give_grown(kept);
         take_room(self.alloc);
     }
 }
 
-/// Takes so many blocks of each of these sizes as the C library keeps; fewer where memory is refused.
+/// Gives blocks back, the last first, each once it has grown in its place to a size of which the C library keeps none:
+/// they were taken one behind the other, and behind the last one there is room.
+fn give_grown(blocks: Vec<Vec<u8>>) {
+    let mut blocks = blocks;
+    while let Some(block) = blocks.pop() {
+        let mut block = block;
+        let _grown = block.reserve(BEYOND);
+    }
+}
+
+/// Takes so many blocks of each small size as the C library keeps; fewer where memory is refused.
 fn take_small(alloc: Global, blocks: &mut Vec<Vec<u8>>) {
-    for size in SIZES {
-        take_blocks(alloc, size, KEPT, blocks);
+    let sizes = (MOST - LEAST) / STEP + 1;
+    for i in 0..sizes {
+        take_blocks(alloc, LEAST + i * STEP, KEPT, blocks);
     }
 }
 
