@@ -19,7 +19,7 @@ pub use gate::{Gate, Unguarded};
 pub use guard::Guarded;
 pub use house::{Door, House, HouseFault};
 pub use lines::{LINE_MAX, LineError, LineReader, NoMemory, TooLong};
-pub use mem::{MemDoor, MemHouse, MemSink, MemSource};
+pub use mem::{Lent, MemDoor, MemHouse, MemSink, MemSource};
 pub use notices::{Cut, NoNotices, Notices};
 pub use sink::{Sink, SinkError};
 pub use source::{Failed, Source};

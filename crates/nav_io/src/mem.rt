@@ -8,6 +8,7 @@ mod sink;
 mod source;
 
 pub use doors::{MemDoor, MemHouse};
+pub use lent::Lent;
 pub use sink::MemSink;
 pub use source::MemSource;
 

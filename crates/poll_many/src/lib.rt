@@ -4,7 +4,6 @@
 mod call;
 mod closing;
 mod finishing;
-mod lent;
 mod mem_port;
 mod mem_yard;
 mod place;

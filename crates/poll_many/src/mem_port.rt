@@ -6,9 +6,8 @@ ghost use Rattle.nav_io.specs.Lending.{lend, take_back};
 ghost use Rattle.poll_many.specs.Arrivals.{links_in};
 ghost use Rattle.poll_many.specs.MemPorts.{PortState, is_to_fail, is_to_wait, is_to_fail_settling, after_fault, after_wait, after_link, after_settling, after_settle_fault};
 
-use crate::lent::Lent;
 use crate::port::{Arrived, Port};
-use nav_io::Failed;
+use nav_io::{Failed, Lent};
 use nav_poll::{MemLink, is_listed};
 use std::alloc::Global;
 use std::marker::Model;
@@ -68,7 +67,7 @@ impl MemPort {
         } }
     {
         MemPort {
-            links: Lent::of(links),
+            links: Lent::new(links),
             accepts_not_yet,
             accepts_failing,
             settles_failing,

@@ -6,9 +6,11 @@ use std::alloc::{AllocError, Global};
 use std::marker::Model;
 use std::snapshot::Snapshot;
 
-/// A list of things to give out. It needs no memory to take them back, since they stand in their old vector.
+/// A list of things that are given out in their order and taken back, as the stand-ins in memory give out pairs, doors and
+/// links. Contracts see those that wait, those that were given out and those that came back. It needs no memory to take
+/// one back, since all stand in their old vector.
 #[derive(Drop)]
-pub(super) struct Lent<T> {
+pub struct Lent<T> {
     /// Those to be given out, and behind them those that came back.
     kept: Vec<T>,
     /// How many are to be given out.
@@ -31,7 +33,8 @@ impl<T> Model for Lent<T> {
 }
 
 impl<T> Lent<T> {
-    pub(super) fn new(things: Vec<T>) -> Lent<T>
+    /// A list of these, none of which was given out yet.
+    pub fn new(things: Vec<T>) -> Lent<T>
         ensures { result ≡ record { waiting = things.items; gave = []; back = [] } }
     {
         Lent {
@@ -49,8 +52,9 @@ impl<T> Lent<T> {
         self.waiting
     }
 
-    /// Gives out the next one, if there is one. The others move up, so it takes time that follows their number.
-    pub(super) fn next(&mut self) -> Option<T>
+    /// Gives out the next one, or `None` exactly where none waits. The others move up, so it takes time that follows their
+    /// number.
+    pub fn next(&mut self) -> Option<T>
         ensures none { result ≡ None → (self.old.waiting ≡ []) × (self.new ≡ self.old) }
         ensures waits { IfSome result (λ thing. self.old.waiting ≡ thing ∷ self.new.waiting) }
         ensures given { IfSome result (λ thing. self.new.gave ≡ self.old.gave ++ thing ∷ []) }
@@ -90,7 +94,7 @@ impl<T> Lent<T> {
     }
 
     /// Takes one back, behind those that came back before.
-    pub(super) fn put_back(&mut self, thing: T)
+    pub fn put_back(&mut self, thing: T)
         requires { length self.old.back < length self.old.gave }
         ensures back { self.new ≡ record self.old { back = self.old.back ++ thing ∷ [] } }
     {
@@ -110,7 +114,7 @@ impl<T> Lent<T> {
     }
 
     /// The things that came back, the first first. Those that were never given out are let go.
-    pub(super) fn into_back(self) -> Vec<T>
+    pub fn into_back(self) -> Vec<T>
     where
         T: Drop,
         ensures { result.items ≡ self.back }
