@@ -1,18 +1,7 @@
 -- A door over sockets tells nothing, so what is said of what it tells holds.
-use Rattle.std.proofs.Common.{refl, Result, Ok, Err, IfOk, OnOk, OnErr}
+use Rattle.std.proofs.Common.{refl}
+use Rattle.nav_io.proofs.Untold.{if_ok-all, on_ok-all, on_err-all}
 use Rattle.nav_io.proofs.tcp.TcpDoorDoor.TheImpl.Goals as goal
-
-if_ok-all : {T E : Type 0} (r : Result T E) (P : T → Type 0) → ((x : T) → P x) → IfOk r P
-if_ok-all (Ok x) P h = h x
-if_ok-all (Err e) P h = tt
-
-on_ok-all : {T E : Type 0} (r : Result T E) (P : Type 0) → P → OnOk r P
-on_ok-all (Ok x) P h = h
-on_ok-all (Err e) P h = tt
-
-on_err-all : {T E : Type 0} (r : Result T E) (P : Type 0) → P → OnErr r P
-on_err-all (Ok x) P h = tt
-on_err-all (Err e) P h = h
 
 pub accept-tells : goal.accept-tells
 accept-tells g c = record {
