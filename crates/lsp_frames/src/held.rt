@@ -1,19 +1,18 @@
 //! The bytes that a frame reader holds: taking what is wanting of a frame, and lending its body.
-ghost use Rattle.std.specs.Prelude.{◌≡◌, ◌≢◌, ◌<◌, ◌≤◌, length, vec_len, drop, IfOk, IfSome, OnOk, OnErr, Ok, Err, true, false};
+ghost use Rattle.std.specs.Prelude.{◌≡◌, ◌≢◌, ◌<◌, ◌≤◌, length, drop, IfOk, IfSome, OnOk, OnErr, Ok, Err, true, false};
 ghost use Rattle.std.specs.Io.KnownBytes.{prepend_known, IsAtEnd};
 ghost use Rattle.std.specs.Option.{option_copied};
 ghost use Rattle.nav_io.specs.Faults.{HasRisen};
 ghost use Rattle.lsp_frames.specs.Frames.{cut, is_short};
-ghost use Rattle.lsp_frames.specs.Reading.{is_settled};
-ghost use Rattle.lsp_frames.specs.Inside.{IsFront, IsPlaceOf, FindsFront, FindsFrame, body_at, behind};
+ghost use Rattle.lsp_frames.specs.Inside.{IsFront, IsPlaceOf, body_at, behind};
 
 use crate::front::{Front, Place, front_of};
 use crate::reader::FrameError;
-use nav_io::{CHUNK, Source, let_go, take_until};
+use nav_io::{CHUNK, Source, take_until};
 
 /// Takes what is wanting of the first frame, and answers what stands at the front. It asks for as many bytes as are known
 /// to be wanting, so a body that has come in part isn't looked at again for each chunk.
-fn fill<S: Source>(
+pub(crate) fn fill<S: Source>(
     held: &mut Vec<u8>,
     ended: &mut bool,
     chunk: &mut [u8],
@@ -42,73 +41,9 @@ fn fill<S: Source>(
     Ok(front_of(held))
 }
 
-/// Takes what is wanting of the first frame, and answers what stands at the front. Past the end of input the source
-/// isn't asked.
-fn settle<S: Source>(
-    held: &mut Vec<u8>,
-    start: &mut usize,
-    ended: &mut bool,
-    chunk: &mut [u8],
-    source: &mut S,
-) -> Result<Front, FrameError>
-    requires room { CHUNK ≤ length chunk.old }
-    requires within { start.old ≤ vec_len held.old }
-    ensures within { start.new ≤ vec_len held.new }
-    ensures found { FindsFront
-        (record { front = drop start.old held.old.items; ended = ended.old })
-        (record { front = drop start.new held.new.items; ended = ended.new })
-        (S.left source.old) (S.left source.new) result }
-    ensures unread { is_settled
-        (record { front = drop start.old held.old.items; ended = ended.old }) ≡ true
-        → source.new ≡ source.old }
-
-    ensures count { S.faults source.old ≤ S.faults source.new }
-    ensures cause { result ≡ Err FrameError.ReadFault
-        → HasRisen (S.faults source.old) (S.faults source.new) }
-{
-    let front = front_of(&held[*start..]);
-    let Front::Short(_) = front else {
-        return Ok(front);
-    };
-    if *ended {
-        return Ok(front);
-    }
-    // Only now, so that whole frames which came in one chunk are answered without a move.
-    let_go(held, start);
-    fill(held, ended, chunk, source)
-}
-
-/// Takes what is wanting of the first frame, and answers where its body stands behind `start`, or nothing where the
-/// input ends there.
-pub(crate) fn find_frame<S: Source>(
-    held: &mut Vec<u8>,
-    start: &mut usize,
-    ended: &mut bool,
-    chunk: &mut [u8],
-    source: &mut S,
-) -> Result<Option<Place>, FrameError>
-    requires room { CHUNK ≤ length chunk.old }
-    requires within { start.old ≤ vec_len held.old }
-    ensures within { start.new ≤ vec_len held.new }
-    ensures found { FindsFrame
-        (record { front = drop start.old held.old.items; ended = ended.old })
-        (record { front = drop start.new held.new.items; ended = ended.new })
-        (S.left source.old) (S.left source.new) result }
-    ensures unread { is_settled
-        (record { front = drop start.old held.old.items; ended = ended.old }) ≡ true
-        → source.new ≡ source.old }
-
-    ensures count { S.faults source.old ≤ S.faults source.new }
-    ensures cause { result ≡ Err FrameError.ReadFault
-        → HasRisen (S.faults source.old) (S.faults source.new) }
-{
-    let front = settle(held, start, ended, chunk, source)?;
-    place_of(front, held.len() == *start)
-}
-
 /// Where the body of what stands at the front is, or why there is none where the input ends with what is short: nothing is
 /// the end of a session, and a beginning of a frame is a broken one.
-fn place_of(front: Front, is_empty: bool) -> Result<Option<Place>, FrameError>
+pub(crate) fn place_of(front: Front, is_empty: bool) -> Result<Option<Place>, FrameError>
     ensures { IsPlaceOf front is_empty result }
 {
     match front {

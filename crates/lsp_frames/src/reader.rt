@@ -5,8 +5,9 @@ ghost use Rattle.nav_io.specs.Faults.{HasRisen};
 ghost use Rattle.nav_io.specs.Reading.{ahead};
 ghost use Rattle.lsp_frames.specs.Frames.{body_max, cut, body_of};
 
-use crate::held::{find_frame, take_body};
-use nav_io::{CHUNK, NoMemory, Source, TakeError};
+use crate::front::{Front, Place, front_of};
+use crate::held::{fill, place_of, take_body};
+use nav_io::{CHUNK, NoMemory, Source, TakeError, let_go};
 use std::alloc::Global;
 use std::marker::Model;
 
@@ -72,6 +73,7 @@ impl FrameReader {
     ghost use Rattle.std.specs.Io.BufRead.{Rests};
     ghost use Rattle.lsp_frames.specs.contracts.reader.FrameReader.{the_row};
     ghost use Rattle.lsp_frames.specs.Reading.{is_settled, AfterFrame, AfterFrameError};
+    ghost use Rattle.lsp_frames.specs.Inside.{FindsFront, FindsFrame};
 
     /// A reader that has taken nothing.
     pub fn new(alloc: Global) -> Result<FrameReader, NoMemory>
@@ -128,13 +130,45 @@ impl FrameReader {
         ensures cause { result ≡ Err FrameError.ReadFault
             → HasRisen (S.faults source.old) (S.faults source.new) }
     {
-        let found = find_frame(
-            &mut self.held,
-            &mut self.start,
-            &mut self.ended,
-            &mut self.chunk,
-            source,
-        )?;
+        let found = self.find_frame(source)?;
         Ok(take_body(&self.held, &mut self.start, found))
+    }
+
+    /// Takes what is wanting of the first frame, and answers where its body stands behind `start`, or nothing where the
+    /// input ends there.
+    fn find_frame<S: Source>(&mut self, source: &mut S) -> Result<Option<Place>, FrameError>
+        ensures found { FindsFrame self.old self.new
+            (S.left source.old) (S.left source.new) result }
+        ensures unread { is_settled self.old ≡ true → source.new ≡ source.old }
+
+        ensures count { S.faults source.old ≤ S.faults source.new }
+        ensures cause { result ≡ Err FrameError.ReadFault
+            → HasRisen (S.faults source.old) (S.faults source.new) }
+    {
+        let front = self.settle(source)?;
+        place_of(front, self.held.len() == self.start)
+    }
+
+    /// Takes what is wanting of the first frame, and answers what stands at the front. Past the end of input the source
+    /// isn't asked.
+    fn settle<S: Source>(&mut self, source: &mut S) -> Result<Front, FrameError>
+        ensures found { FindsFront self.old self.new
+            (S.left source.old) (S.left source.new) result }
+        ensures unread { is_settled self.old ≡ true → source.new ≡ source.old }
+
+        ensures count { S.faults source.old ≤ S.faults source.new }
+        ensures cause { result ≡ Err FrameError.ReadFault
+            → HasRisen (S.faults source.old) (S.faults source.new) }
+    {
+        let front = front_of(&self.held[self.start..]);
+        let Front::Short(_) = front else {
+            return Ok(front);
+        };
+        if self.ended {
+            return Ok(front);
+        }
+        // Only now, so that whole frames which came in one chunk are answered without a move.
+        let_go(&mut self.held, &mut self.start);
+        fill(&mut self.held, &mut self.ended, &mut self.chunk, source)
     }
 }

@@ -13,17 +13,14 @@ pub returns-in_err-found : goal.returns-in_err-found
 returns-in_err-found g c =
     let p = err_from_is_err_and c.from_residual.result c.from_residual.ensures.1 in
     let search = c.in_err-found.ensures in
-    let old : Reading = record { front = drop c.self.inside.start c.self.inside.held.items; ended = c.self.inside.ended } in
-    let mid : Reading = record { front = drop c.find_frame.new.start c.find_frame.new.held.items; ended = c.find_frame.new.ended } in
-    let left = g.S.Source.left c.args.source.now in
-    let left' = g.S.Source.left c.find_frame.new.source in
-    rw (p.1, p.2, ← c.self.view_is) (
-      (refl, λ _. tt, after_error old mid left left' _ search.found.finds search.found.found),
+    let why = search.found.found in
+    rw (p.1, p.2) (
+      (refl, λ _. tt, after_error _ _ _ _ _ search.found.finds why),
       record {
         frame = tt;
         short = tt;
-        broken = λ e. broken_ahead old mid left left' _ search.found.finds search.found.found (Err-same _ _ e);
-        too_long = λ e. long_ahead old mid left left' _ search.found.finds search.found.found (Err-same _ _ e);
+        broken = λ e. broken_ahead _ _ _ _ _ search.found.finds why (Err-same _ _ e);
+        too_long = λ e. long_ahead _ _ _ _ _ search.found.finds why (Err-same _ _ e);
         unread = search.unread;
         rest = tt;
         count = search.count;
@@ -34,19 +31,16 @@ returns-in_err-found g c =
 pub returns : goal.returns
 returns g c =
     let search = c.in_ok-found.ensures in
-    let old : Reading = record { front = drop c.self.inside.start c.self.inside.held.items; ended = c.self.inside.ended } in
-    let mid : Reading = record { front = drop c.find_frame.new.start c.find_frame.new.held.items; ended = c.find_frame.new.ended } in
-    let left = g.S.Source.left c.args.source.now in
-    let left' = g.S.Source.left c.find_frame.new.source in
     let found = c.in_ok-found.found in
+    let reader = c.self.inside in
+    let mid : Reading = record { front = drop reader.start reader.held.items; ended = reader.ended } in
+    let here = rw (← c.self.view_is) at search.found in
     let body = rw c.deref.ensures.value at c.take_body.ensures.body in
-    let rest = rw c.deref.ensures.value at c.take_body.ensures.rest in
-    let is = search.found.found in
-    rw (← c.self.view_is) (
-      (refl, λ _. tt, after_frame old mid found _ left left' _ search.found.finds is body rest),
+    let rest = rw c.deref.ensures.value at c.take_body.ensures.rest in (
+      (refl, λ _. tt, after_frame _ mid found _ _ _ _ here.finds here.found body rest),
       record {
-        frame = told_as old mid left left' _ search.found.finds (settled_at found mid is) (rw body (body_found found mid is));
-        short = body_short found mid _ is body;
+        frame = told_as _ mid _ _ _ here.finds (settled_at found mid here.found) (rw body (body_found found mid here.found));
+        short = body_short found mid _ here.found body;
         broken = λ e. cc;
         too_long = λ e. cc;
         unread = search.unread;
