@@ -1,6 +1,6 @@
 //! Taking the bytes of a source behind those that are held, for readers that cut an input into lines or frames. What is
 //! held is a vector, of which the bytes before a place are answered.
-ghost use Rattle.std.specs.Prelude.{◌≡◌, ◌<◌, ◌≤◌, ℕ, List, ◌++◌, length, vec_len, drop, IfOk, OnErr, true, false};
+ghost use Rattle.std.specs.Prelude.{◌≡◌, ℕ, ◌+◌, ◌<◌, ◌≤◌, List, ◌++◌, length, vec_len, vec_capacity, drop, IfOk, OnOk, OnErr, true, false};
 ghost use Rattle.std.specs.Io.KnownBytes.{prepend_known, IsAtEnd};
 ghost use Rattle.nav_io.specs.declared.taking.TakeError.TheVariants.{ReadFault, NoMemory};
 ghost use Rattle.nav_io.specs.Faults.{HasRisen};
@@ -37,6 +37,13 @@ impl From<Failed> for TakeError {
         TakeError::ReadFault
     }
 }
+
+/// Once so many bytes are held they may be a beginning of a very long line, behind which memory is given back.
+pub(crate) const LONG: usize = 65_536;
+
+/// Room for the longest line or frame, in one block of over 32 MB: the C library never takes one so large from what it
+/// keeps.
+const LARGEST: usize = 33_619_968;
 
 /// Behind so many bytes that were answered room is given back.
 const LARGE: usize = 1_048_576;
@@ -112,6 +119,20 @@ fn moved(held: &Vec<u8>) -> Result<Vec<u8>, AllocError>
     Ok(moved)
 }
 
+/// Makes room for so many bytes behind those that are held; and where those may be a beginning of something very long, for
+/// the longest line or frame, unless memory is refused. What isn't written of it takes no memory, and the system lends so
+/// large a block by itself: behind a smaller one that is freed the C library would keep twice as much free room at the end
+/// of a thread's memory.
+fn make_room(held: &mut Vec<u8>, more: usize) -> Result<(), AllocError>
+    ensures items { held.new.items ≡ held.old.items }
+    ensures room { OnOk result (vec_len held.old + more ≤ vec_capacity held.new) }
+{
+    if held.len() > LONG {
+        let _large = held.reserve(LARGEST.saturating_sub(held.len()));
+    }
+    held.reserve(more)
+}
+
 /// Takes one chunk of the source behind what is held, and answers its length, which is 0 at the end of input alone.
 /// An error changes nothing.
 pub fn take_chunk<S: Source>(
@@ -132,7 +153,7 @@ pub fn take_chunk<S: Source>(
         → HasRisen (S.faults source.old) (S.faults source.new) }
 {
     // The room comes first: once the source has given bytes, a refusal would lose them.
-    held.reserve(chunk.len())?;
+    make_room(held, chunk.len())?;
     let n = source.read(chunk)?;
     held.extend_from_slice(&chunk[..n]).unwrap();
     Ok(n)

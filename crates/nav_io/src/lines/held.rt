@@ -10,10 +10,7 @@ use super::search::{find_newline, newline_after, within_limit};
 use super::{LINE_MAX, LineError, NoMemory};
 use crate::Source;
 use crate::settling::Ballast;
-use crate::taking::{CHUNK, let_go, settle, take_chunk, take_until};
-
-/// Once so many bytes of a line are held the line may be a very long one, behind which memory is given back.
-const LONG: usize = 262_144;
+use crate::taking::{CHUNK, LONG, let_go, settle, take_chunk, take_until};
 
 /// Lets go of the bytes before `start` where they are more than half, so that all calls together move no more
 /// bytes than they let go.
