@@ -19,7 +19,7 @@ pub enum JsonFault {
 ///
 /// `NoMemory` may come in place of any answer but that of no bytes, which is `BadJson`. The bytes are gone over once, and
 /// each text is copied once.
-#[tactic(auto, using(crate::proofs::Text::texts))]
+#[tactic(auto, using(crate::proofs::Parsed::texts))]
 pub fn parse(alloc: Global, bytes: &[u8]) -> Result<Value, JsonFault>
     ensures ok { IfOk result (λ v. json_of bytes.now ≡ Some (view v)) }
     ensures bad { result ≡ Err JsonFault.BadJson → json_of bytes.now ≡ None }

@@ -8,12 +8,11 @@ mod members;
 mod message;
 mod print;
 mod reply;
-mod text;
 mod uris;
 
 pub use bodies::read_body;
+pub use json_values::Text;
 pub use message::{Asks, Body, Id, Message, Method, Position};
 pub use print::print_reply;
 pub use reply::{Location, Locations, Outcome, Refusal, Reply};
-pub use text::Text;
 pub use uris::{inside, path_of_uri, root_of, uri_of_path, uris_name_their_paths};

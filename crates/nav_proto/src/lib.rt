@@ -13,9 +13,9 @@ mod proto_fault;
 mod reply;
 mod request;
 mod rows;
-mod text;
 mod words;
 
+pub use json_values::{Text as DocText, Text as ReplyText};
 pub use lines::{read_node, read_request};
 pub use partial_path::Bounds;
 pub use pieces::is_path;
@@ -23,4 +23,3 @@ pub use print::print_reply;
 pub use proto_fault::ProtoFault;
 pub use reply::{FileError, PlainError, Reply, ShapePart};
 pub use request::{Edits, FileEdit, Point, Request};
-pub use text::{DocText, ReplyText};

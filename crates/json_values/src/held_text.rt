@@ -1,7 +1,7 @@
 use std::alloc::{AllocError, Global};
 use std::marker::Model;
 
-/// A text of a message or a reply. A contract sees its bytes, which are UTF-8.
+/// A text that was read, or that is to be written. A contract sees its bytes, which are UTF-8.
 #[derive(Debug, Drop)]
 pub struct Text {
     text: String,
@@ -28,7 +28,8 @@ impl Text {
         Ok(Text::from_string(String::from_str(alloc, text)?))
     }
 
-    /// Takes the string over; no byte is copied.
+    /// Takes the string over; no byte is copied. It takes no memory, so a text can be made in room that was reserved
+    /// before.
     pub fn from_string(text: String) -> Text
         ensures { result ≡ string_bytes text }
     {
