@@ -1,4 +1,5 @@
 pub mod Faults
+pub mod Numbered
 pub mod Rows
 pub mod Replies
 pub mod Texts

@@ -1,9 +1,18 @@
-ghost use Rattle.std.specs.Prelude.{◌≡◌, string_bytes, IfOk};
-ghost use Rattle.nav_proto.specs.Faults.{fault_alone, number_first, number_inside, number_last, part_text, bad_file_text};
+ghost use Rattle.std.specs.Prelude.{◌≡◌, codes, string_bytes, IfOk};
+ghost use Rattle.nav_proto.specs.Faults.{fault_alone, number_inside, part_text, bad_file_text};
+ghost use Rattle.nav_proto.specs.Numbered.{numbered};
 
 use crate::reply::{FileError, ShapePart};
 use json_values::quoted_text;
 use std::alloc::{AllocError, Global};
+
+/// Where a fault's number stands: before `error`, between `fault` and `path`, or after `path`.
+#[derive(Clone, Copy)]
+pub(crate) enum Stands {
+    First,
+    Inside,
+    Last,
+}
 
 /// The reply on a bad file. Members stand in the order of their names' bytes, so a number's place hangs on its name.
 pub fn bad_file_text(alloc: Global, path: &str, fault: &FileError) -> Result<String, AllocError>
@@ -11,25 +20,37 @@ pub fn bad_file_text(alloc: Global, path: &str, fault: &FileError) -> Result<Str
 {
     match *fault {
         FileError::Kind => fault_alone(alloc, "kind", path),
-        FileError::Large(n) => number_first(alloc, "bytes", n, "large", path),
+        FileError::Large(n) => numbered(alloc, Stands::First, "bytes", n, "large", path),
         FileError::Json => fault_alone(alloc, "json", path),
         FileError::Shape(part) => part_text(alloc, "shape", path, part),
-        FileError::TooManyNodes(n) => { number_inside(alloc, "nodes", n, "too_many_nodes", path) }
-        FileError::TooManyEdges(n) => {
-            number_first(alloc, "edges", u64::from(n), "too_many_edges", path)
-        }
-        FileError::BadEnd(n) => number_first(alloc, "edge", u64::from(n), "bad_end", path),
-        FileError::JumpSource(n) => number_first(alloc, "edge", u64::from(n), "jump_source", path),
-        FileError::BadScope(n) => number_inside(alloc, "node", n, "bad_scope", path),
-        FileError::NotAscii(n) => number_inside(alloc, "line", n, "not_ascii", path),
-        FileError::BadIndent(n) => number_inside(alloc, "line", n, "bad_indent", path),
-        FileError::BadToken(n) => number_inside(alloc, "line", n, "bad_token", path),
-        FileError::Unsupported(n) => number_inside(alloc, "line", n, "unsupported", path),
-        FileError::Expected(n) => number_inside(alloc, "line", n, "expected", path),
-        FileError::TooDeep(n) => number_inside(alloc, "line", n, "too_deep", path),
+        FileError::TooManyNodes(n) => numbered(
+            alloc,
+            Stands::Inside,
+            "nodes",
+            u64::from(n),
+            "too_many_nodes",
+            path,
+        ),
+        FileError::TooManyEdges(n) => numbered(
+            alloc,
+            Stands::First,
+            "edges",
+            u64::from(n),
+            "too_many_edges",
+            path,
+        ),
+        FileError::BadEnd(n) => part_text(alloc, "bad_end", path, ShapePart::Edge(n)),
+        FileError::JumpSource(n) => part_text(alloc, "jump_source", path, ShapePart::Edge(n)),
+        FileError::BadScope(n) => part_text(alloc, "bad_scope", path, ShapePart::Node(n)),
+        FileError::NotAscii(n) => line_text(alloc, "not_ascii", path, n),
+        FileError::BadIndent(n) => line_text(alloc, "bad_indent", path, n),
+        FileError::BadToken(n) => line_text(alloc, "bad_token", path, n),
+        FileError::Unsupported(n) => line_text(alloc, "unsupported", path, n),
+        FileError::Expected(n) => line_text(alloc, "expected", path, n),
+        FileError::TooDeep(n) => line_text(alloc, "too_deep", path, n),
         FileError::BadName => fault_alone(alloc, "bad_name", path),
-        FileError::Heavy(n) => number_last(alloc, "weight", n, "heavy", path),
-        FileError::SameName(n) => number_inside(alloc, "node", n, "same_name", path),
+        FileError::Heavy(n) => numbered(alloc, Stands::Last, "weight", u64::from(n), "heavy", path),
+        FileError::SameName(n) => part_text(alloc, "same_name", path, ShapePart::Node(n)),
         FileError::UnknownName(part) => part_text(alloc, "unknown_name", path, part),
     }
 }
@@ -40,9 +61,17 @@ fn part_text(alloc: Global, fault: &str, path: &str, part: ShapePart) -> Result<
 {
     match part {
         ShapePart::Top => fault_alone(alloc, fault, path),
-        ShapePart::Node(n) => number_inside(alloc, "node", n, fault, path),
-        ShapePart::Edge(n) => number_first(alloc, "edge", u64::from(n), fault, path),
+        ShapePart::Node(n) => numbered(alloc, Stands::Inside, "node", u64::from(n), fault, path),
+        ShapePart::Edge(n) => numbered(alloc, Stands::First, "edge", u64::from(n), fault, path),
     }
+}
+
+/// A fault of a line.
+fn line_text(alloc: Global, fault: &str, path: &str, line: u32) -> Result<String, AllocError>
+    ensures { IfOk result (λ s. string_bytes s
+        ≡ number_inside (codes "line") line fault.now path.now) }
+{
+    numbered(alloc, Stands::Inside, "line", u64::from(line), fault, path)
 }
 
 /// A fault with no further member.
@@ -53,50 +82,27 @@ fn fault_alone(alloc: Global, fault: &str, path: &str) -> Result<String, AllocEr
     format!(in alloc; "{{\"error\":\"bad_file\",\"fault\":\"{fault}\",\"path\":{path}}}")
 }
 
-/// A fault with a number whose name comes before `error`.
-fn number_first(
+/// A fault with a number of this name.
+fn numbered(
     alloc: Global,
+    stands: Stands,
     name: &str,
     n: u64,
     fault: &str,
     path: &str,
 ) -> Result<String, AllocError>
-    ensures { IfOk result (λ s. string_bytes s ≡ number_first name.now n fault.now path.now) }
+    ensures { IfOk result (λ s. string_bytes s ≡ numbered stands name.now n fault.now path.now) }
 {
     let path = quoted_text(alloc, path)?;
-    format!(in alloc;
-        "{{\"{name}\":{n},\"error\":\"bad_file\",\"fault\":\"{fault}\",\"path\":{path}}}"
-    )
-}
-
-/// A fault with a number whose name comes between `fault` and `path`.
-fn number_inside(
-    alloc: Global,
-    name: &str,
-    n: u32,
-    fault: &str,
-    path: &str,
-) -> Result<String, AllocError>
-    ensures { IfOk result (λ s. string_bytes s ≡ number_inside name.now n fault.now path.now) }
-{
-    let path = quoted_text(alloc, path)?;
-    format!(in alloc;
-        "{{\"error\":\"bad_file\",\"fault\":\"{fault}\",\"{name}\":{n},\"path\":{path}}}"
-    )
-}
-
-/// A fault with a number whose name comes after `path`.
-fn number_last(
-    alloc: Global,
-    name: &str,
-    n: u32,
-    fault: &str,
-    path: &str,
-) -> Result<String, AllocError>
-    ensures { IfOk result (λ s. string_bytes s ≡ number_last name.now n fault.now path.now) }
-{
-    let path = quoted_text(alloc, path)?;
-    format!(in alloc;
-        "{{\"error\":\"bad_file\",\"fault\":\"{fault}\",\"path\":{path},\"{name}\":{n}}}"
-    )
+    match stands {
+        Stands::First => format!(in alloc;
+            "{{\"{name}\":{n},\"error\":\"bad_file\",\"fault\":\"{fault}\",\"path\":{path}}}"
+        ),
+        Stands::Inside => format!(in alloc;
+            "{{\"error\":\"bad_file\",\"fault\":\"{fault}\",\"{name}\":{n},\"path\":{path}}}"
+        ),
+        Stands::Last => format!(in alloc;
+            "{{\"error\":\"bad_file\",\"fault\":\"{fault}\",\"path\":{path},\"{name}\":{n}}}"
+        ),
+    }
 }

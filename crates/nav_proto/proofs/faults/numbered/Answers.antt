@@ -1,8 +1,8 @@
 use Rattle.std.proofs.Common.{◌≡◌, string_bytes}
 use Rattle.json.specs.Print.{quoted}
-use Rattle.nav_proto.proofs.faults.number_first.Goals as goal
+use Rattle.nav_proto.proofs.faults.numbered.Goals as goal
 
-pub returns : goal.returns
-returns c =
+pub returns-in-First : goal.returns-in-First
+returns-in-First c =
     let path : string_bytes c.in_ok-path.path ≡ quoted c.args.path.now = c.in_ok-path.ensures in
-    rw path at c.format.ensures.ok
+    rw c.in-First.is (rw path at c.format.ensures.ok)
