@@ -4,11 +4,32 @@ ghost use Rattle.std.specs.Prelude.{◌≡◌, IfOk, IfSome, decimal};
 ghost use Rattle.py_graph.specs.Nodes as made;
 ghost use Rattle.py_graph.specs.Gives.{Gives};
 ghost use Rattle.py_graph.specs.Inside.{Grows, IsNode};
+ghost use Rattle.py_graph.specs.Steps as steps;
 
 use crate::draft::{Draft, Stop, span_of};
-use graph_nodes::{Name, NodeKind};
+use graph_nodes::{Name, NodeKind, Span};
 use py_subset::Word;
 use std::alloc::{AllocError, Global};
+
+/// A pop of a symbol.
+fn pop(draft: &mut Draft, symbol: Name, definition: bool, span: Option<Span>) -> Result<u32, Stop>
+    ensures gives { Gives result draft.new
+        (steps.node (NodeKind.Pop symbol definition) span draft.old) }
+    ensures grows { Grows draft.old draft.new }
+    ensures inside { IfOk result (IsNode draft.new) }
+{
+    draft.node(NodeKind::Pop { symbol, definition }, span)
+}
+
+/// A push of a symbol.
+fn push(draft: &mut Draft, symbol: Name, reference: bool, span: Option<Span>) -> Result<u32, Stop>
+    ensures gives { Gives result draft.new
+        (steps.node (NodeKind.Push symbol reference) span draft.old) }
+    ensures grows { Grows draft.old draft.new }
+    ensures inside { IfOk result (IsNode draft.new) }
+{
+    draft.node(NodeKind::Push { symbol, reference }, span)
+}
 
 /// A definition of a name, where it stands.
 pub fn definition(alloc: Global, draft: &mut Draft, x: &Word) -> Result<u32, Stop>
@@ -17,13 +38,7 @@ pub fn definition(alloc: Global, draft: &mut Draft, x: &Word) -> Result<u32, Sto
     ensures inside { IfOk result (IsNode draft.new) }
 {
     let symbol = draft.name(alloc, x.text.as_str())?;
-    draft.node(
-        NodeKind::Pop {
-            symbol,
-            definition: true,
-        },
-        Some(span_of(x)),
-    )
+    pop(draft, symbol, true, Some(span_of(x)))
 }
 
 /// A binding of a name that isn't a definition, where the name stands.
@@ -33,13 +48,7 @@ pub fn binding(alloc: Global, draft: &mut Draft, x: &Word) -> Result<u32, Stop>
     ensures inside { IfOk result (IsNode draft.new) }
 {
     let symbol = draft.name(alloc, x.text.as_str())?;
-    draft.node(
-        NodeKind::Pop {
-            symbol,
-            definition: false,
-        },
-        Some(span_of(x)),
-    )
+    pop(draft, symbol, false, Some(span_of(x)))
 }
 
 /// A reference to a name, where it stands.
@@ -49,13 +58,7 @@ pub fn reference(alloc: Global, draft: &mut Draft, x: &Word) -> Result<u32, Stop
     ensures inside { IfOk result (IsNode draft.new) }
 {
     let symbol = draft.name(alloc, x.text.as_str())?;
-    draft.node(
-        NodeKind::Push {
-            symbol,
-            reference: true,
-        },
-        Some(span_of(x)),
-    )
+    push(draft, symbol, true, Some(span_of(x)))
 }
 
 /// The pop of a dot.
@@ -65,13 +68,7 @@ pub fn pop_dot(draft: &mut Draft) -> Result<u32, Stop>
     ensures inside { IfOk result (IsNode draft.new) }
 {
     let symbol = draft.dot_name()?;
-    draft.node(
-        NodeKind::Pop {
-            symbol,
-            definition: false,
-        },
-        None,
-    )
+    pop(draft, symbol, false, None)
 }
 
 /// The push of a dot.
@@ -81,13 +78,7 @@ pub fn push_dot(draft: &mut Draft) -> Result<u32, Stop>
     ensures inside { IfOk result (IsNode draft.new) }
 {
     let symbol = draft.dot_name()?;
-    draft.node(
-        NodeKind::Push {
-            symbol,
-            reference: false,
-        },
-        None,
-    )
+    push(draft, symbol, false, None)
 }
 
 /// The pop of a call.
@@ -145,13 +136,7 @@ pub fn pop_number(alloc: Global, draft: &mut Draft, j: usize) -> Result<u32, Sto
     ensures inside { IfOk result (IsNode draft.new) }
 {
     let symbol = numeral(alloc, draft, j)?;
-    draft.node(
-        NodeKind::Pop {
-            symbol,
-            definition: false,
-        },
-        None,
-    )
+    pop(draft, symbol, false, None)
 }
 
 /// The push of a parameter's place.
@@ -161,13 +146,7 @@ pub fn push_number(alloc: Global, draft: &mut Draft, j: usize) -> Result<u32, St
     ensures inside { IfOk result (IsNode draft.new) }
 {
     let symbol = numeral(alloc, draft, j)?;
-    draft.node(
-        NodeKind::Push {
-            symbol,
-            reference: false,
-        },
-        None,
-    )
+    push(draft, symbol, false, None)
 }
 
 /// A scope of the file's own.
