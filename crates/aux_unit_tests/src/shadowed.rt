@@ -53,9 +53,9 @@ fn paths_of(alloc: Global, text: &str) -> Result<Vec<EdgeList>, AllocError> {
 }
 
 /// The text of these paths; `nothing` where there are none.
-fn text_of(alloc: Global, paths: Vec<EdgeList>) -> Result<String, AllocError> {
+fn text_of(alloc: Global, paths: &[&EdgeList]) -> Result<String, AllocError> {
     let mut text = String::new(alloc);
-    for path in &paths {
+    for path in paths {
         push_path(&mut text, path)?;
     }
     if text.is_empty() {
@@ -71,14 +71,28 @@ fn push_path(text: &mut String, path: &EdgeList) -> Result<(), AllocError> {
     text.push_str(";")
 }
 
+/// What is kept of the paths of a text by the body that sorts them.
+fn kept_of(alloc: Global, text: &str) -> Result<String, AllocError> {
+    let kept = unshadowed(alloc, paths_of(alloc, text)?)?;
+    let kept: Vec<&EdgeList> = kept.iter().collect(alloc)?;
+    text_of(alloc, &kept)
+}
+
+/// What is kept of the paths of a text by the plain body.
+fn plainly_kept_of(alloc: Global, text: &str) -> Result<String, AllocError> {
+    let paths = paths_of(alloc, text)?;
+    let kept = plain_unshadowed(alloc, &paths)?;
+    text_of(alloc, &kept)
+}
+
 /// Tells which paths are kept; where the two bodies differ, what both keep.
 #[derive(Drop)]
 struct Kept;
 
 impl Telling for Kept {
     fn told(&mut self, alloc: Global, line: &str) -> Result<String, Fail> {
-        let kept = text_of(alloc, unshadowed(alloc, paths_of(alloc, line)?)?)?;
-        let plain = text_of(alloc, plain_unshadowed(alloc, paths_of(alloc, line)?)?)?;
+        let kept = kept_of(alloc, line)?;
+        let plain = plainly_kept_of(alloc, line)?;
         if kept.as_str() == plain.as_str() {
             Ok(kept)
         } else {
@@ -142,8 +156,8 @@ fn some_paths(alloc: Global, seed: u32) -> Result<String, AllocError> {
 fn first_differing(alloc: Global) -> Result<Option<String>, AllocError> {
     for seed in 0..300 {
         let text = some_paths(alloc, seed)?;
-        let kept = text_of(alloc, unshadowed(alloc, paths_of(alloc, &text)?)?)?;
-        let plain = text_of(alloc, plain_unshadowed(alloc, paths_of(alloc, &text)?)?)?;
+        let kept = kept_of(alloc, &text)?;
+        let plain = plainly_kept_of(alloc, &text)?;
         if kept.as_str() != plain.as_str() {
             return Ok(Some(text));
         }

@@ -6,23 +6,15 @@ use shadowing::{EdgeList, EdgeStep};
 use std::alloc::{AllocError, Global};
 
 /// The paths that no path of the list shadows, as often as they stand, in the list's order.
-pub(crate) fn plain_unshadowed(
+pub(crate) fn plain_unshadowed<'a>(
     alloc: Global,
-    paths: Vec<EdgeList>,
-) -> Result<Vec<EdgeList>, AllocError>
-    ensures { IfOk result (λ kept. kept.items ≡ unshadowed paths.items) }
-{
-    let marks = marks_of(alloc, &paths)?;
-    keep_unmarked(alloc, paths, &marks)
-}
-
-/// For each path, whether one of the list shadows it.
-fn marks_of(alloc: Global, paths: &[EdgeList]) -> Result<Vec<bool>, AllocError>
-    ensures { IfOk result (λ marks. marks.items ≡ map (is_shadowed paths.now) paths.now) }
+    paths: &'a [EdgeList],
+) -> Result<Vec<&'a EdgeList>, AllocError>
+    ensures { IfOk result (λ kept. map (λ p. p.now) kept.items ≡ unshadowed paths.now) }
 {
     paths
         .iter()
-        .map(|path| is_shadowed(paths, path))
+        .filter(|path| !is_shadowed(paths, path))
         .collect(alloc)
 }
 
@@ -35,38 +27,21 @@ fn is_shadowed(paths: &[EdgeList], path: &EdgeList) -> bool
         .any(|other| shadows(other.items(), path.items()))
 }
 
-/// The paths without those that are marked, where the shadowed ones are.
-fn keep_unmarked(
-    alloc: Global,
-    paths: Vec<EdgeList>,
-    marks: &[bool],
-) -> Result<Vec<EdgeList>, AllocError>
-    requires { marks.now ≡ map (is_shadowed paths.items) paths.items }
-    ensures { IfOk result (λ kept. kept.items ≡ unshadowed paths.items) }
-{
-    let mut kept = Vec::new(alloc);
-    let mut rest = paths.into_iter();
-    for mark in marks {
-        let Some(path) = rest.next() else {
-            break;
-        };
-        if !*mark {
-            kept.push(path)?;
-        }
-    }
-    Ok(kept)
-}
-
 /// Whether the first path shadows the second.
 fn shadows(first: &[EdgeStep], second: &[EdgeStep]) -> bool
     ensures { result ≡ shadows first.now second.now }
 {
-    for (x, y) in first.iter().zip(second) {
-        if !is_same(x, y) {
-            return y.precedence < x.precedence;
-        }
+    let [x, xs @ ..] = first else {
+        return false;
+    };
+    let [y, ys @ ..] = second else {
+        return false;
+    };
+    if is_same(x, y) {
+        shadows(xs, ys)
+    } else {
+        y.precedence < x.precedence
     }
-    false
 }
 
 /// Whether two steps are equal.
