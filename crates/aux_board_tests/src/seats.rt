@@ -130,52 +130,56 @@ const STEPS: &str = "0 pin => 0 of 0 0 0
 1 pin => 4 of 1 2 1
 ";
 
-fn steps_of_three<J: Naming, R: Wait>(
+/// What the seats of a board do.
+#[derive(Clone, Copy)]
+enum Deeds {
+    /// They take the steps.
+    Steps,
+    /// Each grants ann a prefix, in a thread of its own. Then they are tied, and the last one pins.
+    Threads,
+}
+
+/// What three seats of this board tell of what they do.
+fn told_by_three<J: Naming + Send + Sync, R: Wait + Threads + Sync>(
     rt: &R,
     alloc: Global,
     board: SharedBoard,
+    deeds: Deeds,
 ) -> Result<String, Fail>
     requires board { board ≡ J.board }
     requires three { board.seats ≡ 3 }
 {
     let (_shared, mut seats) = board.named::<J, R>(rt, alloc)?;
-    let told = played(&rt, alloc, seats.as_mut_slice(), STEPS.trim_end());
+    let told = told_of(rt, alloc, seats.as_mut_slice(), deeds);
     close(seats);
     told
 }
 
-/// The same of a board that a caller names: a pick of its name is offered where no type in the signature depends on it.
-fn steps_of_board<J: Naming, R: Wait>(
-    rt: &R,
+fn told_of<'a, J: Naming + Send + Sync, R: Wait + Threads + Sync>(
+    rt: &'a R,
     alloc: Global,
-    board: SharedBoard,
+    seats: &mut [Seat<J, &'a R>],
+    deeds: Deeds,
 ) -> Result<String, Fail>
-    requires board { board ≡ J.board }
-    requires three { board.seats ≡ 3 }
+    requires three { J.board.seats ≡ 3 }
+    requires all { AreSeats 3 seats.old }
 {
-    steps_of_three::<J, R>(rt, alloc, board)
+    match deeds {
+        Deeds::Steps => played(&rt, alloc, seats, STEPS.trim_end()),
+        Deeds::Threads => all_tied(rt, alloc, seats),
+    }
+}
+
+/// The same of a new board.
+fn told<R: Wait + Threads + Sync>(rt: &R, alloc: Global, deeds: Deeds) -> Result<String, Fail> {
+    told_by_three::<Brand, R>(rt, alloc, SharedBoard::make(3), deeds)
 }
 
 #[test]
 fn seats_find_what_others_commit(rt: HostRuntime) -> Result<(), Fail> {
-    let told = steps_of_board::<Brand, _>(&rt, rt.alloc(), SharedBoard::make(3))?;
+    let told = told(&rt, rt.alloc(), Deeds::Steps)?;
     assert_eq!(rt; told.as_str(), STEPS);
     Ok(())
-}
-
-/// Each seat grants ann a prefix, in a thread of its own. Then they are tied; what the last one shows after a pin.
-fn tied_by_three<J: Naming + Send + Sync, R: Wait + Threads + Sync>(
-    rt: &R,
-    alloc: Global,
-    board: SharedBoard,
-) -> Result<String, Fail>
-    requires board { board ≡ J.board }
-    requires three { board.seats ≡ 3 }
-{
-    let (_shared, mut seats) = board.named::<J, R>(rt, alloc)?;
-    let told = all_tied(rt, alloc, seats.as_mut_slice());
-    close(seats);
-    told
 }
 
 fn all_tied<'a, J: Naming + Send + Sync, R: Wait + Threads + Sync>(
@@ -221,21 +225,9 @@ fn commit_one<'a, J: Naming, R: Wait>(
     let _ = seat.commit(&rt, alloc, None, edits);
 }
 
-/// The same of a board that a caller names.
-fn tied_by_board<J: Naming + Send + Sync, R: Wait + Threads + Sync>(
-    rt: &R,
-    alloc: Global,
-    board: SharedBoard,
-) -> Result<String, Fail>
-    requires board { board ≡ J.board }
-    requires three { board.seats ≡ 3 }
-{
-    tied_by_three::<J, R>(rt, alloc, board)
-}
-
 #[test]
 fn threads_share_one_log(rt: HostRuntime) -> Result<(), Fail> {
-    let told = tied_by_board::<Brand, _>(&rt, rt.alloc(), SharedBoard::make(3))?;
+    let told = told(&rt, rt.alloc(), Deeds::Threads)?;
     assert_eq!(rt; told.as_str(), "3 of 1 1 1");
     Ok(())
 }
