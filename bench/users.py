@@ -93,11 +93,10 @@ def is_listened_at(port):
 class Server:
     """A `navd serve` with so many doors, each for so many connections, that listens; ended with its block."""
 
-    def __init__(self, doors, connections, environment=None):
+    def __init__(self, doors, connections):
         self.port = free_port()
         words = [PROGRAM, "serve", str(self.port), str(doors), str(connections)]
-        self.process = subprocess.Popen(words, stdin=subprocess.DEVNULL, stdout=subprocess.PIPE, stderr=subprocess.PIPE,
-                                        env={**os.environ, **(environment or {})})
+        self.process = subprocess.Popen(words, stdin=subprocess.DEVNULL, stdout=subprocess.PIPE, stderr=subprocess.PIPE)
         until = time.monotonic() + SECONDS
         while not is_listened_at(self.port):
             wanted(time.monotonic() < until and self.process.poll() is None, "navd serve doesn't listen")
@@ -963,16 +962,16 @@ def memory_of(process, what):
 
 
 def memory_given_back():
-    """In the environment of the systemd unit the memory of a long line goes back to the system, behind its reply."""
-    settings = re.findall(r"^Environment=(.*)$", read(TOP, "share", "systemd", "navd.service"), re.MULTILINE)
-    environment = dict(setting.split("=", 1) for line in settings for setting in line.split())
-    with Server(1, 1, environment) as server:
-        client = server.client()
-        client.asks(b'{"do":[' + b",".join([b'{"a":1}'] * 250_000) + b"]}", '{"error":"bad_request","field":"do"}')
-        client.asks('{"do":"pin"}', error("no_user"))
+    """The memory of long lines at two doors goes back to the system, behind their replies."""
+    with Server(2, 1) as server:
+        clients = [server.client() for _ in range(2)]
+        first = memory_of(server.process, "VmRSS")
+        for client in clients * 2:
+            client.asks(b'{"do":[' + b",".join([b'{"a":1}'] * 250_000) + b"]}", '{"error":"bad_request","field":"do"}')
+            client.asks('{"do":"pin"}', error("no_user"))
         most, left = memory_of(server.process, "VmHWM"), memory_of(server.process, "VmRSS")
-        wanted(left < most / 4, f"{left:.0f} MB stay of {most:.0f}")
-    return f"{most:.0f} MB, {left:.0f} afterwards"
+        wanted(left < first + 4, f"{left:.0f} MB stay of {most:.0f}, {first:.0f} before")
+    return f"{first:.1f} MB before, {most:.0f} at most, {left:.1f} afterwards"
 
 
 def completions():
@@ -1028,7 +1027,7 @@ TABLE = [
     ("make dist", archive),
     ("the man pages, installed and shown", man_pages),
     ("the systemd unit", unit),
-    ("the unit's environment and the memory of a long line", memory_given_back),
+    ("the memory of long lines", memory_given_back),
     ("the completions", completions),
     ("navd serve closes what begins as an HTTP request", http_guard),
 ]
