@@ -1,17 +1,17 @@
 //! That the jobs of one line run at once: documents of a commit, and references that are asked.
-ghost use Rattle.std.specs.Prelude.{◌≡◌, ◌<◌, OnOk};
-ghost use Rattle.nav_session.specs.Desks.{HasItsView};
+ghost use Rattle.std.specs.Prelude.{◌≡◌, ◌<◌};
 
+use crate::gated::{Counts, HELLO, counted};
 use graph_nodes::Steps;
 use nav_io::Gate;
-use nav_session::{Desk, Means, answer_line};
+use nav_session::Desk;
 use std::alloc::Global;
 use std::marker::Brand;
 use std::sync::atomic::{AtomicU64, Ordering};
 use std::sync::ledger::{Blank, Ledger};
 use std::test::Fail;
 use std::thread::{Threads, available_parallelism, yield_now};
-use version_board::{Commits, PlainBoard};
+use version_board::PlainBoard;
 
 /// A gate at which each job waits until a second one has begun, for so many turns at most.
 #[derive(Drop)]
@@ -38,32 +38,19 @@ impl Gate for Meeting {
     fn leave(&self, _job: usize) {}
 }
 
-/// How many jobs of the line met no other one.
-fn missed_by<R: Threads + Sync, B: Commits<R>, L: Ledger>(
-    rt: &R,
-    alloc: Global,
-    desk: &mut Desk,
-    board: &mut B,
-    line: &str,
-    steps: &mut Steps<L>,
-) -> Result<u64, Fail>
-    requires view { HasItsView desk.old (B.log board.old) (B.pin_at board.old) }
-    ensures view { OnOk result (HasItsView desk.new (B.log board.new) (B.pin_at board.new)) }
-{
-    let gate = Meeting {
-        begun: AtomicU64::new(0),
-        missed: AtomicU64::new(0),
-    };
-    let means = Means {
-        rt,
-        alloc,
-        gate: &gate,
-    };
-    answer_line(&means, desk, board, line.as_bytes(), steps)?;
-    Ok(gate.missed.load(Ordering::SeqCst))
-}
+impl Counts for Meeting {
+    fn new() -> Meeting {
+        Meeting {
+            begun: AtomicU64::new(0),
+            missed: AtomicU64::new(0),
+        }
+    }
 
-const HELLO: &str = r#"{"do":"hello","user":"operator"}"#;
+    /// How many jobs met no other one.
+    fn count(&self) -> u64 {
+        self.missed.load(Ordering::SeqCst)
+    }
+}
 
 /// A commit of two documents, of which the graph has two references.
 const COMMIT: &str =
@@ -84,9 +71,13 @@ fn missed_on<R: Threads + Sync, L: Ledger>(
     let mut board = PlainBoard::new(alloc)?;
     let mut desk = Desk::new(alloc);
     let mut steps = Steps::<L>::new(blank);
-    missed_by(rt, alloc, &mut desk, &mut board, HELLO, &mut steps)?;
-    let indexed = missed_by(rt, alloc, &mut desk, &mut board, COMMIT, &mut steps)?;
-    let asked = missed_by(rt, alloc, &mut desk, &mut board, REFERENCES, &mut steps)?;
+    counted::<Meeting, _, _, _>(rt, alloc, &mut desk, &mut board, HELLO, &mut steps)?;
+    let indexed = counted::<Meeting, _, _, _>(
+        rt, alloc, &mut desk, &mut board, COMMIT, &mut steps,
+    )?;
+    let asked = counted::<Meeting, _, _, _>(
+        rt, alloc, &mut desk, &mut board, REFERENCES, &mut steps,
+    )?;
     Ok((indexed, asked))
 }
 

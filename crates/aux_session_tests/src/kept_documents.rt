@@ -1,17 +1,17 @@
 //! That a desk which shares keeps no more than its part: a document beyond that is indexed again where it comes again.
-ghost use Rattle.std.specs.Prelude.{◌≡◌, ◌<◌, ◌≤◌, OnOk};
-ghost use Rattle.nav_session.specs.Desks.{HasItsView};
+ghost use Rattle.std.specs.Prelude.{◌≡◌, ◌<◌, ◌≤◌};
 
+use crate::gated::{Counts, HELLO, counted};
 use graph_nodes::Steps;
 use nav_io::Gate;
-use nav_session::{Desk, Means, answer_line};
+use nav_session::Desk;
 use std::alloc::Global;
 use std::marker::Brand;
 use std::sync::atomic::{AtomicU64, Ordering};
 use std::sync::ledger::{Blank, Ledger};
 use std::test::Fail;
 use std::thread::Threads;
-use version_board::{Commits, PlainBoard};
+use version_board::PlainBoard;
 
 /// A gate that counts the jobs, of which a commit has one for each document that it indexes.
 #[derive(Drop)]
@@ -27,31 +27,18 @@ impl Gate for Counting {
     fn leave(&self, _job: usize) {}
 }
 
-/// How many jobs the line had.
-fn jobs_of<R: Threads + Sync, B: Commits<R>, L: Ledger>(
-    rt: &R,
-    alloc: Global,
-    desk: &mut Desk,
-    board: &mut B,
-    line: &str,
-    steps: &mut Steps<L>,
-) -> Result<u64, Fail>
-    requires view { HasItsView desk.old (B.log board.old) (B.pin_at board.old) }
-    ensures view { OnOk result (HasItsView desk.new (B.log board.new) (B.pin_at board.new)) }
-{
-    let gate = Counting {
-        jobs: AtomicU64::new(0),
-    };
-    let means = Means {
-        rt,
-        alloc,
-        gate: &gate,
-    };
-    answer_line(&means, desk, board, line.as_bytes(), steps)?;
-    Ok(gate.jobs.load(Ordering::SeqCst))
-}
+impl Counts for Counting {
+    fn new() -> Counting {
+        Counting {
+            jobs: AtomicU64::new(0),
+        }
+    }
 
-const HELLO: &str = r#"{"do":"hello","user":"operator"}"#;
+    /// How many jobs there were.
+    fn count(&self) -> u64 {
+        self.jobs.load(Ordering::SeqCst)
+    }
+}
 
 /// A commit of a document of 5 bytes, whose paths weigh something besides.
 const COMMIT: &str = r#"{"do":"commit","edits":[{"put":"b.py","text":"y = 1"}]}"#;
@@ -71,9 +58,9 @@ fn indexed_on<R: Threads + Sync, L: Ledger>(
     let mut board = PlainBoard::new(alloc)?;
     let mut desk = Desk::sharing(alloc, desks);
     let mut steps = Steps::<L>::new(blank);
-    jobs_of(rt, alloc, &mut desk, &mut board, HELLO, &mut steps)?;
-    let first = jobs_of(rt, alloc, &mut desk, &mut board, COMMIT, &mut steps)?;
-    let again = jobs_of(rt, alloc, &mut desk, &mut board, COMMIT, &mut steps)?;
+    counted::<Counting, _, _, _>(rt, alloc, &mut desk, &mut board, HELLO, &mut steps)?;
+    let first = counted::<Counting, _, _, _>(rt, alloc, &mut desk, &mut board, COMMIT, &mut steps)?;
+    let again = counted::<Counting, _, _, _>(rt, alloc, &mut desk, &mut board, COMMIT, &mut steps)?;
     Ok((first, again))
 }
 

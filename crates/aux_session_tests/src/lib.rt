@@ -9,6 +9,8 @@ mod counted;
 #[cfg(test)]
 mod doors;
 #[cfg(test)]
+mod gated;
+#[cfg(test)]
 mod kept_documents;
 #[cfg(test)]
 mod made_trees;
