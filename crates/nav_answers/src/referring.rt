@@ -42,8 +42,8 @@ pub const MOST_LINKS: usize = 2_097_152;
 /// place among them as its number. They are asked on twice as many threads as the machine has processors, on one where
 /// that has one, at most eight and no more than there are references; where a thread can't be made, the caller does its
 /// work. Which thread is the first to end decides nothing. Before, a handle of each file is taken, and the number of its
-/// file in the view is found for each path from the root, which takes eight bytes a file and four a path until all are
-/// asked. What was found is kept beside the view. The next time, of whatever definition, nothing is asked where the bounds
+/// file in the view is found for each path from the root, and where each key's paths begin is noted, which takes eight
+/// bytes a file and some fifty a path until all are asked. What was found is kept beside the view. The next time, of whatever definition, nothing is asked where the bounds
 /// are the same ones: the definition's references are found by halving, and the time follows their number. Where the
 /// bounds are others, all are asked again, and only the last is kept. Where memory is refused while they are asked,
 /// nothing is kept. Where the references have more than some 2,097,152 definitions in all, those that aren't meant are let

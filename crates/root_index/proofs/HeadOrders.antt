@@ -1,14 +1,15 @@
 -- Short texts with one head are the same, and six heads are those of a key.
-use Rattle.std.proofs.Common.{◌≡◌, refl, sym, ◌∙◌, ap, subst, false, true, ℕ, zero, suc, ◌%◌, ◌≤◌, List, [], ◌∷◌, Option, Some, None, slice_get, arith}
+use Rattle.std.proofs.Common.{◌≡◌, refl, sym, ◌∙◌, ap, subst, false, true, ℕ, zero, suc, ◌%◌, ◌<◌, ◌≤◌, drop, List, [], ◌∷◌, Option, Some, None, slice_get, arith}
 use Rattle.std.specs.Ordering.{nat_cmp}
 use Rattle.std.specs.Option.{is_some, option_cmp, option_map}
 use Rattle.std.specs.declared.cmp.Ordering.{Ordering}
 use Rattle.std.specs.declared.cmp.Ordering.TheVariants.{Equal}
 use Rattle.std.specs.Cmp.Lexicographic.{slice_cmp}
-use Rattle.stacks_vars.proofs.HeadLaws.{whole_stands}
+use Rattle.stacks_vars.specs.Head.{IsHead}
+use Rattle.stacks_vars.proofs.HeadLaws.{whole_stands, long_alike}
 use Rattle.partial_path.specs.Heads.{IsHeadAt}
 use Rattle.partial_path.proofs.HeadOrders.{some_head}
-use Rattle.root_index.specs.Heads.{AreHeads}
+use Rattle.root_index.specs.Heads.{AreHeads, IsTailAt}
 
 pub heads_same : (a b : ℕ) (x y : Option (List ℕ)) → IsHeadAt a x → IsHeadAt b y → a ≡ b → a % 256 ≤ 8 → Equal ≡ option_cmp (slice_cmp nat_cmp) x y
 heads_same a b None None p q same whole = refl
@@ -54,3 +55,11 @@ asks_none n (Some t) p none = absurd (let some = some_head n t p in omega (arith
 pub other_text : (a b : ℕ) (x y : Option (List ℕ)) → IsHeadAt a x → IsHeadAt b y → (a ≡ 0 → ⊥) → (a ≡ b → ⊥) → (text : List ℕ) × (x ≡ Some text) × (y ≡ Some text → ⊥)
 other_text a b None y p q some other = absurd (some p)
 other_text a b (Some text) y p q some other = (text, refl, λ e. other (p.value ∙ sym (subst (IsHeadAt b) e q).value))
+
+-- texts of more than seven bytes with one head stand as their tails do
+pub tails_told : (head : ℕ) (x y : Option (List ℕ)) (r : Ordering) → IsHeadAt head x → IsHeadAt head y → 8 < head % 256
+    → r ≡ option_cmp (slice_cmp nat_cmp) (option_map (λ (t : List ℕ). drop 7 t) x) (option_map (λ (t : List ℕ). drop 7 t) y)
+    → r ≡ option_cmp (slice_cmp nat_cmp) x y
+tails_told head None y r p q long is = absurd (omega (arith, p, long))
+tails_told head (Some t) None r p q long is = absurd (omega (arith, q, long))
+tails_told head (Some t) (Some w) r p q long is = is ∙ sym (long_alike head head t w p q refl (λ short. omega (arith, short, long))).alike

@@ -170,7 +170,7 @@ impl RootIndex {
             ≡ (found.0, found.1) ∷ offers_left found.2 symbols.now view.now self.now) }
     {
         let mut at = at;
-        while let Some((slot, _, after)) = next_slot(&self.slots, symbols, at) {
+        while let Some((slot, _, after)) = next_slot(&self.slots, None, symbols, at) {
             at = after;
             if let Some(file) = number_in(view, slot.path(), slot.row()) {
                 return Some((file, slot.rule(), after));
@@ -180,7 +180,7 @@ impl RootIndex {
     }
 
     /// The numbers of all paths' files in the view, for many look-ups by `next_offer_by`. The one error is want
-    /// of memory: it takes four bytes for each path. Its time follows the number of paths: for each its file's
+    /// of memory: it takes some fifty bytes for each path, since it notes where the paths of each key begin. Its time follows the number of paths: for each its file's
     /// number is found as `next_offer` finds it.
     pub fn seen_files(&self, alloc: Global, view: &View) -> Result<SeenFiles, AllocError>
         ensures { IfOk result (AreSeenFiles self.now view.now) }
@@ -188,10 +188,13 @@ impl RootIndex {
         let count = self.slots.len();
         let mut files = SeenFiles::with_room(alloc, count)?;
         let mut near = 0;
+        let mut before = [0; 6];
         for place in 0..count {
             let (slot, group) = self.slots.at(place, near);
             near = group;
             files.push(number_in(view, slot.path(), slot.row()))?;
+            files.note(slot.heads(), &before, place, group);
+            before = *slot.heads();
         }
         Ok(files)
     }
@@ -212,7 +215,12 @@ impl RootIndex {
             ≡ (found.0, found.1) ∷ offers_left found.2 symbols.now _view.now self.now) }
     {
         let mut at = at;
-        while let Some((slot, place, after)) = next_slot(&self.slots, symbols, at) {
+        while let Some((slot, place, after)) = next_slot(
+            &self.slots,
+            Some(files.hints()),
+            symbols,
+            at,
+        ) {
             at = after;
             if let Some(file) = files.at(place) {
                 return Some((file, slot.rule(), after));

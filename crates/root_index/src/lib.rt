@@ -11,6 +11,7 @@ mod group;
 mod group_list;
 mod groups;
 mod halving;
+mod hints;
 mod index;
 mod key_heads;
 mod laws;

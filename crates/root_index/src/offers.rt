@@ -9,6 +9,7 @@ ghost use Rattle.root_index.specs.Offers.{asks, paths_left};
 ghost use Rattle.root_index.specs.Inside.{is_before_key};
 
 use crate::group_list::GroupList;
+use crate::hints::Hints;
 use crate::key_heads::heads_wanted;
 use crate::met::{Met, meet};
 use crate::slot::Slot;
@@ -30,6 +31,7 @@ pub struct RootOffers {
 /// next.
 pub(crate) fn next_slot<'a>(
     slots: &'a GroupList,
+    hints: Option<&Hints>,
     symbols: &LentStack<'_>,
     at: RootOffers,
 ) -> Option<(&'a Slot, usize, RootOffers)>
@@ -47,7 +49,7 @@ pub(crate) fn next_slot<'a>(
         let (slot, near) = slots.at(place, here.near);
         match meet(slot, symbols, most) {
             Met::Asks => return Some((slot, place, behind(slots, slot, place, near))),
-            Met::Before(count) => here = passed(slots, symbols, count + 1, place, near),
+            Met::Before(count) => here = passed(slots, hints, symbols, count + 1, place, near),
             Met::Behind => return None,
         }
     }
@@ -77,6 +79,7 @@ fn behind(slots: &GroupList, slot: &Slot, place: usize, near: usize) -> RootOffe
 /// does where those tell too little.
 fn passed(
     slots: &GroupList,
+    hints: Option<&Hints>,
     symbols: &LentStack<'_>,
     count: usize,
     place: usize,
@@ -90,7 +93,7 @@ fn passed(
     ensures passed { result.place
         ≤ prefix_len (is_before_key (take count (texts symbols.now))) slots.now }
 {
-    let (told, group) = slots.told(&heads_wanted(symbols, count));
+    let (told, group) = seems_to_begin(slots, hints, &heads_wanted(symbols, count));
     if place < told && is_before(slots, symbols, count, told - 1, group) {
         return RootOffers {
             place: told,
@@ -101,6 +104,16 @@ fn passed(
         place: slots.end_of(symbols, count),
         near,
     }
+}
+
+/// Where the paths of the key with these heads seem to begin, and in which group: as it was noted, else by halving.
+fn seems_to_begin(slots: &GroupList, hints: Option<&Hints>, heads: &[u64; 6]) -> (usize, usize) {
+    if let Some(hints) = hints {
+        if let Some(found) = hints.found(heads) {
+            return found;
+        }
+    }
+    slots.told(heads)
 }
 
 /// Whether there is a path at the place, and it stands before the key of so many symbols.

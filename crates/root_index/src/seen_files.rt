@@ -1,14 +1,16 @@
+use crate::hints::Hints;
 use std::alloc::{AllocError, Global};
 use std::marker::Model;
 
 /// What stands in place of the number of a file that isn't seen.
 const NOT_SEEN: u32 = u32::MAX;
 
-/// For each path of an index the number of its file in a view, where the view has it: four bytes a path. A contract
-/// sees the list of these.
+/// For each path of an index the number of its file in a view, where the view has it, in four bytes a path, and hints that
+/// tell where keys begin. A contract sees the list of the numbers.
 #[derive(Drop)]
 pub struct SeenFiles {
     numbers: Vec<u32>,
+    hints: Hints,
 }
 
 impl Model for SeenFiles {
@@ -30,6 +32,7 @@ impl SeenFiles {
     {
         Ok(SeenFiles {
             numbers: Vec::with_capacity(alloc, count)?,
+            hints: Hints::with_room(alloc, count)?,
         })
     }
 
@@ -40,6 +43,19 @@ impl SeenFiles {
     {
         self.numbers.push(number_of(file))?;
         Ok(())
+    }
+
+    /// Notes where keys begin: that the path at that place and in that group has these heads, and the path in front of it
+    /// the others.
+    pub(crate) fn note(&mut self, heads: &[u64; 6], before: &[u64; 6], place: usize, group: usize)
+        ensures { self.new ≡ self.old }
+    {
+        self.hints.note(heads, before, place, group);
+    }
+
+    /// Where keys seem to begin.
+    pub(crate) fn hints(&self) -> &Hints {
+        &self.hints
     }
 
     /// The number of the file of the path at that place; None where it isn't seen. It takes constant time.

@@ -1,24 +1,27 @@
 use crate::file_handle::FileHandle;
-use crate::key_heads::{heads_cmp, heads_of, heads_order, heads_side, stand_before};
+use crate::key_heads::{
+    heads_and_tails, heads_cmp, heads_order, heads_side, stand_before, tail_of, tails_cmp,
+};
 use partial_path::{KEY_SIZE, StoredPath, key_side, keys_cmp};
 use stacks_vars::{LentStack, Symbol};
 use std::alloc::AllocError;
 use std::cmp::Ordering;
 use std::marker::Model;
 
-/// A path from the root in an index: its file, its place among the file's paths, and the heads of the symbols
+/// A path from the root in an index: its file, its place among the file's paths, and the heads and tails of the symbols
 /// whose texts make its key.
 #[derive(Drop)]
 pub(crate) struct Slot {
     file: FileHandle,
     place: usize,
     heads: [u64; 6],
+    tails: [u64; 6],
 }
 
 impl Model for Slot {
     ghost use Rattle.std.specs.Prelude.{◌<◌, length, slice_get};
     ghost use Rattle.root_index.specs.Roots.{RootPath, root_path, root_key};
-    ghost use Rattle.root_index.specs.Heads.{AreHeads};
+    ghost use Rattle.root_index.specs.Heads.{AreHeads, AreTails};
 
     ghost Value = { RootPath };
 
@@ -26,6 +29,8 @@ impl Model for Slot {
 
     ghost invariant = { λ s. (s.place < length s.file.file.rules)
         × AreHeads s.heads (root_key (root_path s.file.path s.place
+        (slice_get s.file.file.rules s.place)))
+        × AreTails s.tails (root_key (root_path s.file.path s.place
         (slice_get s.file.file.rules s.place))) };
 }
 
@@ -44,8 +49,13 @@ impl Slot {
         requires { place < length file.file.rules }
         ensures { result ≡ root_path file.path place (slice_get file.file.rules place) }
     {
-        let heads = heads_of(&file.paths().get().paths().at(place));
-        Slot { file, place, heads }
+        let (heads, tails) = heads_and_tails(&file.paths().get().paths().at(place));
+        Slot {
+            file,
+            place,
+            heads,
+            tails,
+        }
     }
 
     /// The same path once more, not copied. The one error is want of room to count one holder more.
@@ -56,6 +66,7 @@ impl Slot {
             file: self.file.share()?,
             place: self.place,
             heads: self.heads,
+            tails: self.tails,
         })
     }
 
@@ -78,13 +89,18 @@ impl Slot {
         self.file.row()
     }
 
+    /// The heads of its symbols.
+    pub(crate) fn heads(&self) -> &[u64; 6] {
+        &self.heads
+    }
+
     /// Whether the heads of its symbols stand before these.
     pub(crate) fn seems_before(&self, wanted: &[u64; 6]) -> bool {
         stand_before(&self.heads, wanted)
     }
 
-    /// How the symbol that it asks for at that place, from 0, stands to that one: as their heads tell it, and by a look at
-    /// the path where they don't. None where it asks for fewer.
+    /// How the symbol that it asks for at that place, from 0, stands to that one: as their heads and tails tell it, and by a
+    /// look at the path where they don't. None where it asks for fewer.
     pub(crate) fn text_side(&self, i: usize, wanted: &Symbol) -> Option<Ordering>
         requires { i < key_size }
         ensures { option_map (λ text. slice_cmp nat_cmp text wanted.now)
@@ -94,7 +110,10 @@ impl Slot {
         if head == 0 {
             return None;
         }
-        match heads_cmp(head, wanted.head()) {
+        if let Some(order) = heads_cmp(head, wanted.head()) {
+            return Some(order);
+        }
+        match tails_cmp(head, self.tails[i], tail_of(wanted)) {
             Some(order) => Some(order),
             None => text_order(&self.rule(), i, wanted),
         }
@@ -124,13 +143,13 @@ impl Slot {
         false
     }
 
-    /// How its key stands to the texts of the stack's first symbols, so many of them: as the heads of its symbols
+    /// How its key stands to the texts of the stack's first symbols, so many of them: as the heads and tails of its symbols
     /// tell it, and by a look at the path where they don't.
     pub(crate) fn key_side(&self, symbols: &LentStack<'_>, count: usize) -> Ordering
         requires { count ≤ key_size }
         ensures { result ≡ key_order (take count (texts symbols.now)) self.now }
     {
-        match heads_side(&self.heads, symbols, count) {
+        match heads_side(&self.heads, &self.tails, symbols, count) {
             Some(order) => order,
             None => key_side(&self.rule(), symbols, count),
         }

@@ -7,8 +7,8 @@ use Rattle.root_index.proofs.offers.passed.Goals as goal
 
 pub returns-then-is_before-clause-passed : goal.returns-then-is_before-clause-passed
 returns-then-is_before-clause-passed c =
-    let last : c.told-told.result.0 - 1 < prefix_len (is_before_key (take c.args.count (texts c.args.symbols.now))) c.args.slots.now
-    = before_first c.args.slots.now (take c.args.count (texts c.args.symbols.now)) (c.told-told.result.0 - 1) c.requires.order (sym c.is_before.ensures ∙ c.if-is_before.true) in
+    let last : c.seems_to_begin-told.result.0 - 1 < prefix_len (is_before_key (take c.args.count (texts c.args.symbols.now))) c.args.slots.now
+    = before_first c.args.slots.now (take c.args.count (texts c.args.symbols.now)) (c.seems_to_begin-told.result.0 - 1) c.requires.order (sym c.is_before.ensures ∙ c.if-is_before.true) in
     omega (arith, last)
 
 pub end_of-requires-clause-parted : goal.end_of-requires-clause-parted
