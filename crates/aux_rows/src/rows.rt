@@ -9,7 +9,7 @@ use crate::in_sessions::ask_all;
 use crate::lines::take_line;
 use crate::orders::alike;
 use crate::row::{Row, Way};
-use crate::ways::{cuts, reads, typed, whole, writes};
+use crate::ways::{Call, cuts, failing_calls, typed, whole};
 use aux_graph_text::TextFault;
 use std::alloc::{AllocError, Global};
 use std::sync::Wait;
@@ -127,8 +127,8 @@ fn run_row<R: Threads + Wait + Sync>(
         Way::Whole => whole(rt, alloc, name, row, tally)?,
         Way::Typed => typed(rt, alloc, name, row, tally)?,
         Way::EachCut => cuts(rt, alloc, name, row, tally)?,
-        Way::EachRead => reads(rt, alloc, name, row, tally)?,
-        Way::EachWrite => writes(rt, alloc, name, row, tally)?,
+        Way::EachRead => failing_calls(rt, alloc, name, row, Call::Read, tally)?,
+        Way::EachWrite => failing_calls(rt, alloc, name, row, Call::Write, tally)?,
     }
     Ok(())
 }

@@ -176,38 +176,60 @@ fn cut_at<R: Threads + Wait + Sync>(
     )
 }
 
-/// Runs a row with each of its first reads failing.
-pub fn reads<R: Threads + Wait + Sync>(
+/// A call of a stand-in that may fail.
+#[derive(Clone, Copy)]
+pub enum Call {
+    Read,
+    Write,
+}
+
+/// Runs a row with each of its first reads, or of its first writes, failing.
+pub fn failing_calls<R: Threads + Wait + Sync>(
     rt: &R,
     alloc: Global,
     name: &str,
     row: &Row,
+    call: Call,
     tally: &mut Tally,
 ) -> Result<(), AllocError> {
     for exchange in &row.exchanges {
         for piece in &row.pieces {
-            for read in 0..CALLS {
-                read_at(rt, alloc, name, row, exchange, *piece, read, tally)?;
+            for at in 0..CALLS {
+                failing_at(rt, alloc, name, row, exchange, call, *piece, at, tally)?;
             }
         }
     }
     Ok(())
 }
 
-fn read_at<R: Threads + Wait + Sync>(
+fn failing_at<R: Threads + Wait + Sync>(
     rt: &R,
     alloc: Global,
     name: &str,
     row: &Row,
     exchange: &Exchange,
+    call: Call,
     piece: u32,
-    read: u32,
+    at: u32,
     tally: &mut Tally,
 ) -> Result<(), AllocError> {
-    let case = format!(in alloc; "failing read {read} of {piece} bytes")?;
-    let failing = vec![in alloc; read]?;
-    let failing_one = changed(alloc, &exchange.input, failing, Vec::new(alloc))?;
-    let wanted = due_at_read(alloc, exchange, piece, read)?;
+    let failing = vec![in alloc; at]?;
+    let none = Vec::new(alloc);
+    let (what, failing_one, wanted, pieces) = match call {
+        Call::Read => (
+            "read",
+            changed(alloc, &exchange.input, failing, none)?,
+            due_at_read(alloc, exchange, piece, at)?,
+            (piece, 4_096),
+        ),
+        Call::Write => (
+            "write",
+            changed(alloc, &exchange.input, none, failing)?,
+            due_at_write(alloc, &exchange.wanted, piece, at)?,
+            (4_096, piece),
+        ),
+    };
+    let case = format!(in alloc; "failing {what} {at} of {piece} bytes")?;
     compare_on(
         rt,
         alloc,
@@ -215,54 +237,8 @@ fn read_at<R: Threads + Wait + Sync>(
         case.as_str(),
         row,
         &failing_one,
-        piece,
-        4_096,
-        &wanted,
-        tally,
-    )
-}
-
-/// Runs a row with each of its first writes failing.
-pub fn writes<R: Threads + Wait + Sync>(
-    rt: &R,
-    alloc: Global,
-    name: &str,
-    row: &Row,
-    tally: &mut Tally,
-) -> Result<(), AllocError> {
-    for exchange in &row.exchanges {
-        for piece in &row.pieces {
-            for write in 0..CALLS {
-                write_at(rt, alloc, name, row, exchange, *piece, write, tally)?;
-            }
-        }
-    }
-    Ok(())
-}
-
-fn write_at<R: Threads + Wait + Sync>(
-    rt: &R,
-    alloc: Global,
-    name: &str,
-    row: &Row,
-    exchange: &Exchange,
-    piece: u32,
-    write: u32,
-    tally: &mut Tally,
-) -> Result<(), AllocError> {
-    let case = format!(in alloc; "failing write {write} of {piece} bytes")?;
-    let failing = vec![in alloc; write]?;
-    let failing_one = changed(alloc, &exchange.input, Vec::new(alloc), failing)?;
-    let wanted = due_at_write(alloc, &exchange.wanted, piece, write)?;
-    compare_on(
-        rt,
-        alloc,
-        name,
-        case.as_str(),
-        row,
-        &failing_one,
-        4_096,
-        piece,
+        pieces.0,
+        pieces.1,
         &wanted,
         tally,
     )
