@@ -6,7 +6,8 @@ usage: bench/memory.py [PROGRAM [WHAT ..]]     (crates/navd/out/navd, as `make b
   changes  an editor's session in which one module of 2.9 kB is changed 4,000 times, and a definition asked after each ten
   closed   an editor's session in which 512 modules are opened and closed again
   doors    20,000 commits of one module at four doors of `serve`, a quarter at each
-  lines    100 lines of 8 MB of small objects in a session of `run`, and 25 at each of four doors
+  lines    100 lines of 8 MB of small objects in a session of `run`, and 25 at each of four doors, with one module that is
+           committed, and at the doors with 64 too
   objects  the same of lines that are objects, of which a value is made
 
 Memory is what the program holds (resident), in megabytes: at the start of what is measured, at the end, and the most.
@@ -24,10 +25,10 @@ from pathlib import Path
 
 import places
 import projects
-from programs import Editor, Lines, Program, changed, closed, line_of, opened
+from programs import Editor, Lines, Program, changed, closed, commits_of, line_of, opened
 
 PROGRAM = Path(__file__).parent.parent / "crates/navd/out/navd"
-CHANGES, CLOSED, COMMITS, DOORS, LARGE_LINES = 4_000, 512, 20_000, 4, 100
+CHANGES, CLOSED, COMMITS, DOORS, LARGE_LINES, PROJECT = 4_000, 512, 20_000, 4, 100, 64
 LINE_MAX = 8_388_608
 # Seconds after a reply until what was given back is the system's.
 SETTLED = 1.5
@@ -150,18 +151,26 @@ def large_lines(program: Path, line: bytes, what: str) -> None:
             refused(session.ask([line])[0][0])
         time.sleep(SETTLED)
         told(f"{LARGE_LINES} {what} in a session", session, start)
+    large_lines_at_doors(program, line, [put], f"{LARGE_LINES} {what} at {DOORS} doors")
+    project = commits_of(projects.project(PROJECT))
+    large_lines_at_doors(program, line, [*project, put], f"{LARGE_LINES} {what} at {DOORS} doors, {PROJECT} modules")
+
+
+def large_lines_at_doors(program: Path, line: bytes, puts: list[bytes], what: str) -> None:
+    """All doors at once, behind these commits, the last of which each door makes."""
     with served(program) as (serving, doors):
+        for put in puts[:-1]:
+            doors[0].ask(put)
         for door in doors:
-            door.ask(put)
+            door.ask(puts[-1])
         start = serving.memory()
         for _ in range(LARGE_LINES // DOORS):
-            # All doors read theirs at once.
             for door in doors:
                 door.socket.sendall(line)
             for door in doors:
                 refused(door.lines.readline())
         time.sleep(SETTLED)
-        told(f"{LARGE_LINES} {what} at {DOORS} doors", serving, start)
+        told(what, serving, start)
 
 
 def refused(reply: bytes) -> None:
