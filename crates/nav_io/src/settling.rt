@@ -21,9 +21,6 @@ const SIZES: usize = (MOST - LEAST) / STEP + 1;
 /// How many blocks of each size it keeps for a thread.
 const KEPT: usize = 7;
 
-/// How many are taken early: more, since one may be a step longer than it was asked to be.
-const EARLY: usize = KEPT + 1;
-
 /// So many blocks of so many bytes have the room that it may keep at the end of a thread's memory behind a line of the
 /// greatest length. Each is less than what the system would lend by itself.
 const ROOM_BLOCKS: usize = 560;
@@ -59,16 +56,23 @@ impl Ballast {
         }
         let _kept = self.kept.reserve(SIZES * KEPT);
         let _room = self.room.reserve(ROOM_BLOCKS);
-        let _blocks = self.blocks.reserve(SIZES * EARLY);
-        take_small(self.alloc, EARLY, &mut self.blocks);
+        let _blocks = self.blocks.reserve(2 * SIZES * KEPT);
+        // Some may be a step longer than they were asked to be, where free room of that length is there, small ones most
+        // often. So as many are taken once more, the small ones of them lowest, and those that aren't needed go back.
+        take_down(self.alloc, &mut self.blocks);
+        take_up(self.alloc, &mut self.blocks);
     }
 
     /// Gives the blocks back in place of those that the C library keeps, which then are put together with what is free
     /// beside them. Then it takes room at the end of the thread's memory, of which nothing is written, and gives it back at
     /// once, so that the C library finds more there than it may keep.
     pub(crate) fn give_back(&mut self) {
-        take_small(self.alloc, KEPT, &mut self.kept);
-        self.blocks.clear();
+        // Only once as many of a size were given back as it may keep is it sure that taking as many leaves it none: while
+        // it has fewer, it may take others of that size for itself with each that is asked for.
+        take_down(self.alloc, &mut self.kept);
+        self.kept.clear();
+        take_down(self.alloc, &mut self.kept);
+        give_in_order(mem::replace(&mut self.blocks, Vec::new(self.alloc)));
         self.kept.clear();
         take_blocks(self.alloc, ROOM_BYTES, ROOM_BLOCKS, &mut self.room);
         give_in_order(mem::replace(&mut self.room, Vec::new(self.alloc)));
@@ -76,18 +80,27 @@ impl Ballast {
     }
 }
 
-/// Gives the blocks back, the first one first: all of them are free room only with the last, which is more than may be
-/// kept. From the last one on they would go back in parts, and of the first ones would be kept as much as may be.
+/// Gives the blocks back, the first one first. Of small ones the C library then keeps those that lie lowest. Large ones are
+/// all free room only with the last, which is more than may be kept: from the last one on they would go back in parts, and
+/// of the first ones would be kept as much as may be.
 fn give_in_order(blocks: Vec<Vec<u8>>) {
     for block in blocks {
         drop(block);
     }
 }
 
-/// Takes so many blocks of each small size; fewer where memory is refused.
-fn take_small(alloc: Global, count: usize, blocks: &mut Vec<Vec<u8>>) {
+/// Takes as many blocks of each small size as the C library keeps, the largest first, so that free room of one size isn't
+/// given out for the size below; fewer where memory is refused.
+fn take_down(alloc: Global, blocks: &mut Vec<Vec<u8>>) {
     for i in 0..SIZES {
-        take_blocks(alloc, LEAST + i * STEP, count, blocks);
+        take_blocks(alloc, MOST - i * STEP, KEPT, blocks);
+    }
+}
+
+/// The same, the smallest first.
+fn take_up(alloc: Global, blocks: &mut Vec<Vec<u8>>) {
+    for i in 0..SIZES {
+        take_blocks(alloc, LEAST + i * STEP, KEPT, blocks);
     }
 }
 
