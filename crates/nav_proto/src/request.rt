@@ -1,6 +1,6 @@
 use crate::DocText;
 use partial_path::Bounds;
-use std::marker::Model;
+use stacks_vars::Listed;
 use version_tree::{PathText, UserText};
 
 /// What a line asks for. Its paths have the form of a path, its prefixes are empty or paths, its
@@ -77,42 +77,5 @@ pub enum Point {
     LineColumn(u32, u32),
 }
 
-/// The edits of a commit, in their order. A contract sees them as a list.
-#[derive(Debug, Drop)]
-pub struct Edits {
-    items: Vec<FileEdit>,
-}
-
-impl Model for Edits {
-    ghost use Rattle.std.specs.Prelude.{List};
-    ghost use Rattle.nav_proto.specs.declared.request.FileEdit.{FileEdit};
-
-    ghost Value = { List FileEdit };
-
-    ghost view = { λ e. e.items.items };
-}
-
-impl Edits {
-    ghost use Rattle.std.specs.Prelude.{◌≡◌};
-
-    /// The edits of this vector.
-    pub fn of(items: Vec<FileEdit>) -> Edits
-        ensures { result ≡ items.items }
-    {
-        Edits { items }
-    }
-
-    /// The edits.
-    pub fn items(&self) -> &[FileEdit]
-        ensures { result.now ≡ self.now }
-    {
-        self.items.as_slice()
-    }
-
-    /// The vector of the edits.
-    pub fn into_items(self) -> Vec<FileEdit>
-        ensures { result.items ≡ self }
-    {
-        self.items
-    }
-}
+/// The edits of a commit, in their order.
+pub type Edits = Listed<FileEdit>;

@@ -1,9 +1,9 @@
 ghost use Rattle.std.specs.Prelude.{◌≡◌};
 ghost use Rattle.whole_search.specs.declared.found.SearchFault.TheVariants.{NoMemory};
 
+use stacks_vars::Listed;
 use std::alloc::{AllocError, AllocFailed};
 use std::fmt;
-use std::marker::Model;
 
 /// A node that answers a query: its file's place in the list of files, and its position in that file.
 #[derive(Clone, Copy, Debug, PartialEq, Eq, PartialOrd, Ord)]
@@ -12,45 +12,8 @@ pub struct Hit {
     pub node: u32,
 }
 
-/// The rows of an answer. A contract sees them as a list.
-#[derive(Debug, Drop)]
-pub struct Hits {
-    items: Vec<Hit>,
-}
-
-impl Model for Hits {
-    ghost use Rattle.std.specs.Prelude.{List};
-    ghost use Rattle.whole_search.specs.declared.found.Hit.{Hit};
-
-    ghost Value = { List Hit };
-
-    ghost view = { λ h. h.items.items };
-}
-
-impl Hits {
-    ghost use Rattle.std.specs.Prelude.{◌≡◌};
-
-    /// The rows of this vector.
-    pub fn of(items: Vec<Hit>) -> Hits
-        ensures { result ≡ items.items }
-    {
-        Hits { items }
-    }
-
-    /// The rows.
-    pub fn items(&self) -> &[Hit]
-        ensures { result.now ≡ self.now }
-    {
-        self.items.as_slice()
-    }
-
-    /// The vector of the rows.
-    pub fn into_items(self) -> Vec<Hit>
-        ensures { result.items ≡ self }
-    {
-        self.items
-    }
-}
+/// The rows of an answer.
+pub type Hits = Listed<Hit>;
 
 /// An answer: its rows in file order, each once, and whether a run was left out for its length or depth.
 #[derive(Debug, Drop)]
