@@ -7,7 +7,6 @@
 //! back.
 
 use std::alloc::Global;
-use std::mem;
 
 /// The small sizes of which the C library keeps blocks: from this one up to that one, in steps.
 const LEAST: usize = 24;
@@ -27,9 +26,9 @@ const ROOM_BLOCKS: usize = 560;
 
 const ROOM_BYTES: usize = 100_000;
 
-/// Small blocks that are taken while a long line comes, and so lie before nearly all of it and before all that its answer
-/// takes. Behind it they change places with those that the C library keeps. The lists of the blocks that are taken then
-/// have their memory from the beginning too: what is freed last must not lie behind what is to go back.
+/// Small blocks that are taken before the first read, and so lie before all that lines and their answers take. Behind a
+/// long line they change places with those that the C library keeps. The lists of the blocks that are taken then have
+/// their memory from the beginning too: what is freed last must not lie behind what is to go back.
 #[derive(Drop)]
 pub(crate) struct Ballast {
     alloc: Global,
@@ -49,7 +48,8 @@ impl Ballast {
         }
     }
 
-    /// Takes the blocks, unless there are some; as many as there is memory for.
+    /// Takes the blocks, unless there are some; as many as there is memory for. So they are there from the beginning of a
+    /// session, and long lines leave little more than it had.
     pub(crate) fn take(&mut self) {
         if !self.blocks.is_empty() {
             return;
@@ -57,34 +57,40 @@ impl Ballast {
         let _kept = self.kept.reserve(SIZES * KEPT);
         let _room = self.room.reserve(ROOM_BLOCKS);
         let _blocks = self.blocks.reserve(2 * SIZES * KEPT);
-        // Some may be a step longer than they were asked to be, where free room of that length is there, small ones most
-        // often. So as many are taken once more, the small ones of them lowest, and those that aren't needed go back.
         take_down(self.alloc, &mut self.blocks);
-        take_up(self.alloc, &mut self.blocks);
+    }
+
+    /// Takes as many once more, unless that was done, while a long line comes: some of the first may be a step longer than
+    /// they were asked to be, where free room of that length was there, small ones most often. The small ones of these
+    /// come first, and so lie lowest; those that aren't needed go back.
+    pub(crate) fn take_more(&mut self) {
+        if self.blocks.len() <= SIZES * KEPT {
+            take_up(self.alloc, &mut self.blocks);
+        }
     }
 
     /// Gives the blocks back in place of those that the C library keeps, which then are put together with what is free
     /// beside them. Then it takes room at the end of the thread's memory, of which nothing is written, and gives it back at
-    /// once, so that the C library finds more there than it may keep.
+    /// once, so that the C library finds more there than it may keep. At last it takes the blocks again.
     pub(crate) fn give_back(&mut self) {
         // Only once as many of a size were given back as it may keep is it sure that taking as many leaves it none: while
         // it has fewer, it may take others of that size for itself with each that is asked for.
         take_down(self.alloc, &mut self.kept);
         self.kept.clear();
         take_down(self.alloc, &mut self.kept);
-        give_in_order(mem::replace(&mut self.blocks, Vec::new(self.alloc)));
+        give_in_order(&mut self.blocks);
         self.kept.clear();
         take_blocks(self.alloc, ROOM_BYTES, ROOM_BLOCKS, &mut self.room);
-        give_in_order(mem::replace(&mut self.room, Vec::new(self.alloc)));
-        *self = Ballast::new(self.alloc);
+        give_in_order(&mut self.room);
+        take_down(self.alloc, &mut self.blocks);
     }
 }
 
 /// Gives the blocks back, the first one first. Of small ones the C library then keeps those that lie lowest. Large ones are
 /// all free room only with the last, which is more than may be kept: from the last one on they would go back in parts, and
 /// of the first ones would be kept as much as may be.
-fn give_in_order(blocks: Vec<Vec<u8>>) {
-    for block in blocks {
+fn give_in_order(blocks: &mut Vec<Vec<u8>>) {
+    for block in blocks.drain(..) {
         drop(block);
     }
 }

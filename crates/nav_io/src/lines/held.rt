@@ -67,10 +67,11 @@ fn fill<S: Source>(
     ensures cause { result ≡ Err LineError.ReadFault
         → HasRisen (S.faults source.old) (S.faults source.new) }
 {
+    ballast.take();
     while held.len() <= LINE_MAX {
         let before = held.len();
         if before > LONG {
-            ballast.take();
+            ballast.take_more();
         }
         let taken = take_chunk(held, chunk, source)?;
         if taken == 0 {
