@@ -1,16 +1,19 @@
 -- Finding a file's paths with a counter of steps, one for each walk.
-use Rattle.std.proofs.Common.{◌≡◌, ◌≢◌, ℕ, suc, ◌+◌, ◌-◌, ◌<◌, ◌≤◌, List, [], ◌∷◌, ◌++◌, length, take, Bool, true, false, if◌then◌else◌, append-nil, refl, sym, ap, ◌∙◌, subst, arith}
+use Rattle.std.proofs.Common.{◌≡◌, ◌≢◌, ℕ, suc, ◌+◌, ◌-◌, ◌<◌, ◌≤◌, List, [], ◌∷◌, ◌++◌, length, take, Bool, true, false, if◌then◌else◌, ◌||◌, append-nil, refl, sym, ap, ◌∙◌, subst, arith}
 use Rattle.std.specs.List.{AllByRecursion}
 use Rattle.graph_nodes.specs.Graph.{Graph}
+use Rattle.graph_nodes.specs.declared.node.Place.{Place}
 use Rattle.graph_nodes.specs.Checked.{IsChecked}
+use Rattle.graph_nodes.specs.Cut.{is_cut}
 use Rattle.partial_path.specs.declared.config.EdgeAt.{EdgeAt}
 use Rattle.partial_path.specs.Rules.{Rule}
-use Rattle.partial_path.specs.Walks.{alone, ends_landing, IsWalk, IsWeight, IsHeavier}
+use Rattle.partial_path.specs.Walks.{alone, ends_landing, is_definition_place, IsWalk, IsWeight, IsHeavier}
 use Rattle.partial_path.specs.PathSets.{IsRuleOf, walk_of_rule, IsPathSet}
-use Rattle.file_paths.specs.Finding.{IsFinding, AreFirstRules, AreLongerRules, AddsLonger, EndsWith, if_landing, all_starts, IsShort}
+use Rattle.file_paths.specs.Finding.{IsFinding, AreFirstRules, AreLongerRules, AddsLonger, EndsWith, LeadsTo, if_landing, all_starts, IsShort}
 use Rattle.file_paths.specs.Finds.{AddsWalks}
 use Rattle.file_paths.proofs.SinkLaws.{walk_last}
 use Rattle.file_paths.proofs.FirstLaws.{first_all}
+use Rattle.file_paths.proofs.LastLaws.{LeadsOn, leads_on, keeps_none}
 use Rattle.file_paths.proofs.FindingLaws.{next_is_rule, next_is_walk, next_few, next_within, next_heavy, finding_lands, finding_passes, found_set, found_weight, found_count, finding_few, finding_within}
 
 pub counting_begins : (g : Graph) (rules first : List Rule) (count : ℕ) → IsChecked g → AreFirstRules g (all_starts g) first → rules ≡ [] → count ≡ 0
@@ -111,6 +114,14 @@ module _ (g : Graph) (rules begun : List Rule) (p : Rule) (weight count : ℕ) (
       (subst (λ (ps : List Rule). IsFinding g ps after (weight + length p.edges) (count + 1)) (sym k)
       (subst (λ (ps : List Rule). IsFinding g (rules ++ if_landing g p) ps (weight + length p.edges) (count + 1)) (sym adds.2)
       (kept_by (ends_landing (alone g) p.edges) refl adds.0 adds.1)))
+
+  -- where it doesn't land, no path is found, and those that go on from it are begun
+  pub taken_passed : (sink : Place) → LeadsTo g p.edges sink → (is_cut g sink || is_definition_place (alone g) 0 sink) ≡ false → (after : List Rule)
+      → (LeadsOn g p sink → AddsLonger g (walk_of_rule p) begun after) → IsFinding g rules after (weight + length es) (count + 1)
+  taken_passed sink leads unlanded after adds =
+      taken_kept after rules
+      (adds (leads_on g p sink (taken_rule g rules begun p weight count h) (taken_walk g rules begun p weight count h) leads unlanded))
+      (keeps_none g p sink rules leads unlanded)
 
 -- the same where the path is whole again
 pub whole_kept : (g : Graph) (rules begun : List Rule) (p q : Rule) (weight count : ℕ) (es : List EdgeAt) → es ≡ p.edges

@@ -84,6 +84,18 @@ pub no_landing_uncut : (cut landing : Bool) → (cut || landing) ≡ false → c
 no_landing_uncut true landing is = is
 no_landing_uncut false landing is = refl
 
+-- a path that may go on, by the edges from that place
+pub record LeadsOn (g : Graph) (p : Rule) (from : Place) : Type 0 where
+  pub may : MayGoOn g p
+  pub onward : GoesOnFrom g (walk_of_rule p) from
+
+-- so may one that doesn't land, from where its last edge leads
+pub leads_on : (g : Graph) (p : Rule) (sink : Place) → IsRuleOf g p → IsWalk g p.start p.edges → LeadsTo g p.edges sink
+    → (is_cut g sink || is_definition_place (alone g) 0 sink) ≡ false → LeadsOn g p sink
+leads_on g p sink exact walk leads unlanded =
+    let uncut = no_landing_uncut (is_cut g sink) (is_definition_place (alone g) 0 sink) unlanded in
+    record { may = may_onward g p sink exact walk leads uncut; onward = goes_onward g p sink leads uncut }
+
 lands_at : (g : Graph) (p : Rule) (sink : Place) (b : Bool) → LeadsTo g p.edges sink → (is_cut g sink || is_definition_place (alone g) 0 sink) ≡ b
     → if_landing g p ≡ (if b then p ∷ [] else [])
 lands_at g p sink b leads is =

@@ -6,7 +6,7 @@ use Rattle.partial_path.specs.PathSets.{IsRuleOf}
 use Rattle.path_join.specs.Extended.{rule_apart}
 use Rattle.file_paths.specs.declared.fault.TheConstants.{MAX_WEIGHT}
 use Rattle.file_paths.specs.Finding.{IsShort}
-use Rattle.file_paths.proofs.CountingLaws.{takes_apart, taken_rule, taken_walk, taken_last, taken_few, taken_within, taken_heavy, taken_heavier, taken_short, taken_smaller, taken_kept, whole_kept, short_fits, alike}
+use Rattle.file_paths.proofs.CountingLaws.{takes_apart, taken_rule, taken_walk, taken_last, taken_few, taken_within, taken_heavy, taken_heavier, taken_short, taken_smaller, taken_passed, whole_kept, short_fits, alike}
 use Rattle.file_paths.proofs.LastLaws.{keeps_landing, keeps_none, may_onward, goes_onward, no_landing_uncut, leads_apart, leads_whole}
 use Rattle.file_paths.proofs.OnlyLaws.{only_there, only_none, only_some, only_short}
 use Rattle.file_paths.proofs.enumerating.follow.Goals as goal
@@ -155,22 +155,12 @@ extend_in_place-requires-clause-peak c =
 
 pub returns-then-not-branch-clause-finding : goal.returns-then-not-branch-clause-finding
 returns-then-not-branch-clause-finding c =
-    taken_kept c.args.graph.now c.loop-found.found.paths.items c.loop-found.found.begun.items (rule_apart c.loop-found.parts) c.loop-found.found.weight c.loop-found.steps
-    c.loop-found.invariant.finding c.as_slice-edges.result.now c.as_slice-edges.ensures.value
-    c.loop-found.found.begun.items c.loop-found.found.paths.items
-    (only_none c.args.graph.now (rule_apart c.loop-found.parts) c.last_sink-sink.result c.in-Some.edge c.in-Some.ensures c.in_ok-extend_in_place.field-0 c.extend_in_place.new.parts
-    c.in_ok-extend_in_place.ensures.extended c.loop-found.found.begun.items
-    (may_onward c.args.graph.now (rule_apart c.loop-found.parts) c.last_sink-sink.result
-    (taken_rule c.args.graph.now c.loop-found.found.paths.items c.loop-found.found.begun.items (rule_apart c.loop-found.parts) c.loop-found.found.weight c.loop-found.steps
-    c.loop-found.invariant.finding)
-    (taken_walk c.args.graph.now c.loop-found.found.paths.items c.loop-found.found.begun.items (rule_apart c.loop-found.parts) c.loop-found.found.weight c.loop-found.steps
-    c.loop-found.invariant.finding)
-    (leads_apart c.args.graph.now c.as_slice-edges.result.now c.loop-found.parts.edges.items c.last_sink-sink.result c.as_slice-edges.ensures.value c.last_sink-sink.ensures.leads) (no_landing_uncut _ _ (sym c.lands.ensures ∙ c.if-lands.false)))
-    (goes_onward c.args.graph.now (rule_apart c.loop-found.parts) c.last_sink-sink.result
-    (leads_apart c.args.graph.now c.as_slice-edges.result.now c.loop-found.parts.edges.items c.last_sink-sink.result c.as_slice-edges.ensures.value c.last_sink-sink.ensures.leads) (no_landing_uncut _ _ (sym c.lands.ensures ∙ c.if-lands.false))) c.if-not-branch.true)
-    (keeps_none c.args.graph.now (rule_apart c.loop-found.parts) c.last_sink-sink.result c.loop-found.found.paths.items
+    taken_passed c.args.graph.now c.loop-found.found.paths.items c.loop-found.found.begun.items (rule_apart c.loop-found.parts) c.loop-found.found.weight c.loop-found.steps
+    c.loop-found.invariant.finding c.as_slice-edges.result.now c.as_slice-edges.ensures.value c.last_sink-sink.result
     (leads_apart c.args.graph.now c.as_slice-edges.result.now c.loop-found.parts.edges.items c.last_sink-sink.result c.as_slice-edges.ensures.value c.last_sink-sink.ensures.leads)
-    (sym c.lands.ensures ∙ c.if-lands.false))
+    (sym c.lands.ensures ∙ c.if-lands.false) c.loop-found.found.begun.items
+    (λ on. only_none c.args.graph.now (rule_apart c.loop-found.parts) c.last_sink-sink.result c.in-Some.edge c.in-Some.ensures c.in_ok-extend_in_place.field-0 c.extend_in_place.new.parts
+    c.in_ok-extend_in_place.ensures.extended c.loop-found.found.begun.items on c.if-not-branch.true)
 
 pub returns-then-not-branch-clause-begun : goal.returns-then-not-branch-clause-begun
 returns-then-not-branch-clause-begun c = c.loop-found.invariant.begun
@@ -189,22 +179,12 @@ loop-found-smaller c =
 
 pub loop-found-preserved : goal.loop-found-preserved
 loop-found-preserved c =
-    let finding = taken_kept c.args.graph.now c.loop-found.found.paths.items c.loop-found.found.begun.items (rule_apart c.loop-found.parts) c.loop-found.found.weight c.loop-found.steps
-    c.loop-found.invariant.finding c.as_slice-edges.result.now c.as_slice-edges.ensures.value
-    (c.loop-found.found.begun.items ++ rule_apart c.extend_in_place.new.parts ∷ []) c.loop-found.found.paths.items
-    (only_some c.args.graph.now (rule_apart c.loop-found.parts) c.last_sink-sink.result c.in-Some.edge c.in-Some.ensures c.in_ok-extend_in_place.field-0 c.extend_in_place.new.parts
-    c.in_ok-extend_in_place.ensures.extended c.loop-found.found.begun.items
-    (may_onward c.args.graph.now (rule_apart c.loop-found.parts) c.last_sink-sink.result
-    (taken_rule c.args.graph.now c.loop-found.found.paths.items c.loop-found.found.begun.items (rule_apart c.loop-found.parts) c.loop-found.found.weight c.loop-found.steps
-    c.loop-found.invariant.finding)
-    (taken_walk c.args.graph.now c.loop-found.found.paths.items c.loop-found.found.begun.items (rule_apart c.loop-found.parts) c.loop-found.found.weight c.loop-found.steps
-    c.loop-found.invariant.finding)
-    (leads_apart c.args.graph.now c.as_slice-edges.result.now c.loop-found.parts.edges.items c.last_sink-sink.result c.as_slice-edges.ensures.value c.last_sink-sink.ensures.leads) (no_landing_uncut _ _ (sym c.lands.ensures ∙ c.if-lands.false)))
-    (goes_onward c.args.graph.now (rule_apart c.loop-found.parts) c.last_sink-sink.result
-    (leads_apart c.args.graph.now c.as_slice-edges.result.now c.loop-found.parts.edges.items c.last_sink-sink.result c.as_slice-edges.ensures.value c.last_sink-sink.ensures.leads) (no_landing_uncut _ _ (sym c.lands.ensures ∙ c.if-lands.false))) c.if-not-branch.false)
-    (keeps_none c.args.graph.now (rule_apart c.loop-found.parts) c.last_sink-sink.result c.loop-found.found.paths.items
+    let finding = taken_passed c.args.graph.now c.loop-found.found.paths.items c.loop-found.found.begun.items (rule_apart c.loop-found.parts) c.loop-found.found.weight c.loop-found.steps
+    c.loop-found.invariant.finding c.as_slice-edges.result.now c.as_slice-edges.ensures.value c.last_sink-sink.result
     (leads_apart c.args.graph.now c.as_slice-edges.result.now c.loop-found.parts.edges.items c.last_sink-sink.result c.as_slice-edges.ensures.value c.last_sink-sink.ensures.leads)
-    (sym c.lands.ensures ∙ c.if-lands.false)) in
+    (sym c.lands.ensures ∙ c.if-lands.false) (c.loop-found.found.begun.items ++ rule_apart c.extend_in_place.new.parts ∷ [])
+    (λ on. only_some c.args.graph.now (rule_apart c.loop-found.parts) c.last_sink-sink.result c.in-Some.edge c.in-Some.ensures c.in_ok-extend_in_place.field-0 c.extend_in_place.new.parts
+    c.in_ok-extend_in_place.ensures.extended c.loop-found.found.begun.items on c.if-not-branch.false) in
     let more = taken_heavier c.args.graph.now c.loop-found.found.paths.items c.loop-found.found.begun.items (rule_apart c.loop-found.parts) c.loop-found.found.weight c.loop-found.steps
     c.loop-found.invariant.finding c.as_slice-edges.result.now c.as_slice-edges.ensures.value in
     record {
