@@ -128,7 +128,7 @@ module _ (files : List FileRules) (d : NodeAt) (sources : All IsSourceFile files
       )
 
   -- the rows are the references that begin back lists on empty stacks
-  pub rows_begin : (noted : List (List P)) (rules : List Rule) (count : ℕ) (rows : List NodeAt) → IsSearched files d sources [] noted rules count rows
+  rows_begin : (noted : List (List P)) (rules : List Rule) (count : ℕ) (rows : List NodeAt) → IsSearched files d sources [] noted rules count rows
       → (r : NodeAt) → Contains rows r ↔ BeginsList (graphs_of files) d r
   rows_begin noted rules count rows s r = (to, from)
     where
@@ -301,11 +301,20 @@ module _ (files : List FileRules) (d : NodeAt) (sources : All IsSourceFile files
           let full : count + length o.added ≡ most_lists = o.full in
           many files d sources (g.noted ++ made files d sources paths added) both.0 both.1 (omega (arith, n, m, k, c, full))
 
-  -- in the end
-  pub none_left : (work : List Rule) (count : ℕ) (rows : List NodeAt) → work ≡ [] → IsGoing work count rows → (noted : List (List P)) × (rules : List Rule) × IsSearched files d sources [] noted rules count rows
+  -- in the end no rule is left to be gone on from
+  none_left : (work : List Rule) (count : ℕ) (rows : List NodeAt) → work ≡ [] → IsGoing work count rows → (noted : List (List P)) × (rules : List Rule) × IsSearched files d sources [] noted rules count rows
   none_left work count rows none g =
       (g.noted, g.rules, subst (λ (os : List (List P)). IsSearched files d sources os g.noted g.rules count rows) (no_opens g.opens (subst (AreHeld files d g.opens) none g.held)) g.searched)
     where
       no_opens : (opens : List (List P)) → AreHeld files d opens [] → opens ≡ []
       no_opens [] h = refl
       no_opens (paths ∷ opens) h = absurd h
+
+  -- so the rows are those references, and there aren't too many lists
+  pub all_begin : (work : List Rule) (count : ℕ) (rows : List NodeAt) → work ≡ [] → IsGoing work count rows → (r : NodeAt) → Contains rows r ↔ BeginsList (graphs_of files) d r
+  all_begin work count rows none g =
+      let (noted, rules, searched) = none_left work count rows none g in rows_begin noted rules count rows searched
+
+  pub all_few : (work : List Rule) (count : ℕ) (rows : List NodeAt) → work ≡ [] → IsGoing work count rows → count ≤ most_lists → HasMany (graphs_of files) d → ⊥
+  all_few work count rows none g low =
+      let (noted, rules, searched) = none_left work count rows none g in few files d sources noted rules count rows at searched low

@@ -1,7 +1,6 @@
--- Which clause rests on which file. `rounds_can_be_cut` on Rounds, Shallow and Reached; `landing_runs_are_cut`,
+-- Which clause rests on which file. `rounds_can_be_cut` on Rounds and Reached; `landing_runs_are_cut`,
 -- `leading_paths_are_runs` and `exported_scopes_stay` on CutFrom; `cuts_from_are_unique` on OnlyCut;
 -- `moved_by_nothing_stays` on MovedNone.
-mod Shallow
 mod Rounds
 mod Reached
 mod CutFrom

@@ -1,8 +1,7 @@
 -- A run is cut into stored paths in one way alone, whatever the stacks are.
-use Rattle.std.proofs.Common.{◌≡◌, ◌≢◌, refl, sym, ap, ◌∙◌, subst, ℕ, ◌+◌, List, [], ◌∷◌, ◌++◌, map, true, Some, eqb, eqb-true, arith, ◌⊎◌, inl, inr}
-use Rattle.std.specs.Prelude.{slice_get, All, Contains}
-use Rattle.std.specs.List.{AllByRecursion}
-use Rattle.std.proofs.lemmas.Bool.{false≢true, and_parts, both_ways}
+use Rattle.std.proofs.Common.{◌≡◌, ◌≢◌, refl, sym, ap, ◌∙◌, subst, ℕ, List, [], ◌∷◌, true, Some, eqb, eqb-true, inl, inr}
+use Rattle.std.specs.Prelude.{All}
+use Rattle.std.proofs.lemmas.Bool.{false≢true, and_parts}
 use Rattle.std.proofs.lemmas.Option.{same_Some}
 use Rattle.graph_nodes.specs.Graph.{Graph}
 use Rattle.partial_path.specs.declared.config.Config.{Config}
@@ -16,91 +15,16 @@ use Rattle.graph_nodes.specs.declared.node.Place.TheVariants as place
 use Rattle.partial_path.specs.declared.config.Spot.{Spot}
 use Rattle.partial_path.specs.declared.config.Spot.TheVariants as spot
 use Rattle.partial_path.proofs.Followed.{followed_by}
-use Rattle.back_stitch.proofs.CutFrom.{first_of_run}
-use Rattle.partial_path.specs.Step.{stands_at, step, is_cut_edge}
+use Rattle.partial_path.proofs.CutRuns.{first_of_run}
+use Rattle.partial_path.specs.Step.{stands_at, step}
 use Rattle.partial_path.specs.Runs.{run}
 use Rattle.partial_path.specs.Rules.{Rule}
-use Rattle.partial_path.specs.Walks.{IsUncut}
-use Rattle.partial_path.specs.Moved.{moved_edge, moved_start}
-use Rattle.partial_path.specs.FileNumbers.{EdgeIn}
-use Rattle.partial_path.specs.Inside.{start_inside}
-use Rattle.partial_path.specs.PathSets.{FileRules, walk_of_rule}
+use Rattle.partial_path.specs.PathSets.{FileRules}
 use Rattle.partial_path.specs.Sources.{IsSourceFile, graphs_of}
-use Rattle.partial_path.specs.Cutting.{IsStoredIn, edges_in, path_edges, PathsLead}
-use Rattle.list_facts.proofs.Members.{IsIn-from_Contains}
-use Rattle.list_facts.proofs.Apart.{same_image}
-use Rattle.partial_path.proofs.Swaps.{IsZero}
-use Rattle.partial_path.proofs.MovedWalks.{edge_inside, edges_back, start_back, uncut_moved, inner_uncut}
-use Rattle.partial_path.proofs.Joints.{graph_there, source_there, stored_lands, joints_are_cut, lead_after, edges_some}
-use Rattle.partial_path.proofs.OnlyCuts.{zeros_of}
+use Rattle.partial_path.specs.Cutting.{edges_in, path_edges, PathsLead}
+use Rattle.partial_path.proofs.Joints.{stored_lands, lead_after, edges_some}
+use Rattle.partial_path.proofs.OnlyCuts.{AreSplit, split, zeros_of, same_file, same_path, no_longer}
 use Rattle.back_stitch.specs.Cuts.{CutsFromAreUnique}
-
--- lists
-
-abbrev first_or : {X : Type 0} → X → List X → X
-first_or x [] = x
-first_or x (y ∷ ys) = y
-
-abbrev rest : {X : Type 0} → List X → List X
-rest [] = []
-rest (y ∷ ys) = ys
-
--- one list goes on where the other ends, and so does what stands behind that
-abbrev GoesOn : {X : Type 0} → List X → List X → List X → List X → Type 0
-GoesOn {X} xs ys more others = (z : X) × (zs : List X) × (ys ≡ xs ++ z ∷ zs) × (more ≡ z ∷ zs ++ others)
-
--- two lists that begin one list are equal, or one goes on where the other ends
-abbrev AreSplit : {X : Type 0} → List X → List X → List X → List X → Type 0
-AreSplit xs ys more others = ((xs ≡ ys) × (more ≡ others)) ⊎ (GoesOn xs ys more others ⊎ GoesOn ys xs others more)
-
-split_more : {X : Type 0} (x y : X) (xs ys more others : List X) → x ≡ y → AreSplit xs ys more others → AreSplit (x ∷ xs) (y ∷ ys) more others
-split_more x y xs ys more others e (inl h) = inl (λ i. e i ∷ h.0 i, h.1)
-split_more {X} x y xs ys more others e (inr (inl (z, zs, h, k))) = inr (inl (z, zs, (λ i. sym e i ∷ h i), k))
-split_more {X} x y xs ys more others e (inr (inr (z, zs, h, k))) = inr (inr (z, zs, (λ i. e i ∷ h i), k))
-
-split : {X : Type 0} (xs ys more others : List X) → xs ++ more ≡ ys ++ others → AreSplit xs ys more others
-split [] [] more others h = inl (refl, h)
-split [] (y ∷ ys) more others h = inr (inl (y, ys, refl, h))
-split (x ∷ xs) [] more others h = inr (inr (x, xs, refl, sym h))
-split (x ∷ xs) (y ∷ ys) more others h = split_more x y xs ys more others (ap (first_or x) h) (split xs ys more others (ap rest h))
-
--- two stored paths that begin at one start
-
--- whose edges begin the same list are of one file
-same_file : (k m : ℕ) (xs ys more others : List EdgeAt) → AllByRecursion (EdgeIn IsZero) xs → AllByRecursion (EdgeIn IsZero) ys → xs ≢ [] → ys ≢ []
-    → map (moved_edge k) xs ++ more ≡ map (moved_edge m) ys ++ others → k ≡ m
-same_file k m [] ys more others zx zy sx sy h = absurd (sx refl)
-same_file k m (x ∷ xs) [] more others zx zy sx sy h = absurd (sy refl)
-same_file k m (x ∷ xs) (y ∷ ys) more others zx zy sx sy h =
-    let first : k + x.file ≡ m + y.file = ap (λ es. (first_or x es).file) h in
-    omega (arith, first, zx.0, zy.0)
-
--- with the same edges are one path
-same_path : (files : List FileRules) (s : Start) (p q : ℕ × Rule) → All IsSourceFile files → IsStoredIn files p → IsStoredIn files q
-    → moved_start p.0 p.1.start ≡ s → moved_start q.0 q.1.start ≡ s → p.0 ≡ q.0 → edges_in p ≡ edges_in q → p ≡ q
-same_path files s p q sources ps qs is_p is_q file edges =
-    let f : FileRules = ps.0 in
-    let same : qs.0 ≡ f = same_Some qs.0 f (sym qs.1 ∙ ap (slice_get files) (sym file) ∙ ps.1) in
-    let there : Contains f.rules q.1 = subst (λ (h : FileRules). Contains h.rules q.1) same qs.2 in
-    let starts : p.1.start ≡ q.1.start =
-    sym (start_back p.0 p.1.start (stored_lands files p sources ps).exact.files.start) ∙ ap start_inside (is_p ∙ sym is_q)
-    ∙ start_back q.0 q.1.start (stored_lands files q sources qs).exact.files.start in
-    let walked : p.1.edges ≡ q.1.edges =
-    sym (edges_back p.0 p.1.edges (zeros_of files p sources ps)) ∙ ap (map edge_inside) edges ∙ edges_back q.0 q.1.edges (zeros_of files q sources qs) in
-    let rules : p.1 ≡ q.1 =
-    same_image walk_of_rule f.rules p.1 q.1 (source_there files p.0 f sources ps.1).sets.rules.once
-    (IsIn-from_Contains f.rules p.1 ps.2) (IsIn-from_Contains f.rules q.1 there) (λ i. record { start = starts i; edges = walked i }) in
-    λ i. (file i, rules i)
-
--- the edges of a path that applies, with a path behind it, are not the first edges of a longer one
-no_longer : (files : List FileRules) (s : Start) (c end : Config) (p q : ℕ × Rule) (paths : List (ℕ × Rule)) (others : List EdgeAt) → All IsSourceFile files
-    → PathsLead files s c (p ∷ paths) end → IsStoredIn files q → GoesOn (edges_in p) (edges_in q) (path_edges paths) others → ⊥
-no_longer files s c end p q [] others sources leads stored (z, zs, h, k) = cc
-no_longer files s c end p q (next ∷ paths) others sources leads stored (z, zs, h, k) =
-    let g = graphs_of files in
-    let (front, last, is, cut) = joints_are_cut files s c end p next paths sources leads in
-    let uncut = uncut_moved g q.0 (stored.0).graph q.1.edges (graph_there files q.0 stored.0 stored.1) (zeros_of files q sources stored) (stored_lands files q sources stored).lands.walk.uncut in
-    both_ways (is_cut_edge g last) (inner_uncut g front last z zs (subst (IsUncut g) (h ∙ ap (λ (es : List EdgeAt). es ++ z ∷ zs) is) uncut)) cut
 
 -- two spots at which a path stands before an edge are one
 

@@ -26,7 +26,7 @@ use Rattle.partial_path.proofs.Followed.{if_some}
 use Rattle.partial_path.proofs.Joints.{begin_before}
 use Rattle.back_stitch.specs.Lists.{most_edges, most_depth, LeadTo, BeginsList, usual, Reaches}
 use Rattle.back_stitch.specs.Laws.{RoundsCanBeCut}
-use Rattle.back_stitch.proofs.Shallow.{shallow_to, shallow_from}
+use Rattle.partial_path.proofs.HighJoints.{shallow_to, shallow_from}
 use Rattle.back_stitch.proofs.Rounds.{straightened}
 
 -- where the runs of a reference start

@@ -107,7 +107,7 @@ stored_path files k f s es c sources there in_file edges starts some uncut runs 
 -- runs between cuts
 
 -- none of these edges is a cut edge
-abbrev AreUncut : List Graph → List EdgeAt → Type 0
+abbrev pub AreUncut : List Graph → List EdgeAt → Type 0
 AreUncut files es = AllByRecursion (λ (e : EdgeAt). is_cut_edge files e ≡ false) es
 
 uncut_push : (files : List Graph) (es : List EdgeAt) (e : EdgeAt) → AreUncut files es → IsUncut files (es ++ e ∷ [])
@@ -126,16 +126,16 @@ push_some [] e h = cc
 push_some (x ∷ es) e h = cc
 
 -- what was followed from a start, up to a spot, is of the file that the spot is in
-abbrev AreOfOne : Start → List EdgeAt → Spot → Type 0
+abbrev pub AreOfOne : Start → List EdgeAt → Spot → Type 0
 AreOfOne s es at = (k : ℕ) → SpotIn (IsFile k) at → StartIn (IsFile k) s × AllByRecursion (EdgeIn (IsFile k)) es
 
 -- edges followed from a start of walks, none of them a cut edge
-record IsUnderWay (files : List Graph) (s : Start) (c : Config) (es : List EdgeAt) (d : Config) : Type 0 where
-  starts : starts_walks_of files s ≡ true
-  runs : run_from files s es c ≡ Some d
-  uncut : AreUncut files es
-  scopes : HoldScopeNodes files d.stacks
-  one : AreOfOne s es d.spot
+pub record IsUnderWay (files : List Graph) (s : Start) (c : Config) (es : List EdgeAt) (d : Config) : Type 0 where
+  pub starts : starts_walks_of files s ≡ true
+  pub runs : run_from files s es c ≡ Some d
+  pub uncut : AreUncut files es
+  pub scopes : HoldScopeNodes files d.stacks
+  pub one : AreOfOne s es d.spot
 
 one_more : (files : List Graph) (s : Start) (c d next : Config) (es : List EdgeAt) (e : EdgeAt) → run_from files s es c ≡ Some d → step files d e ≡ Some next
     → run_from files s (es ++ e ∷ []) c ≡ Some next
@@ -194,10 +194,10 @@ way_anew files d next e sources scopes stepped cut = let all = graphs_of files i
 }
 
 -- stored paths that lead there with those edges
-abbrev AreCut : List FileRules → Start → Config → List EdgeAt → Config → Type 0
+abbrev pub AreCut : List FileRules → Start → Config → List EdgeAt → Config → Type 0
 AreCut files s c es end = (paths : List (ℕ × Rule)) × PathsLead files s c paths end × (path_edges paths ≡ es)
 
-first_of_run : (files : List Graph) (es : List EdgeAt) (o : Option Config) (end : Config) → option_and_then (λ (next : Config). run files next es) o ≡ Some end
+pub first_of_run : (files : List Graph) (es : List EdgeAt) (o : Option Config) (end : Config) → option_and_then (λ (next : Config). run files next es) o ≡ Some end
     → (next : Config) × (o ≡ Some next) × (run files next es ≡ Some end)
 first_of_run files es None end h = absurd (none-some end h)
 first_of_run files es (Some next) end h = (next, refl, h)
@@ -208,7 +208,7 @@ cut_there files s c next end es more (p, stored, starts, applied, edges) (paths,
     (p ∷ paths, (stored, starts, next, applied, leads), λ i. edges i ++ same i)
 
 -- what is under way, and a run from there that lands, are cut into stored paths
-cut_on : (files : List FileRules) (s : Start) (c d end : Config) (es more : List EdgeAt) → All IsSourceFile files → IsUnderWay (graphs_of files) s c es d
+pub cut_on : (files : List FileRules) (s : Start) (c d end : Config) (es more : List EdgeAt) → All IsSourceFile files → IsUnderWay (graphs_of files) s c es d
     → more ≢ [] → run (graphs_of files) d more ≡ Some end → ends_landing (graphs_of files) more ≡ true → AreCut files s c (es ++ more) end
 cut_on files s c d end es [] sources way some ran lands = absurd (some refl)
 cut_on files s c d end es (e ∷ []) sources way some ran lands =
@@ -257,7 +257,7 @@ way_begins files r c sources h =
 
 -- a counted run lands
 
-landing_same : (files : List Graph) (es front : List EdgeAt) (last : EdgeAt) → es ≡ front ++ last ∷ [] → lands_after files last ≡ true → ends_landing files es ≡ true
+pub landing_same : (files : List Graph) (es front : List EdgeAt) (last : EdgeAt) → es ≡ front ++ last ∷ [] → lands_after files last ≡ true → ends_landing files es ≡ true
 landing_same files es front last is lands = ap (ends_landing files) is ∙ landing_push files front last ∙ lands
 
 at_end : (files : List Graph) (o : Option Config) (end : Config) → o ≡ Some end → IsSomeAnd o (IsAtDefinition files) → IsAtDefinition files end
@@ -268,7 +268,7 @@ complete_lands files c end es at ran (front, last, is) =
     let before = last_step files (After c.spot) front last c end (ap (λ (xs : List EdgeAt). run_from files (After c.spot) xs c) (sym is) ∙ run_after files es c ∙ ran) in
     landing_same files es front last is (definition_lands files before.0 end last before.1 at.definition)
 
-run_ended : (es : List EdgeAt) → es ≢ [] → IsEnded es
+pub run_ended : (es : List EdgeAt) → es ≢ [] → IsEnded es
 run_ended [] some = absurd (some refl)
 run_ended (e ∷ es) some = ended e es
 
@@ -276,7 +276,7 @@ counted_lands : (files : List Graph) (c end : Config) (es : List EdgeAt) → run
 counted_lands files c end es ran some (inl (before, last, is, cut)) = landing_same files es before last is (or_left (is_cut_edge files last) _ cut)
 counted_lands files c end es ran some (inr complete) = complete_lands files c end es (at_end files (run files c es) end ran complete.ends) ran (run_ended es some)
 
-paths_some : (paths : List (ℕ × Rule)) (es : List EdgeAt) → es ≢ [] → path_edges paths ≡ es → paths ≢ []
+pub paths_some : (paths : List (ℕ × Rule)) (es : List EdgeAt) → es ≢ [] → path_edges paths ≡ es → paths ≢ []
 paths_some paths es some is none = some (sym is ∙ ap path_edges none)
 
 pub counted_runs_are_cut : CountedRunsAreCut

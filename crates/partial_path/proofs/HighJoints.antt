@@ -35,7 +35,7 @@ stored_height files s p c next sources stored is applied =
     ∙ ap (λ (x : Start). highest_from (graphs_of files) x (edges_in p) c) is
 
 -- a path that applies, and a run from where it landed
-longer_height : (files : List FileRules) (s : Start) (p : ℕ × Rule) (c next : Config) (paths : List (ℕ × Rule)) → All IsSourceFile files → IsStoredIn files p
+pub longer_height : (files : List FileRules) (s : Start) (p : ℕ × Rule) (c next : Config) (paths : List (ℕ × Rule)) → All IsSourceFile files → IsStoredIn files p
     → moved_start p.0 p.1.start ≡ s → apply (moved p.0 p.1) c ≡ Some next → heights next paths ≡ highest (graphs_of files) next (path_edges paths)
     → heights c (p ∷ paths) ≡ highest_from (graphs_of files) s (path_edges (p ∷ paths)) c
 longer_height files s p c next paths sources stored is applied rest =
@@ -46,7 +46,7 @@ longer_height files s p c next paths sources stored is applied rest =
     ∙ (λ i. max (stored_height files s p c next sources stored is applied i) (rest i))
     ∙ sym (highest_from-append g s (edges_in p) (path_edges paths) c next ran)
 
-heights_after : (files : List FileRules) (c end : Config) (paths : List (ℕ × Rule)) → All IsSourceFile files → PathsLead files (After c.spot) c paths end
+pub heights_after : (files : List FileRules) (c end : Config) (paths : List (ℕ × Rule)) → All IsSourceFile files → PathsLead files (After c.spot) c paths end
     → heights c paths ≡ highest (graphs_of files) c (path_edges paths)
 heights_after files c end [] sources e = refl
 heights_after files c end (p ∷ paths) sources (stored, is, next, applied, others) =
@@ -83,7 +83,7 @@ shallow_on : (depth n : ℕ) (files : List Graph) (es : List EdgeAt) (o : Option
 shallow_on depth n files es None each h k = both_below n 0 depth h (omega arith)
 shallow_on depth n files es (Some next) each h k = both_below n (highest files next es) depth h (each next k)
 
-shallow_to : (depth : ℕ) (files : List Graph) (c : Config) (es : List EdgeAt) → IsShallow depth files c es → highest files c es ≤ depth
+pub shallow_to : (depth : ℕ) (files : List Graph) (c : Config) (es : List EdgeAt) → IsShallow depth files c es → highest files c es ≤ depth
 shallow_to depth files c [] h = h
 shallow_to depth files c (e ∷ es) h = shallow_on depth (length c.stacks.symbols) files es (step files c e) (λ next k. shallow_to depth files next es k) h.0 h.1
 
@@ -92,7 +92,7 @@ shallow_rest : (depth n : ℕ) (files : List Graph) (es : List EdgeAt) (o : Opti
 shallow_rest depth n files es None each h = tt
 shallow_rest depth n files es (Some next) each h = each next (second_below n (highest files next es) depth h)
 
-shallow_from : (depth : ℕ) (files : List Graph) (c : Config) (es : List EdgeAt) → highest files c es ≤ depth → IsShallow depth files c es
+pub shallow_from : (depth : ℕ) (files : List Graph) (c : Config) (es : List EdgeAt) → highest files c es ≤ depth → IsShallow depth files c es
 shallow_from depth files c [] h = h
 shallow_from depth files c (e ∷ es) h = (
   first_below (length c.stacks.symbols) (option_map_or (λ (next : Config). highest files next es) (step files c e) 0) depth h,

@@ -41,11 +41,11 @@ rest [] = []
 rest (y ∷ ys) = ys
 
 -- one list goes on where the other ends, and so does what stands behind that
-abbrev GoesOn : {X : Type 0} → List X → List X → List X → List X → Type 0
+abbrev pub GoesOn : {X : Type 0} → List X → List X → List X → List X → Type 0
 GoesOn {X} xs ys more others = (z : X) × (zs : List X) × (ys ≡ xs ++ z ∷ zs) × (more ≡ z ∷ zs ++ others)
 
 -- two lists that begin one list are equal, or one goes on where the other ends
-abbrev AreSplit : {X : Type 0} → List X → List X → List X → List X → Type 0
+abbrev pub AreSplit : {X : Type 0} → List X → List X → List X → List X → Type 0
 AreSplit xs ys more others = ((xs ≡ ys) × (more ≡ others)) ⊎ (GoesOn xs ys more others ⊎ GoesOn ys xs others more)
 
 split_more : {X : Type 0} (x y : X) (xs ys more others : List X) → x ≡ y → AreSplit xs ys more others → AreSplit (x ∷ xs) (y ∷ ys) more others
@@ -53,7 +53,7 @@ split_more x y xs ys more others e (inl h) = inl (λ i. e i ∷ h.0 i, h.1)
 split_more {X} x y xs ys more others e (inr (inl (z, zs, h, k))) = inr (inl (z, zs, (λ i. sym e i ∷ h i), k))
 split_more {X} x y xs ys more others e (inr (inr (z, zs, h, k))) = inr (inr (z, zs, (λ i. e i ∷ h i), k))
 
-split : {X : Type 0} (xs ys more others : List X) → xs ++ more ≡ ys ++ others → AreSplit xs ys more others
+pub split : {X : Type 0} (xs ys more others : List X) → xs ++ more ≡ ys ++ others → AreSplit xs ys more others
 split [] [] more others h = inl (refl, h)
 split [] (y ∷ ys) more others h = inr (inl (y, ys, refl, h))
 split (x ∷ xs) [] more others h = inr (inr (x, xs, refl, sym h))
@@ -62,7 +62,7 @@ split (x ∷ xs) (y ∷ ys) more others h = split_more x y xs ys more others (ap
 -- two stored paths that begin at one start
 
 -- whose edges begin the same list are of one file
-same_file : (k m : ℕ) (xs ys more others : List EdgeAt) → AllByRecursion (EdgeIn IsZero) xs → AllByRecursion (EdgeIn IsZero) ys → xs ≢ [] → ys ≢ []
+pub same_file : (k m : ℕ) (xs ys more others : List EdgeAt) → AllByRecursion (EdgeIn IsZero) xs → AllByRecursion (EdgeIn IsZero) ys → xs ≢ [] → ys ≢ []
     → map (moved_edge k) xs ++ more ≡ map (moved_edge m) ys ++ others → k ≡ m
 same_file k m [] ys more others zx zy sx sy h = absurd (sx refl)
 same_file k m (x ∷ xs) [] more others zx zy sx sy h = absurd (sy refl)
@@ -74,7 +74,7 @@ pub zeros_of : (files : List FileRules) (p : ℕ × Rule) → All IsSourceFile f
 zeros_of files p sources stored = recursion_from_All (EdgeIn IsZero) p.1.edges (stored_lands files p sources stored).exact.files.edges
 
 -- with the same edges are one path
-same_path : (files : List FileRules) (s : Start) (p q : ℕ × Rule) → All IsSourceFile files → IsStoredIn files p → IsStoredIn files q
+pub same_path : (files : List FileRules) (s : Start) (p q : ℕ × Rule) → All IsSourceFile files → IsStoredIn files p → IsStoredIn files q
     → moved_start p.0 p.1.start ≡ s → moved_start q.0 q.1.start ≡ s → p.0 ≡ q.0 → edges_in p ≡ edges_in q → p ≡ q
 same_path files s p q sources ps qs is_p is_q file edges =
     let f : FileRules = ps.0 in
@@ -91,7 +91,7 @@ same_path files s p q sources ps qs is_p is_q file edges =
     λ i. (file i, rules i)
 
 -- the edges of a path that applies, with a path behind it, are not the first edges of a longer one
-no_longer : (files : List FileRules) (s : Start) (c end : Config) (p q : ℕ × Rule) (paths : List (ℕ × Rule)) (others : List EdgeAt) → All IsSourceFile files
+pub no_longer : (files : List FileRules) (s : Start) (c end : Config) (p q : ℕ × Rule) (paths : List (ℕ × Rule)) (others : List EdgeAt) → All IsSourceFile files
     → PathsLead files s c (p ∷ paths) end → IsStoredIn files q → GoesOn (edges_in p) (edges_in q) (path_edges paths) others → ⊥
 no_longer files s c end p q [] others sources leads stored (z, zs, h, k) = cc
 no_longer files s c end p q (next ∷ paths) others sources leads stored (z, zs, h, k) =

@@ -1,14 +1,18 @@
 -- The search goes on from one rule to the next, until none is left.
-use Rattle.std.proofs.Common.{◌≡◌, ◌∙◌, ◌-◌, ◌<◌, ◌+◌, ℕ, Err, List, [], refl, take, length, append-nil, ap, sym, subst}
+use Rattle.std.proofs.Common.{◌≡◌, ◌∙◌, ◌-◌, ◌<◌, ◌+◌, ◌++◌, ℕ, Err, List, [], refl, take, length, append-nil, ap, sym, subst}
+use Rattle.std.specs.Vec.{vec_len}
 use Rattle.std.proofs.lemmas.Result.{err_from_is_err_and}
 use Rattle.stacks_vars.specs.declared.scopes.NodeAt.{NodeAt}
 use Rattle.partial_path.specs.Rules.{Rule}
 use Rattle.back_stitch.specs.declared.fault.BackFault.TheVariants.{Many}
 use Rattle.back_stitch.specs.Held.{HasExtended, IsOverfull}
 use Rattle.back_stitch.specs.Lists.{most_lists}
-use Rattle.back_stitch.proofs.Searched.{few}
-use Rattle.back_stitch.proofs.Going.{IsGoing, going_first, going_on, open_last, falls, many_first, many_on, none_left, rows_begin}
+use Rattle.back_stitch.proofs.Going.{IsGoing, going_first, going_on, open_last, falls, many_first, many_on, all_begin, all_few}
 use Rattle.back_stitch.proofs.searching.search.Goals as goal
+
+-- where none can be taken, none is open
+none_open : (n : ℕ) (work rest : List Rule) → n ≡ 0 → work ≡ rest ++ [] → rest ≡ take (n - 1) work → work ≡ []
+none_open n work rest none is left = is ∙ append-nil rest ∙ left ∙ ap (λ (m : ℕ). take (m - 1) work) none
 
 pub returns-in_err-extend-clause-many : goal.returns-in_err-extend-clause-many
 returns-in_err-extend-clause-many g c h =
@@ -86,22 +90,12 @@ returns-in_err-go_on-clause-many g c h =
 
 pub returns-clause-begin : goal.returns-clause-begin
 returns-clause-begin g c =
-    let files = g.P.BackSource.files c.args.source.now in
-    let d = c.args.definition in
-    let none : c.loop-path.work.items ≡ [] =
-    c.in_default.ensures.items ∙ (append-nil c.pop.new.self.items
-    ∙ (c.in_default.ensures.rest ∙ ap (λ (n : ℕ). take (n - 1) c.loop-path.work.items) c.in_default.ensures.cases.0)) in
-    let (noted, rules, searched) = none_left files d c.are_sources.ensures c.requires.definition c.loop-path.work.items c.loop-path.tally.count c.loop-path.tally.rows.items none
-    (c.loop-path.invariant.going c.are_sources.ensures c.requires.definition) in
-    rows_begin files d c.are_sources.ensures c.requires.definition noted rules c.loop-path.tally.count c.loop-path.tally.rows.items searched
+    all_begin (g.P.BackSource.files c.args.source.now) c.args.definition c.are_sources.ensures c.requires.definition c.loop-path.work.items c.loop-path.tally.count c.loop-path.tally.rows.items
+    (none_open (vec_len c.loop-path.work) c.loop-path.work.items c.pop.new.self.items c.in_default.ensures.cases.0 c.in_default.ensures.items c.in_default.ensures.rest)
+    (c.loop-path.invariant.going c.are_sources.ensures c.requires.definition)
 
 pub returns-clause-few : goal.returns-clause-few
 returns-clause-few g c =
-    let files = g.P.BackSource.files c.args.source.now in
-    let d = c.args.definition in
-    let none : c.loop-path.work.items ≡ [] =
-    c.in_default.ensures.items ∙ (append-nil c.pop.new.self.items
-    ∙ (c.in_default.ensures.rest ∙ ap (λ (n : ℕ). take (n - 1) c.loop-path.work.items) c.in_default.ensures.cases.0)) in
-    let (noted, rules, searched) = none_left files d c.are_sources.ensures c.requires.definition c.loop-path.work.items c.loop-path.tally.count c.loop-path.tally.rows.items none
-    (c.loop-path.invariant.going c.are_sources.ensures c.requires.definition) in
-    few files d c.are_sources.ensures noted rules c.loop-path.tally.count c.loop-path.tally.rows.items c.requires.definition searched c.loop-path.invariant.few
+    all_few (g.P.BackSource.files c.args.source.now) c.args.definition c.are_sources.ensures c.requires.definition c.loop-path.work.items c.loop-path.tally.count c.loop-path.tally.rows.items
+    (none_open (vec_len c.loop-path.work) c.loop-path.work.items c.pop.new.self.items c.in_default.ensures.cases.0 c.in_default.ensures.items c.in_default.ensures.rest)
+    (c.loop-path.invariant.going c.are_sources.ensures c.requires.definition) c.loop-path.invariant.few
