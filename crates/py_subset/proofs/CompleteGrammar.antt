@@ -279,7 +279,7 @@ module _ (less nested depth : ℕ) (few : suc depth ≤ suc less) (block : Parse
       (choose (read.is m.Class) class_or goes_if f-class (full-fewer (suc depth) few (f-line less nested)) refl refl refl refl refl refl) refl refl refl refl refl refl) refl refl refl refl refl refl) refl refl refl refl refl refl) refl refl refl refl refl refl
 
   pub f-stmts : Full (suc depth) read_s.begins_stmt goes_stmts (read_s.stmts (suc less) block) (rule.stmts nested B)
-  unfolding read_s.stmts read_s.begins_stmt
+  unfolding read_s.stmts read_s.begins_stmt read.begins_expr
   f-stmts = then_maybe tree.cons f-stmt (repeated read_s.begins_stmt (suc less) goes_stmts f-stmt few refl refl refl refl) refl refl
 
 pub f-block : (less nested depth blocks : ℕ) → depth ≤ suc less → Full depth read_s.begins_stmt goes_stmts (read_s.block (suc less) depth) (rule.block nested blocks)
@@ -294,7 +294,7 @@ f-block less nested (suc depth) (suc blocks) few =
 -- The statements of a module that takes all tokens are read.
 pub f-module : (less nested blocks : ℕ) (ts : List Token) (xs : List Stmt) → length ts < suc less → star (rule.stmt nested (rule.block nested blocks)) ts xs []
     → read_s.module_of (suc less) (suc less) ts ≡ Ok (xs, [])
-unfolding read_s.begins_stmt
+unfolding read_s.begins_stmt read.begins_expr
 f-module less nested blocks ts xs lt w =
     let f = f-stmt less nested less (omega arith) (read_s.block (suc less) (suc less)) (rule.block nested blocks) (full-fewer less (omega arith) (f-block less nested (suc less) blocks (omega arith))) in
     (repeated read_s.begins_stmt (suc less) goes_stmts f (omega arith) refl refl refl refl).reads ts xs [] lt w refl

@@ -105,7 +105,7 @@ module _ (turns : ℕ) where
   unfoldable pub bases : Parser (List Expr)
   bases = image tree.bases_of (opt (is m.OpenRound) (in_round turns some_exprs))
 
--- the marks with which a statement begins
+-- the marks with which a statement begins: its first word, or those of an expression
 unfoldable pub begins_stmt : Mark → Bool
 begins_stmt m.Import = true
 begins_stmt m.From = true
@@ -118,19 +118,7 @@ begins_stmt m.While = true
 begins_stmt m.For = true
 begins_stmt m.Def = true
 begins_stmt m.Class = true
-begins_stmt m.Name = true
-begins_stmt m.Number = true
-begins_stmt m.Text = true
-begins_stmt m.TrueWord = true
-begins_stmt m.FalseWord = true
-begins_stmt m.NoneWord = true
-begins_stmt m.OpenRound = true
-begins_stmt m.OpenSquare = true
-begins_stmt m.Not = true
-begins_stmt m.Minus = true
-begins_stmt m.Plus = true
-begins_stmt m.Tilde = true
-begins_stmt _ = false
+begins_stmt mark = begins_expr mark
 
 -- what a block has between its INDENT and its DEDENT
 module _ (turns : ℕ) (block : Parser (List Stmt)) where

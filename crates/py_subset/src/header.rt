@@ -7,13 +7,13 @@ ghost use Rattle.py_subset.specs.Statements as spec;
 
 use crate::items::Items;
 use crate::primaries::in_round;
-use crate::symbols::arguments;
+use crate::symbols::{arguments, begins_expr};
 use crate::token::Mark;
 use crate::token_list::{Stop, Tokens};
 use crate::tree::{Expr, Word};
 use std::alloc::Global;
 
-/// Whether a statement may begin with this token.
+/// Whether a statement may begin with this token: with its first word, or as an expression.
 #[tactic(auto, unfolding(crate::specs::Statements::begins_stmt))]
 pub fn begins_stmt(mark: Mark) -> bool
     ensures { result ≡ spec.begins_stmt mark }
@@ -29,20 +29,8 @@ pub fn begins_stmt(mark: Mark) -> bool
         | Mark::While
         | Mark::For
         | Mark::Def
-        | Mark::Class
-        | Mark::Name
-        | Mark::Number
-        | Mark::Text
-        | Mark::TrueWord
-        | Mark::FalseWord
-        | Mark::NoneWord
-        | Mark::OpenRound
-        | Mark::OpenSquare
-        | Mark::Not
-        | Mark::Minus
-        | Mark::Plus
-        | Mark::Tilde => true,
-        _ => false,
+        | Mark::Class => true,
+        _ => begins_expr(mark),
     }
 }
 
