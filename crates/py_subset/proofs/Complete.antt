@@ -1,5 +1,5 @@
 -- What a rule says is read, where the token after it doesn't go on with it.
-use Rattle.std.proofs.Common.{◌≡◌, ℕ, ◌<◌, ◌≤◌, zero, suc, Bool, true, false, not, cond, ◌&&◌, ◌||◌, List, [], ◌∷◌, length, Ok, Err, Option, refl, ap, sym, subst, ◌∙◌, inl, inr, ◌⊎◌, arith}
+use Rattle.std.proofs.Common.{◌≡◌, ℕ, ◌<◌, ◌≤◌, zero, suc, Bool, true, false, not, cond, ◌&&◌, ◌||◌, List, [], ◌∷◌, length, Ok, Option, refl, ap, sym, subst, ◌∙◌, inl, inr, ◌⊎◌, arith}
 use Rattle.std.specs.Prelude.{Some, None}
 use Rattle.std.specs.Option.{is_some}
 use Rattle.std.specs.List.{list_all}
@@ -9,11 +9,12 @@ use Rattle.py_subset.specs.declared.token.Mark.{Mark}
 use Rattle.py_subset.specs.declared.token.Mark.TheVariants as m
 use Rattle.py_subset.specs.declared.tree.Word.{Word}
 use Rattle.py_subset.specs.Marks.{same, number}
-use Rattle.py_subset.specs.Language.{Language, next, only}
+use Rattle.py_subset.specs.Language.{Language, next}
 use Rattle.py_subset.specs.Language as rule
 use Rattle.py_subset.specs.Chosen.{chosen}
-use Rattle.py_subset.specs.Parsers.{Parser, Reply, rest, told, ◌>>=◌}
+use Rattle.py_subset.specs.Parsers.{Parser, Reply, rest, ◌>>=◌}
 use Rattle.py_subset.specs.Parsers as read
+use Rattle.py_subset.proofs.Steps.{before, after, rule_before, rule_after, made, somed, then_joined, then_star, then_further, assigned, then_assigned, if_true, if_false}
 use Rattle.py_subset.proofs.MarkNumbers.{marks, same-is, at_number, number_small}
 
 abbrev pub Test : Type 0
@@ -83,12 +84,6 @@ none a = false
 abbrev pub is : Mark → Mark → Bool
 is mark other = same other mark
 
-abbrev joined : {A B C : Type 0} → (A → B → C) → A → B × List Token → Reply C
-joined f x s = Ok (f x s.0, s.1)
-
-abbrev then_joined : {A B C : Type 0} → (A → B → C) → Parser B → A × List Token → Reply C
-then_joined f q r = q r.1 >>= joined f r.0
-
 both_reads : {A B C : Type 0} (f : A → B → C) (p : Parser A) (q : Parser B) (ts us vs : List Token) (x : A) (y : B) (z : C)
     → p ts ≡ Ok (x, us) → q us ≡ Ok (y, vs) → z ≡ f x y → (p ts >>= then_joined f q) ≡ Ok (z, vs)
 both_reads f p q ts us vs x y z a b c = rw a (rw b (rw c refl))
@@ -136,9 +131,6 @@ full-wider F K wf fk a = record {
   first = λ ts x us w. wf (next ts) (a.first ts x us w);
   eats = a.eats;
 }
-
-abbrev made : {A B : Type 0} → (A → B) → A × List Token → Reply B
-made f r = Ok (f r.0, r.1)
 
 made_reads : {A B : Type 0} (f : A → B) (p : Parser A) (ts us : List Token) (x : A) (z : B) → p ts ≡ Ok (x, us) → z ≡ f x → (p ts >>= made f) ≡ Ok (z, us)
 made_reads f p ts us x z a c = rw a (rw c refl)
@@ -210,12 +202,6 @@ full-name n = record { reads = reads; first = first; eats = eats } where
   eats (t ∷ ts) x us w = omega (arith, ap length w.2)
 
 -- a token before
-abbrev before : {A : Type 0} → Mark → Parser A → Parser A
-before mark p ts = read.tok mark ts >>= λ r. p r.1
-
-abbrev rule_before : {A : Type 0} → Mark → Language A → Language A
-rule_before mark L = rule.both (λ _ x. x) (rule.tok mark) L
-
 before_reads : {A : Type 0} (mark : Mark) (p : Parser A) (ts us vs : List Token) (x y z : _) → read.tok mark ts ≡ Ok (x, us) → p us ≡ Ok (y, vs) → z ≡ y → before mark p ts ≡ Ok (z, vs)
 before_reads mark p ts us vs x y z a b c = rw a (rw b (rw c refl))
 
@@ -235,24 +221,12 @@ full-inside mark {n} {h} {l} {p} {L} b = record {
 }
 
 -- a token after
-abbrev after : {A : Type 0} → Parser A → Mark → Parser A
-after p mark ts = p ts >>= λ r. read.tok mark r.1 >>= λ s. Ok (r.0, s.1)
-
-abbrev rule_after : {A : Type 0} → Mark → Language A → Language A
-rule_after mark L = rule.both (λ x _. x) L (rule.tok mark)
-
 pub full-after : {A : Type 0} (mark : Mark) {n : ℕ} {f k : Mark → Bool} {p : Parser A} {L : Language A} → Full n f k p L → Apart (is mark) k → Full n f none (after p mark) (rule_after mark L)
 full-after mark {n} {f} {k} {p} {L} a away = full-both (λ x _. x) a (full-tok n mark) away
 
 pub maybe-after : {A : Type 0} (mark : Mark) {n : ℕ} {f k : Mark → Bool} {p : Parser A} {L : Language A} (F : Mark → Bool) → Maybe n f k p L → Apart (is mark) k → Within f F → Within (is mark) F
     → Full n F none (after p mark) (rule_after mark L)
 maybe-after mark {n} {f} {k} {p} {L} F a away wf wm = maybe-both (λ x _. x) F a (full-tok n mark) away wf wm
-
-if_true : {A : Type 0} (b : Bool) (p q y : Reply A) → b ≡ true → p ≡ y → cond b p q ≡ y
-if_true b p q y e h = rw e h
-
-if_false : {A : Type 0} (b : Bool) (p q y : Reply A) → b ≡ false → q ≡ y → cond b p q ≡ y
-if_false b p q y e h = rw e h
 
 pub full-choice : {A : Type 0} (test : Mark → Bool) {n : ℕ} {f g k l : Mark → Bool} {p q : Parser A} {L M : Language A} (F K : Mark → Bool)
     → Full n f k p L → Full n g l q M → Within f test → Apart g test → Within f F → Within g F → Fails K k → Fails K l → Full n F K (read.choice test p q) (rule.either L M)
@@ -268,9 +242,6 @@ full-choice {A} test {n} {f} {g} {k} {l} {p} {q} {L} {M} F K a b fits misses wf 
   eats : (ts : List Token) (x : A) (us : List Token) → rule.either L M ts x us → length us < length ts
   eats ts x us (inl w) = a.eats ts x us w
   eats ts x us (inr w) = b.eats ts x us w
-
-abbrev somed : {A : Type 0} → A × List Token → Reply (Option A)
-somed r = Ok (Some r.0, r.1)
 
 somed_reads : {A : Type 0} (p : Parser A) (ts us : List Token) (x : A) → p ts ≡ Ok (x, us) → (p ts >>= somed) ≡ Ok (Some x, us)
 somed_reads p ts us x a = rw a refl
@@ -289,12 +260,6 @@ maybe-opt {A} test {n} {f} {k} {p} {L} K a fits misses kk = record { reads = rea
   eats : (ts : List Token) (o : Option A) (us : List Token) → rule.opt L ts o us → length us ≤ length ts
   eats ts None us w = omega (arith, ap length w)
   eats ts (Some x) us w = omega (arith, a.eats ts x us w)
-
-abbrev consed : {A : Type 0} → A → List A × List Token → Reply (List A)
-consed x s = Ok (x ∷ s.0, s.1)
-
-abbrev then_star : {A : Type 0} → (Mark → Bool) → Parser A → ℕ → A × List Token → Reply (List A)
-then_star first p n r = read.star first p n r.1 >>= consed r.0
 
 star_reads : {A : Type 0} (test : Mark → Bool) (p : Parser A) (j : ℕ) (ts us vs : List Token) (x : A) (xs : List A) → p ts ≡ Ok (x, us) → read.star test p j us ≡ Ok (xs, vs) → (p ts >>= then_star test p j) ≡ Ok (x ∷ xs, vs)
 star_reads test p j ts us vs x xs a b = rw a (rw b refl)
@@ -335,12 +300,6 @@ comma_eats (t ∷ ts) us w = omega (arith, ap length w.1)
 
 comma_mark : (k : Mark → Bool) (ts us : List Token) → k m.Comma ≡ false → rule.tok m.Comma ts tt us → k (next ts) ≡ false
 comma_mark k ts us h w = rw (same-is (next ts) m.Comma (comma_is ts us w).0) h
-
-abbrev flagged : {A : Type 0} → A → (List A × Bool) × List Token → Reply (List A × Bool)
-flagged x s = Ok ((x ∷ s.0.0, s.0.1), s.1)
-
-abbrev then_further : {A : Type 0} → (Mark → Bool) → Parser A → ℕ → A × List Token → Reply (List A × Bool)
-then_further first p n r = read.further first p n r.1 >>= flagged r.0
 
 further_reads : {A : Type 0} (test : Mark → Bool) (p : Parser A) (j : ℕ) (ts us vs : List Token) (x : A) (xs : List A) (c : Bool) → p ts ≡ Ok (x, us) → read.further test p j us ≡ Ok ((xs, c), vs) → (p ts >>= then_further test p j) ≡ Ok ((x ∷ xs, c), vs)
 further_reads test p j ts us vs x xs c a b = rw a (rw b refl)
@@ -414,13 +373,6 @@ full-unless {A} mark {n} {f} {g} {k} {p} {q} {L} {M} F a b fits wf wg = record {
   eats ts x us (inr w) = b.eats ts x us w.1
 
 -- what is assigned to, where an `=` comes
-abbrev assigned : {A B S : Type 0} → (B → A → S) → Parser A → Option B → Parser S
-assigned f p None us = Err us
-assigned f p (Some t) us = before m.Assign (λ ts. p ts >>= made (f t)) us
-
-abbrev then_assigned : {A B S : Type 0} → (A → Option B) → (B → A → S) → (A → S) → Parser A → A × List Token → Reply S
-then_assigned choose f g p r = cond (same (next r.1) m.Assign) (assigned f p (choose r.0) r.1) (Ok (g r.0, r.1))
-
 bind_reads : {A S : Type 0} (p : Parser A) (h : A × List Token → Reply S) (ts us : List Token) (x : A) (y : Reply S) → p ts ≡ Ok (x, us) → h (x, us) ≡ y → (p ts >>= h) ≡ y
 bind_reads p h ts us x y a b = rw a b
 

@@ -10,9 +10,7 @@ use Rattle.py_subset.specs.Marks.{same}
 use Rattle.py_subset.specs.Language.{next}
 use Rattle.py_subset.specs.Parsers.{Parser, Reply, rest, told, ◌>>=◌}
 use Rattle.py_subset.specs.Parsers as read
-
-abbrev reply : {A : Type 0} → A × List Token → Reply A
-reply x = Ok x
+use Rattle.py_subset.proofs.Steps.{before, after, reply, if_true, if_false}
 
 -- the tokens at which a reader stops
 abbrev pub left : {A : Type 0} → Reply A → List Token
@@ -67,12 +65,6 @@ near-rest {A} {n} {n'} x = record { near = by } where
   by : (ts : List Token) → length ts < n → Nearly {A = A} n' (λ ts. Ok (x, rest ts)) ts (Ok (x, rest ts))
   by [] lt = ([], refl, λ us h k. ended us h)
   by (t ∷ ts) lt = (t ∷ [], refl, λ us h k. refl)
-
-if_true : {A : Type 0} (b : Bool) (p q y : Reply A) → b ≡ true → p ≡ y → cond b p q ≡ y
-if_true b p q y e h = rw e h
-
-if_false : {A : Type 0} (b : Bool) (p q y : Reply A) → b ≡ false → q ≡ y → cond b p q ≡ y
-if_false b p q y e h = rw e h
 
 pub near-if : {A : Type 0} (test : Mark → Bool) {n n' : ℕ} {p p' q q' : Parser A} → Near n n' p p' → Near n n' q q' → Near n n' (read.choice test p q) (read.choice test p' q')
 near-if {A} test {n} {n'} {p} {p'} {q} {q'} a b = record { near = λ ts lt. by ts (test (next ts)) refl lt } where
@@ -165,12 +157,6 @@ near-image f {n} {n'} {p} {p'} a = near-then a (λ x. near-pure (f x))
 
 pub near-both : {A B C : Type 0} (f : A → B → C) {n n' : ℕ} {p p' : Parser A} {q q' : Parser B} → Near n n' p p' → Near n n' q q' → Near n n' (read.both f p q) (read.both f p' q')
 near-both f {n} {n'} {p} {p'} {q} {q'} a b = near-then a (λ x. near-then b (λ y. near-pure (f x y)))
-
-abbrev before : {A : Type 0} → Mark → Parser A → Parser A
-before mark p ts = read.tok mark ts >>= λ r. p r.1
-
-abbrev after : {A : Type 0} → Parser A → Mark → Parser A
-after p mark ts = p ts >>= λ r. read.tok mark r.1 >>= λ s. Ok (r.0, s.1)
 
 pub near-before : {A : Type 0} (mark : Mark) {n n' : ℕ} {p p' : Parser A} → Near n n' p p' → Near n n' (before mark p) (before mark p')
 near-before mark {n} {n'} {p} {p'} a = near-then (near-tok mark) (λ x. a)

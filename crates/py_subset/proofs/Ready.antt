@@ -8,11 +8,12 @@ use Rattle.py_subset.specs.Marks.{same}
 use Rattle.py_subset.specs.Language.{Language, next, only}
 use Rattle.py_subset.specs.Language as rule
 use Rattle.py_subset.specs.Chosen.{chosen}
-use Rattle.py_subset.specs.Parsers.{Parser, Reply, rest, ◌>>=◌}
+use Rattle.py_subset.specs.Parsers.{Parser, rest, ◌>>=◌}
 use Rattle.py_subset.specs.Parsers as read
+use Rattle.py_subset.proofs.Steps.{before, after, rule_before, rule_after, reply, then_read, assigned, then_assigned}
 use Rattle.py_subset.proofs.Sound.{Sound, sound-marked, sound-tok, sound-name, sound-both, sound-before, sound-after, sound-image, sound-choice, sound-unless, sound-assigned, sound-opt, sound-star, sound-several}
 use Rattle.py_subset.proofs.Near.{Near, near-pure, near-err, near-if, near-then, near-fewer, near-marked, near-tok, near-name, near-image, near-both, near-before, near-after, near-inside, near-opt, near-star, near-several}
-use Rattle.py_subset.proofs.Viable.{Moves, Has, Ended, Ends, reply, has-tok, if_err, bind_err, left-ended, right-ended, second-ended, moves-marked, moves-name, moves-both, moves-image, moves-either, moves-star, moves-opt, moves-several, moves-chosen, moves-unless, tok-eats, ends-marked, ends-tok, ends-name, ends-both, ends-inside, ends-before, ends-after, ends-image, ends-choice, ends-opt}
+use Rattle.py_subset.proofs.Viable.{Moves, Has, Ended, Ends, has-tok, if_err, bind_err, left-ended, right-ended, second-ended, moves-marked, moves-name, moves-both, moves-image, moves-either, moves-star, moves-opt, moves-several, moves-chosen, moves-unless, tok-eats, ends-marked, ends-tok, ends-name, ends-both, ends-inside, ends-before, ends-after, ends-image, ends-choice, ends-opt}
 use Rattle.py_subset.proofs.ViableLists.{Eats, HasOther, ends-star, ends-several, ends-unless, ends-assigned}
 
 pub record Ready {A : Type 0} (n n' : ℕ) (p p' : Parser A) (L : Language A) : Type 0 where
@@ -35,18 +36,6 @@ ready-name = record { near = near-name; sound = sound-name; moves = moves-name; 
 
 pub ready-both : {A B C : Type 0} (f : A → B → C) {n n' : ℕ} {p p' : Parser A} {q q' : Parser B} {L : Language A} {M : Language B} → Ready n n' p p' L → Ready n n' q q' M → Has M → Ready n n' (read.both f p q) (read.both f p' q') (rule.both f L M)
 ready-both f a b h = record { near = near-both f a.near b.near; sound = sound-both f a.sound b.sound; moves = moves-both f a.moves b.moves; ends = ends-both f a.sound a.moves a.ends b.ends h }
-
-abbrev before : {A : Type 0} → Mark → Parser A → Parser A
-before mark p ts = read.tok mark ts >>= λ r. p r.1
-
-abbrev after : {A : Type 0} → Parser A → Mark → Parser A
-after p mark ts = p ts >>= λ r. read.tok mark r.1 >>= λ s. Ok (r.0, s.1)
-
-abbrev rule_before : {A : Type 0} → Mark → Language A → Language A
-rule_before mark L = rule.both (λ _ x. x) (rule.tok mark) L
-
-abbrev rule_after : {A : Type 0} → Mark → Language A → Language A
-rule_after mark L = rule.both (λ x _. x) L (rule.tok mark)
 
 pub ready-before : {A : Type 0} (mark : Mark) {n n' : ℕ} {p p' : Parser A} {L : Language A} → same m.End mark ≡ false → same mark mark ≡ true → Ready n n' p p' L → Has L → Ready n n' (before mark p) (before mark p') (rule_before mark L)
 ready-before mark no_end self a h = record {
@@ -111,13 +100,6 @@ ready-several test turns turns' {n} {n'} {p} {p'} {L} few few' a eats = record {
   ends = ends-several test n p L a.sound a.moves a.ends eats turns few;
 }
 
-abbrev assigned : {A B S : Type 0} → (B → A → S) → Parser A → Option B → Parser S
-assigned f p None us = Err us
-assigned f p (Some t) us = before m.Assign (read.image (f t) p) us
-
-abbrev then_assigned : {A B S : Type 0} → (A → Option B) → (B → A → S) → (A → S) → Parser A → A × List Token → Reply S
-then_assigned choose f g p r = cond (same (next r.1) m.Assign) (assigned f p (choose r.0) r.1) (Ok (g r.0, r.1))
-
 near-target : {A B S : Type 0} (f : B → A → S) {n n' : ℕ} {p p' : Parser A} → Near n n' p p' → (o : Option B) → Near n n' (assigned f p o) (assigned f p' o)
 near-target f {n} {n'} {p} {p'} a None = record { near = λ ts lt. (near-err {n = n} {n' = n'}).near ts lt }
 near-target f {n} {n'} {p} {p'} a (Some t) = record { near = λ ts lt. (near-before m.Assign (near-image (f t) a)).near ts lt }
@@ -137,9 +119,6 @@ tok_refused mark ts us h e = by (same (next ts) mark) h e where
   by : (b : Bool) → b ≡ true → cond b (reply (tt {0}, rest ts)) (Err ts) ≡ Err us → ⊥
   by true h e = cc
   by false h e = cc
-
-abbrev then_read : {A : Type 0} → Parser A → (Unit {0}) × List Token → Reply A
-then_read p r = p r.1
 
 pub ends-choice-inside : {A : Type 0} (mark : Mark) {n : ℕ} {p q : Parser A} {L M : Language A} → same m.End mark ≡ false → (0 < n → Ends n p L) → Ends (suc n) q M
     → Ends (suc n) (read.choice (λ other. same other mark) (before mark p) q) (rule.either (rule_before mark L) M)

@@ -6,65 +6,16 @@ use Rattle.py_subset.specs.declared.token.Mark.{Mark}
 use Rattle.py_subset.specs.declared.token.Mark.TheVariants as m
 use Rattle.py_subset.specs.declared.tree.Word.{Word}
 use Rattle.py_subset.specs.Marks.{same}
-use Rattle.py_subset.specs.Language.{Language, next, only}
+use Rattle.py_subset.specs.Language.{Language, next}
 use Rattle.py_subset.specs.Language as rule
 use Rattle.py_subset.specs.Chosen.{chosen}
 use Rattle.py_subset.specs.Parsers.{Parser, Reply, rest, told, ◌>>=◌}
 use Rattle.py_subset.specs.Parsers as read
+use Rattle.py_subset.proofs.Steps.{before, after, rule_before, rule_after, reply, made, somed, kept, joined, consed, flagged, then_read, then_kept, then_joined, then_star, then_further, assigned, then_assigned}
 use Rattle.py_subset.proofs.MarkNumbers.{same-is}
 
 pub record Sound {A : Type 0} (p : Parser A) (L : Language A) : Type 0 where
   pub holds : (ts : List Token) (x : A) (us : List Token) → p ts ≡ Ok (x, us) → L ts x us
-
-abbrev reply : {A : Type 0} → A × List Token → Reply A
-reply x = Ok x
-
--- a token before and after, as the readers and the rules have them
-abbrev read_before : {A : Type 0} → Mark → Parser A → Parser A
-read_before mark p ts = read.tok mark ts >>= λ r. p r.1
-
-abbrev read_after : {A : Type 0} → Mark → Parser A → Parser A
-read_after mark p ts = p ts >>= λ r. read.tok mark r.1 >>= λ s. Ok (r.0, s.1)
-
-abbrev rule_before : {A : Type 0} → Mark → Language A → Language A
-rule_before mark L = rule.both (λ _ x. x) (rule.tok mark) L
-
-abbrev rule_after : {A : Type 0} → Mark → Language A → Language A
-rule_after mark L = rule.both (λ x _. x) L (rule.tok mark)
-
--- what is done with a reply
-abbrev consed : {A : Type 0} → A → List A × List Token → Reply (List A)
-consed x s = Ok (x ∷ s.0, s.1)
-
-abbrev then_star : {A : Type 0} → (Mark → Bool) → Parser A → ℕ → A × List Token → Reply (List A)
-then_star first p n r = read.star first p n r.1 >>= consed r.0
-
-abbrev flagged : {A : Type 0} → A → (List A × Bool) × List Token → Reply (List A × Bool)
-flagged x s = Ok ((x ∷ s.0.0, s.0.1), s.1)
-
-abbrev then_further : {A : Type 0} → (Mark → Bool) → Parser A → ℕ → A × List Token → Reply (List A × Bool)
-then_further first p n r = read.further first p n r.1 >>= flagged r.0
-
-abbrev somed : {A : Type 0} → A × List Token → Reply (Option A)
-somed r = Ok (Some r.0, r.1)
-
-abbrev joined : {A B C : Type 0} → (A → B → C) → A → B × List Token → Reply C
-joined f x s = Ok (f x s.0, s.1)
-
-abbrev then_joined : {A B C : Type 0} → (A → B → C) → Parser B → A × List Token → Reply C
-then_joined f q r = q r.1 >>= joined f r.0
-
-abbrev kept : {A : Type 0} → A → (Unit {0}) × List Token → Reply A
-kept x s = Ok (x, s.1)
-
-abbrev then_kept : {A : Type 0} → Mark → A × List Token → Reply A
-then_kept mark r = read.tok mark r.1 >>= kept r.0
-
-abbrev made : {A B : Type 0} → (A → B) → A × List Token → Reply B
-made f r = Ok (f r.0, r.1)
-
-abbrev then_read : {A : Type 0} → Parser A → (Unit {0}) × List Token → Reply A
-then_read p r = p r.1
 
 bind_ok : {A B : Type 0} (r : Reply A) (f : A × List Token → Reply B) (y : B × List Token) → (r >>= f) ≡ Ok y → (x : A × List Token) × (r ≡ Ok x) × (f x ≡ Ok y)
 bind_ok (Ok x) f y e = (x, refl, e)
@@ -111,16 +62,16 @@ sound-both {A} {B} {C} f {p} {q} {L} {M} sp sq = record { holds = by } where
       let is = pair_ok (f a.0.0 b.0.0, b.0.1) (z, vs) b.2 in
       (a.0.0, b.0.0, a.0.1, sp.holds ts a.0.0 a.0.1 a.1, subst (λ (w : List Token). M a.0.1 b.0.0 w) is.1 (sq.holds a.0.1 b.0.0 b.0.1 b.1), sym is.0)
 
-pub sound-before : {A : Type 0} (mark : Mark) {p : Parser A} {L : Language A} → same m.End mark ≡ false → Sound p L → Sound (read_before mark p) (rule_before mark L)
+pub sound-before : {A : Type 0} (mark : Mark) {p : Parser A} {L : Language A} → same m.End mark ≡ false → Sound p L → Sound (before mark p) (rule_before mark L)
 sound-before {A} mark {p} {L} no_end sp = record { holds = by } where
-  by : (ts : List Token) (x : A) (us : List Token) → (read_before mark p) ts ≡ Ok (x, us) → (rule_before mark L) ts x us
+  by : (ts : List Token) (x : A) (us : List Token) → (before mark p) ts ≡ Ok (x, us) → (rule_before mark L) ts x us
   by ts x us e =
       let a = bind_ok (read.tok mark ts) (then_read p) (x, us) e in
       (tt, x, a.0.1, (sound-tok mark no_end).holds ts tt a.0.1 a.1, sp.holds a.0.1 x us a.2, refl)
 
-pub sound-after : {A : Type 0} (mark : Mark) {p : Parser A} {L : Language A} → same m.End mark ≡ false → Sound p L → Sound (read_after mark p) (rule_after mark L)
+pub sound-after : {A : Type 0} (mark : Mark) {p : Parser A} {L : Language A} → same m.End mark ≡ false → Sound p L → Sound (after p mark) (rule_after mark L)
 sound-after {A} mark {p} {L} no_end sp = record { holds = by } where
-  by : (ts : List Token) (z : A) (vs : List Token) → (read_after mark p) ts ≡ Ok (z, vs) → (rule_after mark L) ts z vs
+  by : (ts : List Token) (z : A) (vs : List Token) → (after p mark) ts ≡ Ok (z, vs) → (rule_after mark L) ts z vs
   by ts z vs e =
       let a = bind_ok (p ts) (then_kept mark) (z, vs) e in
       let b = bind_ok (read.tok mark a.0.1) (kept a.0.0) (z, vs) a.2 in
@@ -230,14 +181,6 @@ sound-unless {A} mark {p} {q} {L} {M} sp sq = record {
   holds = λ ts x us e.
       elim (if_ok {A = A} (same (next ts) mark) (p ts) (q ts) (x, us) e) [ inl h ↦ inl (sp.holds ts x us h.1) | inr h ↦ inr (h.0, sq.holds ts x us h.1) ];
 }
-
--- what is assigned to, where an `=` comes
-abbrev assigned : {A B S : Type 0} → (B → A → S) → Parser A → Option B → Parser S
-assigned f p None us = Err us
-assigned f p (Some t) us = read_before m.Assign (read.image (f t) p) us
-
-abbrev then_assigned : {A B S : Type 0} → (A → Option B) → (B → A → S) → (A → S) → Parser A → A × List Token → Reply S
-then_assigned choose f g p r = cond (same (next r.1) m.Assign) (assigned f p (choose r.0) r.1) (Ok (g r.0, r.1))
 
 assigned_ok : {A B S : Type 0} (choose : A → Option B) (f : B → A → S) (g : A → S) (p : Parser A) (L : Language A) → Sound p L
     → (ts mid : List Token) (x : A) (o : Option B) (z : S) (us : List Token) → choose x ≡ o → L ts x mid → assigned f p o mid ≡ Ok (z, us)

@@ -7,6 +7,7 @@ use Rattle.py_subset.specs.Marks.{same}
 use Rattle.py_subset.specs.Language.{next}
 use Rattle.py_subset.specs.Parsers.{Parser, Reply, star, further, several, both, rest, ◌>>=◌}
 use Rattle.py_subset.specs.Trees.{cons}
+use Rattle.py_subset.proofs.Steps.{flagged}
 use Rattle.py_subset.proofs.Prefix.{with_front, with_front_flag}
 
 with_front-more : {A : Type 0} (front : List A) (x : A) (r : Reply (List A)) → with_front (front ++ x ∷ []) r ≡ with_front front (r >>= λ s. Ok (x ∷ s.0, s.1))
@@ -46,9 +47,6 @@ star-begins first p n us x = ap (λ (m : ℕ). with_front (x ∷ []) (star first
 with_front_flag-more : {A B : Type 0} (front : List A) (x : A) (r : Reply (List A × B)) → with_front_flag (front ++ x ∷ []) r ≡ with_front_flag front (r >>= λ s. Ok ((x ∷ s.0.0, s.0.1), s.1))
 with_front_flag-more front x (Ok s) = ap (λ (xs : List _). Ok ((xs, s.0.1), s.1)) (append_assoc front (x ∷ []) s.0.0)
 with_front_flag-more front x (Err e) = refl
-
-abbrev flagged : {A : Type 0} → A → (List A × Bool) × List Token → Reply (List A × Bool)
-flagged x s = Ok ((x ∷ s.0.0, s.0.1), s.1)
 
 further-suc : {A : Type 0} (first : Mark → Bool) (p : Parser A) (m : ℕ) (ts us : List Token) (x : A) (b c : Bool) → b ≡ true → c ≡ true → p (rest ts) ≡ Ok (x, us)
     → (cond b (cond c (p (rest ts) >>= λ r. further first p m r.1 >>= flagged r.0) (Ok (([], true), rest ts))) (Ok (([], false), ts)))

@@ -13,6 +13,7 @@ use Rattle.py_subset.specs.Layout.{token}
 use Rattle.py_subset.specs.Chosen.{chosen}
 use Rattle.py_subset.specs.Parsers.{Parser, Reply, rest, told, ◌>>=◌}
 use Rattle.py_subset.specs.Parsers as read
+use Rattle.py_subset.proofs.Steps.{before, after, rule_before, rule_after, reply, somed, then_read, then_joined}
 use Rattle.py_subset.proofs.Sound.{Sound}
 
 -- The tokens before those that are left, and the same tree read from them before any others.
@@ -166,9 +167,6 @@ abbrev pub has-several : {A : Type 0} {L : Language A} → Has L → Has (rule.s
 has-several {A} {L} a = record { w = a.w; x = (a.x ∷ [], false); all = λ vs. (a.x, [], false, vs, a.all vs, refl, refl) }
 
 -- Ends.
-abbrev pub reply : {A : Type 0} → A × List Token → Reply A
-reply x = Ok x
-
 abbrev pub refused : {A : Type 0} → List Token → Reply A
 refused us = Err us
 
@@ -217,12 +215,6 @@ ends-name {n} = record { ends = λ ts us lt e. ended-here ts us has-name (by ts 
   by [] us e = cc
   by (t ∷ ts) us e = one (same t.mark m.Name) t ts us e
 
-abbrev joined : {A B C : Type 0} → (A → B → C) → A → B × List Token → Reply C
-joined f x s = Ok (f x s.0, s.1)
-
-abbrev then_joined : {A B C : Type 0} → (A → B → C) → Parser B → A × List Token → Reply C
-then_joined f q r = q r.1 >>= joined f r.0
-
 -- the first part is completed, and the second one follows
 pub first-ended : {A B C : Type 0} (f : A → B → C) {L : Language A} {M : Language B} (ts us : List Token) → Ended L ts us → Has M → Ended (rule.both f L M) ts us
 first-ended f {L} {M} ts us w h =
@@ -247,21 +239,6 @@ ends-both {A} {B} {C} f {n} {p} {q} {L} {M} sp ml a b h = record { ends = by } w
         let v = ml.moves ts r.0.0 r.0.1 (sp.holds ts r.0.0 r.0.1 r.1) in
         second-ended f ts r.0.1 us r.0.0 v (b.ends r.0.1 us (omega (arith, shorter ts v.b r.0.1 v.is)) (made_err (q r.0.1) (λ s. (f r.0.0 s.0, s.1)) us r.2))
   ]
-
-abbrev before : {A : Type 0} → Mark → Parser A → Parser A
-before mark p ts = read.tok mark ts >>= λ r. p r.1
-
-abbrev after : {A : Type 0} → Parser A → Mark → Parser A
-after p mark ts = p ts >>= λ r. read.tok mark r.1 >>= λ s. Ok (r.0, s.1)
-
-abbrev rule_before : {A : Type 0} → Mark → Language A → Language A
-rule_before mark L = rule.both (λ _ x. x) (rule.tok mark) L
-
-abbrev rule_after : {A : Type 0} → Mark → Language A → Language A
-rule_after mark L = rule.both (λ x _. x) L (rule.tok mark)
-
-abbrev then_read : {A : Type 0} → Parser A → (Unit {0}) × List Token → Reply A
-then_read p r = p r.1
 
 pub tok-eats : (mark : Mark) (ts : List Token) (x : Unit {0}) (us : List Token) → rule.tok mark ts x us → length us < length ts
 tok-eats mark [] x us w = absurd w
@@ -307,9 +284,6 @@ pub ends-choice : {A : Type 0} (test : Mark → Bool) {n : ℕ} {p q : Parser A}
 ends-choice test {n} {p} {q} {L} {M} a b = record {
   ends = λ ts us lt e. elim (if_err (test (next ts)) (p ts) (q ts) us e) [ inl h ↦ left-ended ts us (a.ends ts us lt h.1) | inr h ↦ right-ended ts us (b.ends ts us lt h.1) ];
 }
-
-abbrev somed : {A : Type 0} → A × List Token → Reply (Option A)
-somed r = Ok (Some r.0, r.1)
 
 pub ends-opt : {A : Type 0} (test : Mark → Bool) {n : ℕ} {p : Parser A} {L : Language A} → Ends n p L → Ends n (read.opt test p) (rule.opt L)
 ends-opt {A} test {n} {p} {L} a = record { ends = by } where

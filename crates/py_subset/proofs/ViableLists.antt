@@ -8,20 +8,15 @@ use Rattle.py_subset.specs.Marks.{same}
 use Rattle.py_subset.specs.Language.{Language, next, only}
 use Rattle.py_subset.specs.Language as rule
 use Rattle.py_subset.specs.Chosen.{chosen}
-use Rattle.py_subset.specs.Parsers.{Parser, Reply, rest, ◌>>=◌}
+use Rattle.py_subset.specs.Parsers.{Parser, rest, ◌>>=◌}
 use Rattle.py_subset.specs.Parsers as read
+use Rattle.py_subset.proofs.Steps.{rule_before, then_star, then_further, assigned, then_assigned}
 use Rattle.py_subset.proofs.Sound.{Sound, sound-tok}
 use Rattle.py_subset.proofs.Viable.{Moved, Moves, Has, Ended, Ends, joined-is, shorter, refused, bind_err, made_err, if_err, left-ended, right-ended, image-ended, ends-before, ends-image, has-tok, has-image}
 
 -- A rule that takes a token.
 abbrev pub Eats : {A : Type 0} → Language A → Type 0
 Eats {A} L = (ts : List Token) (x : A) (us : List Token) → L ts x us → length us < length ts
-
-abbrev consed : {A : Type 0} → A → List A × List Token → Reply (List A)
-consed x s = Ok (x ∷ s.0, s.1)
-
-abbrev then_star : {A : Type 0} → (Mark → Bool) → Parser A → ℕ → A × List Token → Reply (List A)
-then_star first p n r = read.star first p n r.1 >>= consed r.0
 
 star-one : {A : Type 0} {L : Language A} (ts us : List Token) → Ended L ts us → Ended (rule.star L) ts us
 star-one ts us w = record { b = w.b; more = w.more; x = w.x ∷ []; is = w.is; all = λ vs. (vs, w.all vs, refl) }
@@ -34,12 +29,6 @@ star-more {A} {L} ts mid us x v w = record {
   is = joined-is ts v.b mid w.b us v.is w.is;
   all = λ vs. (w.b ++ (w.more ++ vs), subst (λ (ks : List Token). L ks x (w.b ++ (w.more ++ vs))) (sym (append_assoc v.b w.b (w.more ++ vs))) (v.all (w.b ++ (w.more ++ vs))), w.all vs);
 }
-
-abbrev flagged : {A : Type 0} → A → (List A × Bool) × List Token → Reply (List A × Bool)
-flagged x s = Ok ((x ∷ s.0.0, s.0.1), s.1)
-
-abbrev then_further : {A : Type 0} → (Mark → Bool) → Parser A → ℕ → A × List Token → Reply (List A × Bool)
-then_further first p n r = read.further first p n r.1 >>= flagged r.0
 
 -- further ones behind commas that are completed
 record EndedFurther {A : Type 0} (L : Language A) (ts us : List Token) : Type 0 where
@@ -172,19 +161,6 @@ ends-unless mark {n} {p} {q} {L} {M} a b h = record {
 
 refused_is : {S : Type 0} (mid us : List Token) → refused {A = S} mid ≡ refused us → mid ≡ us
 refused_is mid us e = cc
-
-abbrev before : {A : Type 0} → Mark → Parser A → Parser A
-before mark p ts = read.tok mark ts >>= λ r. p r.1
-
-abbrev rule_before : {A : Type 0} → Mark → Language A → Language A
-rule_before mark L = rule.both (λ _ x. x) (rule.tok mark) L
-
-abbrev assigned : {A B S : Type 0} → (B → A → S) → Parser A → Option B → Parser S
-assigned f p None us = Err us
-assigned f p (Some t) us = before m.Assign (read.image (f t) p) us
-
-abbrev then_assigned : {A B S : Type 0} → (A → Option B) → (B → A → S) → (A → S) → Parser A → A × List Token → Reply S
-then_assigned choose f g p r = cond (same (next r.1) m.Assign) (assigned f p (choose r.0) r.1) (Ok (g r.0, r.1))
 
 module _ {A B S : Type 0} (choose : A → Option B) (f : B → A → S) (g : A → S) (n : ℕ) (p : Parser A) (L : Language A) (sp : Sound p L) (ml : Moves L) (a : Ends n p L) (h : Has L) where
   abbrev assigns : Language S
