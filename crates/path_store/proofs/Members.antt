@@ -4,19 +4,14 @@ use Rattle.std.specs.List.{AllByRecursion}
 use Rattle.std.specs.Str.{bytes_eq}
 use Rattle.std.proofs.Common.{ap, sym, ◌∙◌, subst, true≢false, arith}
 use Rattle.std.proofs.lemmas.Bool.Decides.{nat_tests}
-use Rattle.std.proofs.lemmas.Bool.{and_parts, and_from}
+use Rattle.std.proofs.lemmas.Bool.{and_from}
 use Rattle.std.proofs.lemmas.Option.{none-some, same_Some}
 use Rattle.std.proofs.lemmas.Slice.Eq.{bytes_eq-Decides}
 use Rattle.partial_path.specs.PathSets.{FileRules}
 use Rattle.path_store.specs.Documents.{Doc, same_doc}
 use Rattle.path_store.specs.Store.{StandsIn, IsEndOf, Kept, kept_of, find_doc, AreDistinct, cost_of, swept}
 use Rattle.path_store.proofs.Apart.{not_first, still_none, same_doc_flips}
-use Rattle.path_store.proofs.Filed.{doc_path}
-
-one_doc : (a b : Doc) → same_doc a b ≡ true → a ≡ b
-one_doc a b h =
-    let parts = and_parts (bytes_eq a.path b.path) (bytes_eq a.bytes b.bytes) h in
-    doc_path a b ((bytes_eq-Decides a.path b.path).0 parts.0) ((bytes_eq-Decides a.bytes b.bytes).0 parts.1)
+use Rattle.path_store.proofs.Same.{same_is}
 
 pub same_itself : (a : Doc) → same_doc a a ≡ true
 same_itself a = and_from (bytes_eq a.path a.path) (bytes_eq a.bytes a.bytes) ((bytes_eq-Decides a.path a.path).1 refl) ((bytes_eq-Decides a.bytes a.bytes).1 refl)
@@ -37,7 +32,7 @@ absent doc (k ∷ ks) h =
 
 pub not_found : (doc : Doc) (ks : List Kept) → AllByRecursion (λ k. k.doc ≢ doc) ks → find_doc doc ks ≡ None
 not_found doc [] h = refl
-not_found doc (k ∷ ks) h = still_none (same_doc k.doc doc) k.paths (find_doc doc ks) (apart k.doc doc h.0 (same_doc k.doc doc) (one_doc k.doc doc)) (not_found doc ks h.1)
+not_found doc (k ∷ ks) h = still_none (same_doc k.doc doc) k.paths (find_doc doc ks) (apart k.doc doc h.0 (same_doc k.doc doc) (same_is k.doc doc)) (not_found doc ks h.1)
 
 pair_path : (k : Kept) (doc : Doc) (paths : FileRules) → k.doc ≡ doc → k.paths ≡ paths → k ≡ kept_of doc paths
 pair_path k doc paths e f = λ i. record { doc = e i; paths = f i }
@@ -48,7 +43,7 @@ found_by doc paths k ks false is h later = let rest = later h in (k ∷ rest.0, 
 
 pub found : (doc : Doc) (paths : FileRules) (ks : List Kept) → find_doc doc ks ≡ Some paths → StandsIn doc paths ks
 found doc paths [] h = absurd (none-some paths h)
-found doc paths (k ∷ ks) h = found_by doc paths k ks (same_doc k.doc doc) (one_doc k.doc doc) h (found doc paths ks)
+found doc paths (k ∷ ks) h = found_by doc paths k ks (same_doc k.doc doc) (same_is k.doc doc) h (found doc paths ks)
 
 -- none of the pairs is found, so neither is one among them
 differs : (doc : Doc) (before : List Kept) (k : Kept) (after : List Kept) → find_doc doc (before ++ k ∷ after) ≡ None → same_doc k.doc doc ≡ false

@@ -5,10 +5,7 @@ use Rattle.std.proofs.Common.{◌≡◌}
 use Rattle.std.proofs.lemmas.Bool.{and_parts}
 use Rattle.std.proofs.lemmas.Slice.Eq.{bytes_eq-Decides}
 use Rattle.path_store.specs.Documents.{Doc, same_doc}
-
--- documents with one path and the same bytes are one
-doc_path : (a b : Doc) → a.path ≡ b.path → a.bytes ≡ b.bytes → a ≡ b
-doc_path a b e f = λ i. record { path = e i; bytes = f i }
+use Rattle.path_store.proofs.Filed.{doc_path}
 
 pub same_is : (a b : Doc) → same_doc a b ≡ true → a ≡ b
 same_is a b h =
