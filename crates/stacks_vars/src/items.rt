@@ -18,10 +18,7 @@ impl SymbolItem {
     pub fn copy(&self, alloc: Global) -> Result<SymbolItem, AllocError>
         ensures { IfOk result (λ copy. copy ≡ self.now) }
     {
-        let scopes = match &self.scopes {
-            Some(scopes) => Some(scopes.copy(alloc)?),
-            None => None,
-        };
+        let scopes = copy_scopes(alloc, &self.scopes)?;
         Ok(SymbolItem {
             symbol: self.symbol.copy()?,
             scopes,
@@ -37,11 +34,25 @@ impl SymbolItem {
     }
 }
 
-ghost use Rattle.std.specs.Prelude.{◌≡◌, ◌↔◌, IsTrue};
+ghost use Rattle.std.specs.Prelude.{◌≡◌, ◌↔◌, IfOk, IsTrue};
 ghost use Rattle.stacks_vars.specs.Same.{attached_eq};
 
+/// The scopes that are attached to a symbol once more, at the cost of their length; None where it is plain. The one error
+/// is want of memory.
+pub(crate) fn copy_scopes(
+    alloc: Global,
+    scopes: &Option<ScopeStack>,
+) -> Result<Option<ScopeStack>, AllocError>
+    ensures { IfOk result (λ copy. copy ≡ scopes.now) }
+{
+    match scopes {
+        Some(scopes) => Ok(Some(scopes.copy(alloc)?)),
+        None => Ok(None),
+    }
+}
+
 /// Whether both are plain, or both have the same scopes attached.
-fn same_scopes(left: &Option<ScopeStack>, right: &Option<ScopeStack>) -> bool
+pub(crate) fn same_scopes(left: &Option<ScopeStack>, right: &Option<ScopeStack>) -> bool
     ensures { result ≡ attached_eq left.now right.now }
 {
     match (left, right) {

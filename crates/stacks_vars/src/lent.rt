@@ -1,5 +1,5 @@
 //! Symbols on the stacks of a search, lent by the files whose paths make them.
-use crate::items::{SymbolItem, SymbolStack};
+use crate::items::{SymbolItem, SymbolStack, copy_scopes, same_scopes};
 use crate::scopes::ScopeStack;
 use crate::symbol::Symbol;
 use std::alloc::{AllocError, Global};
@@ -53,14 +53,8 @@ impl<'a> LentItem<'a> {
     pub fn copy(&self, alloc: Global) -> Result<LentItem<'a>, AllocError>
         ensures { IfOk result (λ copy. copy ≡ self.now) }
     {
-        let scopes = match &self.scopes {
-            Some(scopes) => Some(scopes.copy(alloc)?),
-            None => None,
-        };
-        Ok(LentItem {
-            symbol: self.symbol,
-            scopes,
-        })
+        let scopes = copy_scopes(alloc, &self.scopes)?;
+        Ok(LentItem::of(self.symbol, scopes))
     }
 
     /// Whether both have the same symbol, and both are plain or have the same scopes attached.
@@ -184,28 +178,13 @@ impl<'a> LentStack<'a> {
 }
 
 ghost use Rattle.std.specs.Prelude.{◌≡◌, ◌↔◌, IfOk, IsTrue};
-ghost use Rattle.stacks_vars.specs.Same.{attached_eq};
 
 /// The symbol lent, with a copy of its attached scopes; the one error is want of memory.
 fn lent<'a>(alloc: Global, item: &'a SymbolItem) -> Result<LentItem<'a>, AllocError>
     ensures { IfOk result (λ lent. lent ≡ item.now) }
 {
-    let scopes = match &item.scopes {
-        Some(scopes) => Some(scopes.copy(alloc)?),
-        None => None,
-    };
+    let scopes = copy_scopes(alloc, &item.scopes)?;
     Ok(LentItem::of(&item.symbol, scopes))
-}
-
-/// Whether both are plain, or both have the same scopes attached.
-fn same_scopes(left: &Option<ScopeStack>, right: &Option<ScopeStack>) -> bool
-    ensures { result ≡ attached_eq left.now right.now }
-{
-    match (left, right) {
-        (Some(left), Some(right)) => left.same(right),
-        (None, None) => true,
-        _ => false,
-    }
 }
 
 /// Whether both are the same symbols in the same order, begun at the last.
