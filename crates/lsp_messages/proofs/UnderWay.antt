@@ -78,53 +78,14 @@ not_three shut AtBroken e = omega (arith, e)
 not_three shut AtLarge e = omega (arith, e)
 not_three shut AtMost e = omega (arith, e)
 
--- A session ended, and these are all its messages.
-served_all : (IsTold : Told) (shut : Bool) (reason : Ending) (status : ℕ) (left left' held held' : Option (List ℕ)) (done : List (List ℕ)) (replies : List (Option Reply))
-    → HasAnswered IsTold shut left left' done replies → held' ≡ append_known held (replies_text replies)
-    → IfSome left (λ input. AreAll done input reason) → status ≡ status_at shut reason → Serves IsTold left left' held held' status
-served_all IsTold shut reason status left left' held held' done replies h holds all is = record {
-  answered = done;
-  replies = replies;
-  shut = shut;
-  told = h.told;
-  first = h.first;
-  taken = h.taken;
-  written = replies_text replies;
-  unwritten = [];
-  text = append-nil (replies_text replies);
-  holds = holds;
-  whole = λ _. refl;
-  all = λ _. IfSome_then left all (λ input a. a.all);
-  ends = λ _. IfSome_then left all (λ input a. is ∙ ap (status_at shut) (sym a.ends));
-  short = λ e. absurd (not_three shut reason (sym is ∙ e));
-}
-
--- It stopped before a message that it didn't answer.
-served_short : (IsTold : Told) (shut : Bool) (status : ℕ) (left left' held held' : Option (List ℕ)) (done : List (List ℕ)) (replies : List (Option Reply))
-    → HasAnswered IsTold shut left left' done replies → held' ≡ append_known held (replies_text replies)
-    → answers_all status ≡ false → (status ≡ 3 → AreAllTaken done left left') → Serves IsTold left left' held held' status
-served_short IsTold shut status left left' held held' done replies h holds not_all short = record {
-  answered = done;
-  replies = replies;
-  shut = shut;
-  told = h.told;
-  first = h.first;
-  taken = h.taken;
-  written = replies_text replies;
-  unwritten = [];
-  text = append-nil (replies_text replies);
-  holds = holds;
-  whole = λ _. refl;
-  all = λ e. absurd (true≢false (sym e ∙ not_all));
-  ends = λ e. absurd (true≢false (sym e ∙ not_all));
-  short = short;
-}
-
--- It stopped in the reply to its last message.
-served_part : (IsTold : Told) (shut : Bool) (status : ℕ) (left left' held held' : Option (List ℕ)) (done : List (List ℕ)) (replies : List (Option Reply)) (written unwritten : List ℕ)
+-- A session ended in which these messages were answered: of their replies' text this was written, and the status tells why
+-- no more messages were.
+served_with : (IsTold : Told) (shut : Bool) (status : ℕ) (left left' held held' : Option (List ℕ)) (done : List (List ℕ)) (replies : List (Option Reply)) (written unwritten : List ℕ)
     → HasAnswered IsTold shut left left' done replies → written ++ unwritten ≡ replies_text replies → held' ≡ append_known held written
-    → answers_all status ≡ false → writes_all status ≡ false → (status ≡ 3 → ⊥) → Serves IsTold left left' held held' status
-served_part IsTold shut status left left' held held' done replies written unwritten h text holds not_all not_whole no_three = record {
+    → (writes_all status ≡ true → written ≡ replies_text replies)
+    → (answers_all status ≡ true → IfSome left (λ input. (done ≡ to_answer max_messages input) × (status ≡ status_at shut (ending max_messages input))))
+    → (status ≡ 3 → AreAllTaken done left left') → Serves IsTold left left' held held' status
+served_with IsTold shut status left left' held held' done replies written unwritten h text holds whole all short = record {
   answered = done;
   replies = replies;
   shut = shut;
@@ -135,11 +96,37 @@ served_part IsTold shut status left left' held held' done replies written unwrit
   unwritten = unwritten;
   text = text;
   holds = holds;
-  whole = λ e. absurd (true≢false (sym e ∙ not_whole));
-  all = λ e. absurd (true≢false (sym e ∙ not_all));
-  ends = λ e. absurd (true≢false (sym e ∙ not_all));
-  short = λ e. absurd (no_three e);
+  whole = whole;
+  all = λ e. IfSome_then left (all e) (λ input a. a.0);
+  ends = λ e. IfSome_then left (all e) (λ input a. a.1);
+  short = short;
 }
+
+-- These are all its messages.
+served_all : (IsTold : Told) (shut : Bool) (reason : Ending) (status : ℕ) (left left' held held' : Option (List ℕ)) (done : List (List ℕ)) (replies : List (Option Reply))
+    → HasAnswered IsTold shut left left' done replies → held' ≡ append_known held (replies_text replies)
+    → IfSome left (λ input. AreAll done input reason) → status ≡ status_at shut reason → Serves IsTold left left' held held' status
+served_all IsTold shut reason status left left' held held' done replies h holds all is =
+    served_with IsTold shut status left left' held held' done replies (replies_text replies) [] h (append-nil (replies_text replies)) holds
+    (λ _. refl)
+    (λ _. IfSome_then left all (λ input a. (a.all, is ∙ ap (status_at shut) (sym a.ends))))
+    (λ e. absurd (not_three shut reason (sym is ∙ e)))
+
+-- It stopped before a message that it didn't answer.
+served_short : (IsTold : Told) (shut : Bool) (status : ℕ) (left left' held held' : Option (List ℕ)) (done : List (List ℕ)) (replies : List (Option Reply))
+    → HasAnswered IsTold shut left left' done replies → held' ≡ append_known held (replies_text replies)
+    → answers_all status ≡ false → (status ≡ 3 → AreAllTaken done left left') → Serves IsTold left left' held held' status
+served_short IsTold shut status left left' held held' done replies h holds not_all short =
+    served_with IsTold shut status left left' held held' done replies (replies_text replies) [] h (append-nil (replies_text replies)) holds
+    (λ _. refl) (λ e. absurd (true≢false (sym e ∙ not_all))) short
+
+-- It stopped in the reply to its last message.
+served_part : (IsTold : Told) (shut : Bool) (status : ℕ) (left left' held held' : Option (List ℕ)) (done : List (List ℕ)) (replies : List (Option Reply)) (written unwritten : List ℕ)
+    → HasAnswered IsTold shut left left' done replies → written ++ unwritten ≡ replies_text replies → held' ≡ append_known held written
+    → answers_all status ≡ false → writes_all status ≡ false → (status ≡ 3 → ⊥) → Serves IsTold left left' held held' status
+served_part IsTold shut status left left' held held' done replies written unwritten h text holds not_all not_whole no_three =
+    served_with IsTold shut status left left' held held' done replies written unwritten h text holds
+    (λ e. absurd (true≢false (sym e ∙ not_whole))) (λ e. absurd (true≢false (sym e ∙ not_all))) (λ e. absurd (no_three e))
 
 -- which messages and which ending stand behind those at the front of an input
 behind_all : (done : List (List ℕ)) (input rest : List ℕ) (n : ℕ) → AreFrames done input rest → HaveNoExit done → length done + n ≡ max_messages
