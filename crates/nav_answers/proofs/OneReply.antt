@@ -1,6 +1,5 @@
 -- Two replies to one query are equal.
 use Rattle.std.proofs.Common.{◌≡◌, refl, sym, ◌∙◌, ap, subst, List, [], ◌∷◌, map, Bool, true, false, Option, Some, None, IsSomeAnd, Result, Ok, Err, MatchResult, IsTrue, ◌↔◌, ◌⊎◌, inl, inr, arith}
-use Rattle.std.specs.List.{AllByRecursion}
 use Rattle.graph_nodes.specs.Graph.{is_reference_kind, is_definition_kind}
 use Rattle.stacks_vars.specs.declared.scopes.NodeAt.{NodeAt}
 use Rattle.partial_path.specs.declared.config.Config.{Config}
@@ -12,8 +11,8 @@ use Rattle.version_tree.specs.Graphs.{GraphRow}
 use Rattle.whole_search.specs.declared.found.Hit.{Hit}
 use Rattle.whole_search.specs.Answers.{ComesBefore, IsRising, AreRows, IsDefinitionFrom, IsReferenceOf, IsAnyCrowded, HasAnyLimit}
 use Rattle.back_stitch.specs.Lists.{usual}
-use Rattle.list_facts.specs.Members.{IsIn}
-use Rattle.list_facts.proofs.Members.{IsIn-from_Contains, Contains-from_IsIn, at_member}
+use Rattle.row_sets.proofs.Rising.{Rises, same_rising}
+use Rattle.list_facts.proofs.Members.{IsIn-from_Contains, Contains-from_IsIn}
 use Rattle.nav_answers.specs.declared.found.AskFault.{AskFault}
 use Rattle.nav_answers.specs.declared.found.AskFault.TheVariants.{NoReference, NoDefinition}
 use Rattle.nav_answers.specs.Replies.{graphs_in, meant, row_of, hit_of, IsAnswer, IsReplyAbout, IsDefinitionReply, IsReferenceReply, IsDefineReply, IsReferencesReply}
@@ -26,31 +25,14 @@ not_both a b (inl x) (inr y) = let e = y.0 in omega arith
 not_both a b (inr x) (inl y) = let e = x.0 in omega arith
 not_both a b (inr x) (inr y) = let e = x.1 in let f = y.1 in omega arith
 
-heads : (x y : Hit) (xs ys : List Hit) → AllByRecursion (ComesBefore x) xs → AllByRecursion (ComesBefore y) ys
-    → (x ≡ y) ⊎ IsIn x ys → (y ≡ x) ⊎ IsIn y xs → x ≡ y
-heads x y xs ys lx ly (inl e) m = e
-heads x y xs ys lx ly (inr h) (inl e) = sym e
-heads x y xs ys lx ly (inr h) (inr k) = absurd (not_both x y (at_member (ComesBefore x) y xs lx k) (at_member (ComesBefore y) x ys ly h))
-
-tail_in : (x y p : Hit) (xs ys : List Hit) → x ≡ y → AllByRecursion (ComesBefore x) xs → IsIn p xs → (p ≡ y) ⊎ IsIn p ys → IsIn p ys
-tail_in x y p xs ys same lx m (inl e) =
-    let after : ComesBefore x p = at_member (ComesBefore x) p xs lx m in
-    let itself : ComesBefore x x = subst (ComesBefore x) (e ∙ sym same) after in
-    absurd (not_both x x itself itself)
-tail_in x y p xs ys same lx m (inr h) = h
+rises : (hits : List Hit) → IsRising hits → Rises ComesBefore hits
+rises [] up = tt
+rises (hit ∷ hits) up = (up.0, rises hits up.1)
 
 -- rows that rise and have the same members are the same
-same_list : (xs ys : List Hit) → IsRising xs → IsRising ys → ((p : Hit) → IsIn p xs → IsIn p ys) → ((p : Hit) → IsIn p ys → IsIn p xs) → xs ≡ ys
-same_list [] [] rx ry to from = refl
-same_list [] (y ∷ ys) rx ry to from = absurd (from y (inl refl))
-same_list (x ∷ xs) [] rx ry to from = absurd (to x (inl refl))
-same_list (x ∷ xs) (y ∷ ys) rx ry to from =
-    let same : x ≡ y = heads x y xs ys rx.0 ry.0 (to x (inl refl)) (from y (inl refl)) in
-    (λ i. same i ∷ same_list xs ys rx.1 ry.1 (λ p m. tail_in x y p xs ys same rx.0 m (to p (inr m))) (λ p m. tail_in y x p ys xs (sym same) ry.0 m (from p (inr m))) i)
-
 same_rows : (P : Hit → Type 0) (xs ys : List Hit) → AreRows P xs → AreRows P ys → xs ≡ ys
 same_rows P xs ys a b =
-    same_list xs ys a.rising b.rising
+    same_rising ComesBefore not_both xs ys (rises xs a.rising) (rises ys b.rising)
     (λ p m. IsIn-from_Contains ys p ((b.exact p).1 ((a.exact p).0 (Contains-from_IsIn xs p m))))
     (λ p m. IsIn-from_Contains xs p ((a.exact p).1 ((b.exact p).0 (Contains-from_IsIn ys p m))))
 
