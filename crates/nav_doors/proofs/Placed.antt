@@ -123,34 +123,6 @@ seats_stay o count most doors doors' seats seats' status are s = record {
   names = λ n holder e. let r = opposite seats seats' n holder s.all_seats e in s.names n r.0 holder r.1 e ∙ are.names n r.0 r.1;
 }
 
--- the seats were brought together
-pub tied : {D S K : Type 0} (o : Outside D S K) (most : ℕ) (doors doors' : List D) (seats ended seats' : List Holder) (looped : ℕ)
-    → ServesDoors o (λ (h : Holder). h.seat) (λ (h : Holder). h.log) most doors doors' seats ended looped
-    → HaveLearnt ended seats' → IsLogOfAll ended (last_log seats') → ServesTied o most doors doors' seats seats' looped
-tied o most doors doors' seats ended seats' looped s learnt log = record {
-  ended = ended;
-  looped = looped;
-  served = s;
-  learnt = learnt;
-  no_memory = λ e. e;
-  same_status = λ ne. refl;
-  one_log = λ ne. log;
-}
-
--- they couldn't be
-pub not_tied : {D S K : Type 0} (o : Outside D S K) (most : ℕ) (doors doors' : List D) (seats ended seats' : List Holder) (looped : ℕ)
-    → ServesDoors o (λ (h : Holder). h.seat) (λ (h : Holder). h.log) most doors doors' seats ended looped
-    → HaveLearnt ended seats' → ServesTied o most doors doors' seats seats' 5
-not_tied o most doors doors' seats ended seats' looped s learnt = record {
-  ended = ended;
-  looped = looped;
-  served = s;
-  learnt = learnt;
-  no_memory = λ e. refl;
-  same_status = λ ne. absurd (ne refl);
-  one_log = λ ne. absurd (ne refl);
-}
-
 -- a door's loop on a desk that was made for it
 pub from_empty : {D S K : Type 0} (o : Outside D S K) (seat keeps most : ℕ) (door door' : D) (log log' : List Entry) (desk desk' : OnDesk) (status : ℕ)
     → desk ≡ record { store = []; user = None; view = None; keeps = keeps }

@@ -1,9 +1,9 @@
 //! All doors of a house, served on a board that is made for them.
-ghost use Rattle.std.specs.Prelude.{◌≡◌, ◌≤◌, vec_len};
+ghost use Rattle.std.specs.Prelude.{◌≡◌, ◌≤◌};
 ghost use Rattle.nav_io.specs.Told.{HasOut};
 ghost use Rattle.shared_board.specs.Seats.{AreNewcomers, max_seats};
 ghost use Rattle.nav_doors.specs.Connections.{outside};
-ghost use Rattle.nav_doors.specs.Houses.{house_with, ServesHouse, ServesOneBoard};
+ghost use Rattle.nav_doors.specs.Houses.{house_with, ServesHouse};
 
 use crate::door::{ACCEPT_FAILED, NO_MEMORY};
 use crate::doors::serve_doors;
@@ -43,35 +43,11 @@ where
         (house_with (H.gave house.new) (H.got_back house.new) (H.faults house.new)) result }
 {
     let board = SharedBoard::make(doors);
-    serve_on::<Brand, R, H>(rt, alloc, board, house, port, doors, connections)
+    serve_named::<Brand, R, H>(rt, alloc, board, house, port, doors, connections)
 }
 
-/// The same on this board. No type in the signature depends on its name, so a caller may pick that.
-fn serve_on<J: Naming + Send + Sync, R: Threads + Wait + Sync, H: House>(
-    rt: &R,
-    alloc: Global,
-    board: SharedBoard,
-    house: &mut H,
-    port: u16,
-    doors: u32,
-    connections: u32,
-) -> u8
-where
-    H::D: Send + Drop,
-    <H::D as Door>::S: Send,
-    <H::D as Door>::K: Send,
-    requires board { board ≡ J.board }
-    requires all { board.seats ≡ doors }
-    ensures served { ServesHouse
-        (outside H.D.gave H.D.got_back H.D.faults H.D.S.left H.D.S.faults H.D.K.held H.D.K.faults)
-        doors connections
-        (house_with (H.gave house.old) (H.got_back house.old) (H.faults house.old))
-        (house_with (H.gave house.new) (H.got_back house.new) (H.faults house.new)) result }
-{
-    serve_named::<J, R, H>(rt, alloc, board, house, port, doors, connections)
-}
-
-/// Makes the seats, and lets them go when the doors have been served.
+/// Makes the seats of this board, and lets them go when the doors have been served. No type in the signature depends on the
+/// board's name, so a caller may pick that.
 fn serve_named<J: Naming + Send + Sync, R: Threads + Wait + Sync, H: House>(
     rt: &R,
     alloc: Global,
@@ -101,7 +77,8 @@ where
     status
 }
 
-/// Asks the house for a door for each of the seats. They go back to it whatever came of them.
+/// Asks the house for a door for each of the seats. They go back to it whatever came of them. New seats stand in the order
+/// of their names, as `serve_doors` asks of them.
 fn serve_seats<'a, J: Naming + Send + Sync, R: Threads + Wait + Sync, H: House>(
     rt: &'a R,
     alloc: Global,
@@ -125,7 +102,7 @@ where
 {
     match house.doors(alloc, port, doors) {
         Ok(mut opened) => {
-            let status = serve_opened(rt, alloc, &mut opened, seats, connections);
+            let status = serve_doors(rt, alloc, &mut opened, seats, connections);
             house.close(opened);
             status
         }
@@ -142,25 +119,4 @@ fn status_of_fault(fault: HouseFault) -> u8
         HouseFault::Failed => ACCEPT_FAILED,
         HouseFault::NoMemory => NO_MEMORY,
     }
-}
-
-/// New seats stand in the order of their names, as `serve_doors` asks of them.
-fn serve_opened<'a, J: Naming + Send + Sync, R: Threads + Wait + Sync, D: Door + Send + Drop>(
-    rt: &'a R,
-    alloc: Global,
-    doors: &mut Vec<D>,
-    seats: &mut Vec<Seat<J, &'a R>>,
-    connections: u32,
-) -> u8
-where
-    D::S: Send,
-    D::K: Send,
-    requires seats { AreNewcomers J.board.seats seats.old.items }
-    requires doors { vec_len doors.old ≡ J.board.seats }
-    ensures served { ServesOneBoard
-        (outside D.gave D.got_back D.faults D.S.left D.S.faults D.K.held D.K.faults)
-        J.board.seats connections doors.old.items doors.new.items result }
-    ensures len { vec_len doors.new ≡ vec_len doors.old }
-{
-    serve_doors(rt, alloc, doors, seats, connections)
 }
