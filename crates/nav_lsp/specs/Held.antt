@@ -1,9 +1,10 @@
 -- What an editor's session holds in memory, and what is seen of it between two messages; no public clause but that of
 -- one message cites this.
-use Rattle.std.specs.Prelude.{◌≡◌, ℕ, Bool, List, [], ◌∷◌, take, None, Some, IfSome}
+use Rattle.std.specs.Prelude.{◌≡◌, ℕ, Bool, List, [], ◌∷◌, length, take, None, Some, IfSome, Result, IfOk, OnErr}
 use Rattle.version_tree.specs.declared.entry.Entry.{Entry}
 use Rattle.version_tree.specs.Contents.{replay, granted_rows}
-use Rattle.version_board.specs.Logs.{Begins}
+use Rattle.version_board.specs.declared.board.Pins as boards
+use Rattle.version_board.specs.Logs.{Begins, own}
 use Rattle.nav_proto.specs.declared.request.FileEdit.{FileEdit}
 use Rattle.nav_proto.specs.declared.request.Request.TheVariants.{Commit}
 use Rattle.nav_proto.specs.declared.reply.Reply.{Reply as Answer}
@@ -27,6 +28,17 @@ pub record IsReady (held : Editor) (log : List Entry) (pin : ℕ) : Type 0 where
 pub record GoesOn (name name' : ℕ) (log log' : List Entry) : Type 0 where
   pub seat : name' ≡ name
   pub begins : Begins log log'
+
+-- What comes of a message at a board, which tells its parts so: the session goes on. With a reply, what is told of it holds,
+-- by the seat and the log as it is then, and the next message can come. Where memory was wanting no entry of the seat came.
+pub record ComesOf {A E B : Type 0} (tells : boards.Ghosts B) (result : Result A E) (Told : ℕ → List Entry → Editing → A → Editing → Type 0)
+    (board board' : B) (held held' : Editor) : Type 0 where
+  pub goes_on : GoesOn (tells.seat board) (tells.seat board') (tells.log board) (tells.log board')
+  pub told : IfOk result (λ reply. Told (tells.seat board) (tells.log board')
+      (editing_at (length (tells.log board)) (tells.pin_at board) held) reply
+      (editing_at (length (tells.log board')) (tells.pin_at board') held'))
+  pub ready : IfOk result (λ _. IsReady held' (tells.log board') (tells.pin_at board'))
+  pub none : OnErr result (own (tells.seat board) (tells.log board') ≡ own (tells.seat board) (tells.log board))
 
 -- but for the view all is held that was
 pub record HoldsAll (old new : Editor) : Type 0 where

@@ -2,6 +2,7 @@
 -- this.
 use Rattle.std.specs.Prelude.{◌≡◌, ℕ, Bool, List, [], length, Option, Some, None, Result, Ok, Err, if◌then◌else◌}
 use Rattle.version_tree.specs.declared.entry.Entry.{Entry}
+use Rattle.version_board.specs.declared.board.Pins as boards
 use Rattle.version_board.specs.Logs.{own}
 use Rattle.nav_io.specs.Reading.{Reading}
 use Rattle.lsp_texts.specs.Texts.{AreSame, no_texts, texts_in}
@@ -43,6 +44,10 @@ pub record Spot : Type 0 where
 -- what is seen, of these parts
 abbrev pub spot : ℕ → List Entry → ℕ → Editor → Reading → Option (List ℕ) → Spot
 spot seat log pin editor reader left = record { seat = seat; log = log; pin = pin; editor = editor; reader = reader; left = left }
+
+-- the same at a board, which tells its parts so
+abbrev pub spot_at : {B : Type 0} → boards.Ghosts B → B → Editor → Reading → Option (List ℕ) → Spot
+spot_at tells board editor reader left = spot (tells.seat board) (tells.log board) (tells.pin_at board) editor reader left
 
 -- the session as a transcript sees it
 abbrev pub editing_of : Spot → Editing

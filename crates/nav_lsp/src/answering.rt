@@ -1,9 +1,8 @@
 //! One message of an editor answered.
-ghost use Rattle.std.specs.Prelude.{◌≡◌, ◌≤◌, length, IfOk, OnErr, None, Some};
-ghost use Rattle.version_board.specs.Logs.{own};
+ghost use Rattle.std.specs.Prelude.{◌≡◌, length, IfOk, None, Some};
 ghost use Rattle.lsp_wire.specs.declared.message.Id.{Id as Name};
 ghost use Rattle.lsp_wire.specs.Uris.{root_of};
-ghost use Rattle.nav_lsp.specs.Held.{GoesOn, IsReady, editing_at};
+ghost use Rattle.nav_lsp.specs.Held.{ComesOf, IsReady, editing_at};
 ghost use Rattle.nav_lsp.specs.Replies.{IsCarriedOut, IsMessage, IsNoted, IsNotified, IsReplied, IsRequested, refusal_of, refused, replied};
 
 use crate::committing::{change, close, put};
@@ -40,14 +39,9 @@ pub fn answer_message<R: Threads + Sync, B: Commits<R>, G: Gate + Sync, L: Ledge
     steps: &mut Steps<L>,
 ) -> Result<Option<Reply>, AllocError>
     requires ready { IsReady editor.old (B.log board.old) (B.pin_at board.old) }
-    ensures goes_on { GoesOn (B.seat board.old) (B.seat board.new) (B.log board.old)
-        (B.log board.new) }
-    ensures reply { IfOk result (λ reply. IsReplied (B.seat board.old) (B.log board.new)
-        (editing_at (length (B.log board.old)) (B.pin_at board.old) editor.old) body reply
-        (editing_at (length (B.log board.new)) (B.pin_at board.new) editor.new)) }
-    ensures ready { IfOk result (λ _. IsReady editor.new (B.log board.new) (B.pin_at board.new)) }
-    ensures none { OnErr result (own (B.seat board.old) (B.log board.new)
-        ≡ own (B.seat board.old) (B.log board.old)) }
+    ensures answers { ComesOf B.Pins result
+        (λ seat log before reply after. IsReplied seat log before body reply after)
+        board.old board.new editor.old editor.new }
 {
     match body {
         Body::NotJson => Ok(Some(refused(None, Refusal::ParseError))),
@@ -67,14 +61,9 @@ fn answer_asked<R: Threads + Sync, B: Commits<R>, G: Gate + Sync, L: Ledger>(
     steps: &mut Steps<L>,
 ) -> Result<Option<Reply>, AllocError>
     requires ready { IsReady editor.old (B.log board.old) (B.pin_at board.old) }
-    ensures goes_on { GoesOn (B.seat board.old) (B.seat board.new) (B.log board.old)
-        (B.log board.new) }
-    ensures reply { IfOk result (λ reply. IsMessage id (B.seat board.old) (B.log board.new)
-        (editing_at (length (B.log board.old)) (B.pin_at board.old) editor.old) asks reply
-        (editing_at (length (B.log board.new)) (B.pin_at board.new) editor.new)) }
-    ensures ready { IfOk result (λ _. IsReady editor.new (B.log board.new) (B.pin_at board.new)) }
-    ensures none { OnErr result (own (B.seat board.old) (B.log board.new)
-        ≡ own (B.seat board.old) (B.log board.old)) }
+    ensures answers { ComesOf B.Pins result
+        (λ seat log before reply after. IsMessage id seat log before asks reply after)
+        board.old board.new editor.old editor.new }
 {
     match id {
         Some(id) => Ok(Some(request(means, editor, board, id, asks)?)),
@@ -174,15 +163,9 @@ fn notification<R: Threads + Sync, B: Commits<R>, G: Gate + Sync, L: Ledger>(
     steps: &mut Steps<L>,
 ) -> Result<(), AllocError>
     requires ready { IsReady editor.old (B.log board.old) (B.pin_at board.old) }
-    ensures goes_on { GoesOn (B.seat board.old) (B.seat board.new) (B.log board.old)
-        (B.log board.new) }
-    ensures noted { IfOk result
-        (λ _. IsNotified editor.old.phase (B.seat board.old) (B.log board.new)
-        (editing_at (length (B.log board.old)) (B.pin_at board.old) editor.old) asks None
-        (editing_at (length (B.log board.new)) (B.pin_at board.new) editor.new)) }
-    ensures ready { IfOk result (λ _. IsReady editor.new (B.log board.new) (B.pin_at board.new)) }
-    ensures none { OnErr result (own (B.seat board.old) (B.log board.new)
-        ≡ own (B.seat board.old) (B.log board.old)) }
+    ensures notified { ComesOf B.Pins result
+        (λ seat log before _ after. IsNotified editor.old.phase seat log before asks None after)
+        board.old board.new editor.old editor.new }
 {
     match editor.phase {
         Phase::Open => noted(means, editor, board, asks, steps),
@@ -199,14 +182,9 @@ fn noted<R: Threads + Sync, B: Commits<R>, G: Gate + Sync, L: Ledger>(
     steps: &mut Steps<L>,
 ) -> Result<(), AllocError>
     requires ready { IsReady editor.old (B.log board.old) (B.pin_at board.old) }
-    ensures goes_on { GoesOn (B.seat board.old) (B.seat board.new) (B.log board.old)
-        (B.log board.new) }
-    ensures noted { IfOk result (λ _. IsNoted (B.seat board.old) (B.log board.new)
-        (editing_at (length (B.log board.old)) (B.pin_at board.old) editor.old) asks None
-        (editing_at (length (B.log board.new)) (B.pin_at board.new) editor.new)) }
-    ensures ready { IfOk result (λ _. IsReady editor.new (B.log board.new) (B.pin_at board.new)) }
-    ensures none { OnErr result (own (B.seat board.old) (B.log board.new)
-        ≡ own (B.seat board.old) (B.log board.old)) }
+    ensures noted { ComesOf B.Pins result
+        (λ seat log before _ after. IsNoted seat log before asks None after)
+        board.old board.new editor.old editor.new }
 {
     match asks {
         Asks::DidOpen { uri, text } => put(means, editor, board, uri.as_str(), text, steps),

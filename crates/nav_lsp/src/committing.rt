@@ -4,7 +4,7 @@ ghost use Rattle.path_store.specs.Store.{cost_of};
 ghost use Rattle.version_board.specs.Logs.{own};
 ghost use Rattle.nav_session.specs.Desks.{HasItsView, is_accepted};
 ghost use Rattle.lsp_texts.specs.Texts.{AreSame, has_room, texts_in, with_text};
-ghost use Rattle.nav_lsp.specs.Held.{CommitsOne, GoesOn, IsReady, editing_at};
+ghost use Rattle.nav_lsp.specs.Held.{ComesOf, CommitsOne, GoesOn, IsReady};
 ghost use Rattle.nav_lsp.specs.Editing.{operator};
 ghost use Rattle.nav_lsp.specs.Replies.{IsChanged, IsClosed, IsPut};
 
@@ -76,14 +76,9 @@ pub(crate) fn put<R: Threads + Sync, B: Commits<R>, G: Gate + Sync, L: Ledger>(
     steps: &mut Steps<L>,
 ) -> Result<(), AllocError>
     requires ready { IsReady editor.old (B.log board.old) (B.pin_at board.old) }
-    ensures goes_on { GoesOn (B.seat board.old) (B.seat board.new) (B.log board.old)
-        (B.log board.new) }
-    ensures put { IfOk result (λ _. IsPut (B.seat board.old) (B.log board.new)
-        (editing_at (length (B.log board.old)) (B.pin_at board.old) editor.old) uri.now text None
-        (editing_at (length (B.log board.new)) (B.pin_at board.new) editor.new)) }
-    ensures ready { IfOk result (λ _. IsReady editor.new (B.log board.new) (B.pin_at board.new)) }
-    ensures none { OnErr result (own (B.seat board.old) (B.log board.new)
-        ≡ own (B.seat board.old) (B.log board.old)) }
+    ensures put { ComesOf B.Pins result
+        (λ seat log before _ after. IsPut seat log before uri.now text None after)
+        board.old board.new editor.old editor.new }
 {
     let Some(path) = path_under(means.alloc, &editor.root, uri)? else {
         return Ok(());
@@ -121,14 +116,9 @@ pub(crate) fn change<R: Threads + Sync, B: Commits<R>, G: Gate + Sync, L: Ledger
     steps: &mut Steps<L>,
 ) -> Result<(), AllocError>
     requires ready { IsReady editor.old (B.log board.old) (B.pin_at board.old) }
-    ensures goes_on { GoesOn (B.seat board.old) (B.seat board.new) (B.log board.old)
-        (B.log board.new) }
-    ensures changed { IfOk result (λ _. IsChanged (B.seat board.old) (B.log board.new)
-        (editing_at (length (B.log board.old)) (B.pin_at board.old) editor.old) uri.now text None
-        (editing_at (length (B.log board.new)) (B.pin_at board.new) editor.new)) }
-    ensures ready { IfOk result (λ _. IsReady editor.new (B.log board.new) (B.pin_at board.new)) }
-    ensures none { OnErr result (own (B.seat board.old) (B.log board.new)
-        ≡ own (B.seat board.old) (B.log board.old)) }
+    ensures changed { ComesOf B.Pins result
+        (λ seat log before _ after. IsChanged seat log before uri.now text None after)
+        board.old board.new editor.old editor.new }
 {
     match text {
         Some(text) => put(means, editor, board, uri, text, steps),
@@ -146,14 +136,9 @@ pub(crate) fn close<R: Threads + Sync, B: Commits<R>, G: Gate + Sync, L: Ledger>
     steps: &mut Steps<L>,
 ) -> Result<(), AllocError>
     requires ready { IsReady editor.old (B.log board.old) (B.pin_at board.old) }
-    ensures goes_on { GoesOn (B.seat board.old) (B.seat board.new) (B.log board.old)
-        (B.log board.new) }
-    ensures closed { IfOk result (λ _. IsClosed (B.seat board.old) (B.log board.new)
-        (editing_at (length (B.log board.old)) (B.pin_at board.old) editor.old) uri.now None
-        (editing_at (length (B.log board.new)) (B.pin_at board.new) editor.new)) }
-    ensures ready { IfOk result (λ _. IsReady editor.new (B.log board.new) (B.pin_at board.new)) }
-    ensures none { OnErr result (own (B.seat board.old) (B.log board.new)
-        ≡ own (B.seat board.old) (B.log board.old)) }
+    ensures closed { ComesOf B.Pins result
+        (λ seat log before _ after. IsClosed seat log before uri.now None after)
+        board.old board.new editor.old editor.new }
 {
     let Some(path) = path_under(means.alloc, &editor.root, uri)? else {
         return Ok(());

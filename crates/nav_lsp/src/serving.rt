@@ -6,7 +6,7 @@ ghost use Rattle.lsp_messages.specs.Ends.{ends_session, ends_unhindered};
 ghost use Rattle.nav_lsp.specs.Editing.{is_shut};
 ghost use Rattle.nav_lsp.specs.Held.{IsReady};
 ghost use Rattle.nav_lsp.specs.Serving.{ServesEditor};
-ghost use Rattle.nav_lsp.specs.Turns.{BeginsToEdit, HasNoEntry, IsFresh, TakesTurn, end_before, spot, status_at_end, status_of_end};
+ghost use Rattle.nav_lsp.specs.Turns.{BeginsToEdit, HasNoEntry, IsFresh, TakesTurn, end_before, spot_at, status_at_end, status_of_end};
 
 use crate::answering::answer_message;
 use crate::editor::{Editor, OPERATOR};
@@ -183,12 +183,8 @@ fn answer_next<R: Threads + Sync, B: Commits<R>, S: Source, G: Gate + Sync, L: L
     steps: &mut Steps<L>,
 ) -> Result<Option<Step>, Halt>
     requires ready { IsReady editor.old (B.log board.old) (B.pin_at board.old) }
-    ensures turn { TakesTurn
-        (spot (B.seat board.old) (B.log board.old) (B.pin_at board.old) editor.old reader.old
-        (S.left source.old))
-        (spot (B.seat board.new) (B.log board.new) (B.pin_at board.new) editor.new reader.new
-        (S.left source.new))
-        result }
+    ensures turn { TakesTurn (spot_at B.Pins board.old editor.old reader.old (S.left source.old))
+        (spot_at B.Pins board.new editor.new reader.new (S.left source.new)) result }
     ensures count { S.faults source.old ≤ S.faults source.new }
     ensures cause { result ≡ Err halt.SourceFailed
         → HasRisen (S.faults source.old) (S.faults source.new) }

@@ -3,7 +3,7 @@ use Rattle.std.proofs.Common.{◌≡◌, ◌<◌, refl, ap, arith, Ok, Err}
 use Rattle.std.proofs.lemmas.Result.{err_from_is_err_and}
 use Rattle.lsp_messages.specs.Inputs.{max_messages}
 use Rattle.nav_lsp.specs.Editing.{is_shut}
-use Rattle.nav_lsp.specs.Turns.{spot}
+use Rattle.nav_lsp.specs.Turns.{spot_at}
 use Rattle.nav_lsp.proofs.Served.{serving_first, serves_nothing, no_entry, serves_to_end, serves_to_stop, serves_on, serves_to_exit, serves_to_write, serves_most, seat_still}
 use Rattle.nav_lsp.proofs.serving.serve_messages.Goals as goal
 
@@ -27,7 +27,7 @@ returns-in_err-name_operator-clause-seat g c = c.name_operator.ensures.stays.goe
 pub loop-init : goal.loop-init
 loop-init g c = record {
   serving = serving_first (g.B.Pins.seat c.args.board.now) (g.B.Pins.log c.args.board.now) (g.S.Source.left c.args.source.now) (g.K.Sink.held c.args.sink.now)
-      (spot (g.B.Pins.seat c.name_operator.new.board) (g.B.Pins.log c.name_operator.new.board) (g.B.Pins.pin_at c.name_operator.new.board) c.name_operator.new.editor c.in_ok-reader.reader (g.S.Source.left c.args.source.now))
+      (spot_at g.B.Pins c.name_operator.new.board c.name_operator.new.editor c.in_ok-reader.reader (g.S.Source.left c.args.source.now))
       c.name_operator.ensures.stays c.in_ok-name_operator.ensures.begins c.in_ok-reader.ensures.empty refl;
   source_count = omega arith;
   sink_count = omega arith;
@@ -42,8 +42,8 @@ returns-in_err-turn-clause-served g c =
     let within : c.loop.counter < max_messages = omega (arith, c.loop-test.true) in
     serves_to_stop c.from_residual-in_err-turn.result c.in_err-turn.field-0.0 (is_shut c.answer_next.new.editor.phase) c.loop.counter
     (g.B.Pins.seat c.args.board.now) (g.B.Pins.log c.args.board.now) (g.S.Source.left c.args.source.now) (g.K.Sink.held c.args.sink.now)
-    (spot (g.B.Pins.seat c.loop.board) (g.B.Pins.log c.loop.board) (g.B.Pins.pin_at c.loop.board) c.loop.editor c.loop.reader (g.S.Source.left c.loop.source))
-    (spot (g.B.Pins.seat c.answer_next.new.board) (g.B.Pins.log c.answer_next.new.board) (g.B.Pins.pin_at c.answer_next.new.board) c.answer_next.new.editor c.answer_next.new.reader (g.S.Source.left c.answer_next.new.source))
+    (spot_at g.B.Pins c.loop.board c.loop.editor c.loop.reader (g.S.Source.left c.loop.source))
+    (spot_at g.B.Pins c.answer_next.new.board c.answer_next.new.editor c.answer_next.new.reader (g.S.Source.left c.answer_next.new.source))
     (g.K.Sink.held c.loop.sink)
     (cc (p.1, p.2)) c.loop.invariant.serving within c.in_err-turn.ensures.turn
 
@@ -56,8 +56,8 @@ pub returns-in_default-clause-served : goal.returns-in_default-clause-served
 returns-in_default-clause-served g c =
     let within : c.loop.counter < max_messages = omega (arith, c.loop-test.true) in
     serves_to_end c.loop.counter (g.B.Pins.seat c.args.board.now) (g.B.Pins.log c.args.board.now) (g.S.Source.left c.args.source.now) (g.K.Sink.held c.args.sink.now)
-    (spot (g.B.Pins.seat c.loop.board) (g.B.Pins.log c.loop.board) (g.B.Pins.pin_at c.loop.board) c.loop.editor c.loop.reader (g.S.Source.left c.loop.source))
-    (spot (g.B.Pins.seat c.answer_next.new.board) (g.B.Pins.log c.answer_next.new.board) (g.B.Pins.pin_at c.answer_next.new.board) c.answer_next.new.editor c.answer_next.new.reader (g.S.Source.left c.answer_next.new.source))
+    (spot_at g.B.Pins c.loop.board c.loop.editor c.loop.reader (g.S.Source.left c.loop.source))
+    (spot_at g.B.Pins c.answer_next.new.board c.answer_next.new.editor c.answer_next.new.reader (g.S.Source.left c.answer_next.new.source))
     (g.K.Sink.held c.loop.sink)
     c.loop.invariant.serving within (rw c.in_default.is at c.in_ok-turn.ensures.turn)
 
@@ -74,8 +74,8 @@ returns-in_err-write_reply-clause-served g c =
     let w = c.in_err-write_reply.ensures in
     serves_to_write c.from_residual-in_err-write_reply.result c.in_err-write_reply.field-0.0 (is_shut c.answer_next.new.editor.phase) c.loop.counter
     (g.B.Pins.seat c.args.board.now) (g.B.Pins.log c.args.board.now) (g.S.Source.left c.args.source.now) (g.K.Sink.held c.args.sink.now)
-    (spot (g.B.Pins.seat c.loop.board) (g.B.Pins.log c.loop.board) (g.B.Pins.pin_at c.loop.board) c.loop.editor c.loop.reader (g.S.Source.left c.loop.source))
-    (spot (g.B.Pins.seat c.answer_next.new.board) (g.B.Pins.log c.answer_next.new.board) (g.B.Pins.pin_at c.answer_next.new.board) c.answer_next.new.editor c.answer_next.new.reader (g.S.Source.left c.answer_next.new.source))
+    (spot_at g.B.Pins c.loop.board c.loop.editor c.loop.reader (g.S.Source.left c.loop.source))
+    (spot_at g.B.Pins c.answer_next.new.board c.answer_next.new.editor c.answer_next.new.reader (g.S.Source.left c.answer_next.new.source))
     (g.K.Sink.held c.loop.sink) (g.K.Sink.held c.write_reply.new.sink) c.in-Some.step
     (cc (p.1, p.2)) c.loop.invariant.serving within (rw c.in-Some.is at c.in_ok-turn.ensures.turn)
     w.err (λ e. w.not_source (ap Err e)) (λ e. w.not_large (ap Err e)) (λ e. w.not_broken (ap Err e))
@@ -90,8 +90,8 @@ pub returns-then-exit-clause-served : goal.returns-then-exit-clause-served
 returns-then-exit-clause-served g c =
     let within : c.loop.counter < max_messages = omega (arith, c.loop-test.true) in
     serves_to_exit c.loop.counter (g.B.Pins.seat c.args.board.now) (g.B.Pins.log c.args.board.now) (g.S.Source.left c.args.source.now) (g.K.Sink.held c.args.sink.now)
-    (spot (g.B.Pins.seat c.loop.board) (g.B.Pins.log c.loop.board) (g.B.Pins.pin_at c.loop.board) c.loop.editor c.loop.reader (g.S.Source.left c.loop.source))
-    (spot (g.B.Pins.seat c.answer_next.new.board) (g.B.Pins.log c.answer_next.new.board) (g.B.Pins.pin_at c.answer_next.new.board) c.answer_next.new.editor c.answer_next.new.reader (g.S.Source.left c.answer_next.new.source))
+    (spot_at g.B.Pins c.loop.board c.loop.editor c.loop.reader (g.S.Source.left c.loop.source))
+    (spot_at g.B.Pins c.answer_next.new.board c.answer_next.new.editor c.answer_next.new.reader (g.S.Source.left c.answer_next.new.source))
     (g.K.Sink.held c.loop.sink) (g.K.Sink.held c.write_reply.new.sink) c.in-Some.step
     c.loop.invariant.serving within (rw c.in-Some.is at c.in_ok-turn.ensures.turn) c.if-exit.true c.in_ok-write_reply.ensures.ok
 
@@ -104,8 +104,8 @@ returns-then-exit-clause-seat g c =
 pub loop-preserved : goal.loop-preserved
 loop-preserved g c = record {
   serving = serves_on c.loop.counter (g.B.Pins.seat c.args.board.now) (g.B.Pins.log c.args.board.now) (g.S.Source.left c.args.source.now) (g.K.Sink.held c.args.sink.now)
-      (spot (g.B.Pins.seat c.loop.board) (g.B.Pins.log c.loop.board) (g.B.Pins.pin_at c.loop.board) c.loop.editor c.loop.reader (g.S.Source.left c.loop.source))
-      (spot (g.B.Pins.seat c.answer_next.new.board) (g.B.Pins.log c.answer_next.new.board) (g.B.Pins.pin_at c.answer_next.new.board) c.answer_next.new.editor c.answer_next.new.reader (g.S.Source.left c.answer_next.new.source))
+      (spot_at g.B.Pins c.loop.board c.loop.editor c.loop.reader (g.S.Source.left c.loop.source))
+      (spot_at g.B.Pins c.answer_next.new.board c.answer_next.new.editor c.answer_next.new.reader (g.S.Source.left c.answer_next.new.source))
       (g.K.Sink.held c.loop.sink) (g.K.Sink.held c.write_reply.new.sink) c.in-Some.step
       c.loop.invariant.serving (rw c.in-Some.is at c.in_ok-turn.ensures.turn) c.if-exit.false c.in_ok-write_reply.ensures.ok;
   source_count = omega (arith, c.loop.invariant.source_count, c.answer_next.ensures.count);
@@ -118,7 +118,7 @@ returns-in_err-more-clause-served g c =
     let full : c.loop.counter ≡ max_messages = omega (arith, c.loop-test.false, c.loop.auto.counter-end) in
     serves_most (Err c.in_err-more.field-0.0) c.from_residual-in_err-more.result (is_shut c.loop.editor.phase) c.loop.counter
     (g.B.Pins.seat c.args.board.now) (g.B.Pins.log c.args.board.now) (g.S.Source.left c.args.source.now) (g.K.Sink.held c.args.sink.now)
-    (spot (g.B.Pins.seat c.loop.board) (g.B.Pins.log c.loop.board) (g.B.Pins.pin_at c.loop.board) c.loop.editor c.loop.reader (g.S.Source.left c.loop.source))
+    (spot_at g.B.Pins c.loop.board c.loop.editor c.loop.reader (g.S.Source.left c.loop.source))
     c.look_on.new.reader (g.S.Source.left c.look_on.new.source) (g.K.Sink.held c.loop.sink)
     (cc (p.1, p.2)) full c.loop.invariant.serving c.in_err-more.ensures.looks
 
@@ -130,7 +130,7 @@ returns-clause-served g c =
     let full : c.loop.counter ≡ max_messages = omega (arith, c.loop-test.false, c.loop.auto.counter-end) in
     serves_most (Ok c.in_ok-more.more) _ (is_shut c.loop.editor.phase) c.loop.counter
     (g.B.Pins.seat c.args.board.now) (g.B.Pins.log c.args.board.now) (g.S.Source.left c.args.source.now) (g.K.Sink.held c.args.sink.now)
-    (spot (g.B.Pins.seat c.loop.board) (g.B.Pins.log c.loop.board) (g.B.Pins.pin_at c.loop.board) c.loop.editor c.loop.reader (g.S.Source.left c.loop.source))
+    (spot_at g.B.Pins c.loop.board c.loop.editor c.loop.reader (g.S.Source.left c.loop.source))
     c.look_on.new.reader (g.S.Source.left c.look_on.new.source) (g.K.Sink.held c.loop.sink)
     (ap Ok c.end_before.ensures) full c.loop.invariant.serving c.in_ok-more.ensures.looks
 
