@@ -71,69 +71,20 @@ pub record ServesThese (seat : ℕ) (log log' : List Entry) (left left' held hel
   pub lines : served.answered ≡ done
   pub told : served.replies ≡ replies
 
--- A session ended, and these are all its lines.
 not_three : (reason : Ending) → status_at reason ≡ 3 → ⊥
 not_three AtEnd e = omega (arith, e)
 not_three AtQuit e = omega (arith, e)
 not_three AtLongLine e = omega (arith, e)
 not_three AtMost e = omega (arith, e)
 
-served_all : (reason : Ending) (seat : ℕ) (log log' : List Entry) (left left' held held' : Option (List ℕ)) (done : List (List ℕ)) (replies : List Reply)
-    → HasAnswered seat log log' left left' done replies → held' ≡ append_known held (replies_text replies)
-    → IfSome left (λ input. AreAll done (lines input) reason) → ServesThese seat log log' left left' held held' (status_at reason) done replies
-served_all reason seat log log' left left' held held' done replies h holds all = record {
-  served = record {
-    begins = h.begins;
-    answered = done;
-    replies = replies;
-    transcript = h.transcript;
-    last = h.last;
-    first = h.first;
-    taken = h.taken;
-    written = replies_text replies;
-    unwritten = [];
-    text = append-nil (replies_text replies);
-    holds = holds;
-    whole = λ _. refl;
-    all = λ _. IfSome_then left all (λ input a. a.all);
-    ends = λ _. IfSome_then left all (λ input a. ap status_at (sym a.ends));
-    short = λ e. absurd (not_three reason e);
-  };
-  lines = refl;
-  told = refl;
-}
-
--- It stopped before a line that it didn't answer.
-pub served_short : (status seat : ℕ) (log log' : List Entry) (left left' held held' : Option (List ℕ)) (done : List (List ℕ)) (replies : List Reply)
-    → HasAnswered seat log log' left left' done replies → held' ≡ append_known held (replies_text replies)
-    → answers_all status ≡ false → (status ≡ 3 → AreAllTaken done left left') → ServesThese seat log log' left left' held held' status done replies
-served_short status seat log log' left left' held held' done replies h holds not_all short = record {
-  served = record {
-    begins = h.begins;
-    answered = done;
-    replies = replies;
-    transcript = h.transcript;
-    last = h.last;
-    first = h.first;
-    taken = h.taken;
-    written = replies_text replies;
-    unwritten = [];
-    text = append-nil (replies_text replies);
-    holds = holds;
-    whole = λ _. refl;
-    all = λ e. absurd (true≢false (sym e ∙ not_all));
-    ends = λ e. absurd (true≢false (sym e ∙ not_all));
-    short = short;
-  };
-  lines = refl;
-  told = refl;
-}
-
--- It stopped in the reply to its last line.
-pub served_part : (status seat : ℕ) (log log' : List Entry) (left left' held held' : Option (List ℕ)) (done : List (List ℕ)) (replies : List Reply) (written unwritten : List ℕ)
+-- A session ended in which these lines were answered: of their replies' text this was written, and the status tells why no
+-- more lines were.
+served_with : (status seat : ℕ) (log log' : List Entry) (left left' held held' : Option (List ℕ)) (done : List (List ℕ)) (replies : List Reply) (written unwritten : List ℕ)
     → HasAnswered seat log log' left left' done replies → written ++ unwritten ≡ replies_text replies → held' ≡ append_known held written
-    → answers_all status ≡ false → writes_all status ≡ false → (status ≡ 3 → ⊥) → ServesThese seat log log' left left' held held' status done replies
-served_part status seat log log' left left' held held' done replies written unwritten h text holds not_all not_whole no_three = record {
+    → (writes_all status ≡ true → written ≡ replies_text replies)
+    → (answers_all status ≡ true → IfSome left (λ input. (done ≡ to_answer max_lines (lines input)) × (status ≡ status_at (ending max_lines (lines input)))))
+    → (status ≡ 3 → AreAllTaken done left left') → ServesThese seat log log' left left' held held' status done replies
+served_with status seat log log' left left' held held' done replies written unwritten h text holds whole all short = record {
   served = record {
     begins = h.begins;
     answered = done;
@@ -146,14 +97,40 @@ served_part status seat log log' left left' held held' done replies written unwr
     unwritten = unwritten;
     text = text;
     holds = holds;
-    whole = λ e. absurd (true≢false (sym e ∙ not_whole));
-    all = λ e. absurd (true≢false (sym e ∙ not_all));
-    ends = λ e. absurd (true≢false (sym e ∙ not_all));
-    short = λ e. absurd (no_three e);
+    whole = whole;
+    all = λ e. IfSome_then left (all e) (λ input a. a.0);
+    ends = λ e. IfSome_then left (all e) (λ input a. a.1);
+    short = short;
   };
   lines = refl;
   told = refl;
 }
+
+-- These are all its lines.
+served_all : (reason : Ending) (seat : ℕ) (log log' : List Entry) (left left' held held' : Option (List ℕ)) (done : List (List ℕ)) (replies : List Reply)
+    → HasAnswered seat log log' left left' done replies → held' ≡ append_known held (replies_text replies)
+    → IfSome left (λ input. AreAll done (lines input) reason) → ServesThese seat log log' left left' held held' (status_at reason) done replies
+served_all reason seat log log' left left' held held' done replies h holds all =
+    served_with (status_at reason) seat log log' left left' held held' done replies (replies_text replies) [] h (append-nil (replies_text replies)) holds
+    (λ _. refl)
+    (λ _. IfSome_then left all (λ input a. (a.all, ap status_at (sym a.ends))))
+    (λ e. absurd (not_three reason e))
+
+-- It stopped before a line that it didn't answer.
+pub served_short : (status seat : ℕ) (log log' : List Entry) (left left' held held' : Option (List ℕ)) (done : List (List ℕ)) (replies : List Reply)
+    → HasAnswered seat log log' left left' done replies → held' ≡ append_known held (replies_text replies)
+    → answers_all status ≡ false → (status ≡ 3 → AreAllTaken done left left') → ServesThese seat log log' left left' held held' status done replies
+served_short status seat log log' left left' held held' done replies h holds not_all short =
+    served_with status seat log log' left left' held held' done replies (replies_text replies) [] h (append-nil (replies_text replies)) holds
+    (λ _. refl) (λ e. absurd (true≢false (sym e ∙ not_all))) short
+
+-- It stopped in the reply to its last line.
+pub served_part : (status seat : ℕ) (log log' : List Entry) (left left' held held' : Option (List ℕ)) (done : List (List ℕ)) (replies : List Reply) (written unwritten : List ℕ)
+    → HasAnswered seat log log' left left' done replies → written ++ unwritten ≡ replies_text replies → held' ≡ append_known held written
+    → answers_all status ≡ false → writes_all status ≡ false → (status ≡ 3 → ⊥) → ServesThese seat log log' left left' held held' status done replies
+served_part status seat log log' left left' held held' done replies written unwritten h text holds not_all not_whole no_three =
+    served_with status seat log log' left left' held held' done replies written unwritten h text holds
+    (λ e. absurd (true≢false (sym e ∙ not_whole))) (λ e. absurd (true≢false (sym e ∙ not_all))) (λ e. absurd (no_three e))
 
 -- the transcript over the log as it is now, and over a longer one without an entry more of the seat
 transcript_now : (seat begin : ℕ) (m : Moment) (done : List (List ℕ)) (replies : List Reply)
