@@ -15,7 +15,7 @@ ghost use Rattle.back_stitch.specs.Held.{IsHeld, IsOutcome};
 use crate::kept::{MAX_DEPTH, MAX_EDGES, is_kept};
 use crate::source::BackSource;
 use partial_path::{PartialPath, StoredPath, file_zero_moves};
-use path_join::join;
+use path_join::join_stored;
 use std::alloc::{AllocError, Global};
 
 /// What comes of a stored path that may end at a definition: the path moved to its file, where it stands for a back
@@ -66,8 +66,7 @@ pub fn join_left<P: BackSource>(
         return Ok(None);
     }
     file_zero_moves();
-    let moved = path.moved(alloc, file)?;
-    let Some(joined) = join(alloc, &moved, behind)? else {
+    let Some(joined) = join_stored(alloc, file, path, behind)? else {
         return Ok(None);
     };
     if is_kept(source, &joined) {

@@ -22,7 +22,7 @@ use Rattle.partial_path.specs.Same.{spot_eq}
 use Rattle.partial_path.specs.PathSets.{FileRules, walk_of_rule}
 use Rattle.partial_path.specs.Sources.{IsSourceFile, graphs_of, numbered}
 use Rattle.back_stitch.specs.Sources.{is_exported_spot, may_end, may_end_at, rules_to_in, rules_to_after, rules_to}
-use Rattle.end_index.specs.Ends.{is_root_end, is_stack_end, ends_by_stack}
+use Rattle.partial_path.specs.Ends.{is_root_end, is_stack_end, ends_by_stack}
 use Rattle.end_index.specs.Looks.{ends_there, ends_inside}
 
 -- a stored path with its file's number

@@ -1,11 +1,12 @@
 -- What a look-up by where paths end gives: paths that may end there, of those that may make what is asked for all, and
 -- each once.
-use Rattle.std.proofs.Common.{◌≡◌, refl, sym, ◌∙◌, ap, subst, ℕ, ◌+◌, List, [], ◌∷◌, ◌++◌, map, filter, Bool, true, false, Option, Some, None, arith, ◌⊎◌, inl, inr, slice_get, All, IsSome, append-nil}
+use Rattle.std.proofs.Common.{◌≡◌, refl, sym, ◌∙◌, ap, subst, ℕ, ◌+◌, List, [], ◌∷◌, ◌++◌, map, filter, Bool, true, false, Option, Some, None, arith, ◌⊎◌, inl, inr, slice_get, All, IsSome, append-nil, take, length, ◌<◌}
 use Rattle.std.specs.Prelude.{◌&&◌, ◌||◌}
 use Rattle.std.specs.List.{flat_map}
 use Rattle.std.specs.List.Sorted.{IsPermutation}
 use Rattle.std.specs.Option.{option_map_or, option_and_then}
 use Rattle.std.proofs.lemmas.Bool.{false≢true, and_parts, and_from, or_cases, or_left, or_right}
+use Rattle.std.proofs.lemmas.List.{length-map, length-take}
 use Rattle.std.proofs.lemmas.Option.{same_Some}
 use Rattle.list_facts.specs.Members.{IsIn}
 use Rattle.list_facts.specs.Apart.{IsApart}
@@ -15,17 +16,18 @@ use Rattle.stacks_vars.specs.declared.scopes.NodeAt.{NodeAt}
 use Rattle.stacks_vars.specs.declared.patterns.SymPat.{SymPat}
 use Rattle.partial_path.specs.declared.config.Spot.TheVariants as spot
 use Rattle.partial_path.specs.Rules.{Rule}
-use Rattle.partial_path.specs.Keys.{asked_texts}
+use Rattle.partial_path.specs.Keys.{asked_texts, key_size}
 use Rattle.partial_path.specs.PathSets.{FileRules, IsLandingRule}
 use Rattle.partial_path.specs.Sources.{IsSourceFile, graphs_of, numbered}
 use Rattle.back_stitch.specs.Sources.{is_exported_spot, rules_to, agrees, AreEnds}
 use Rattle.end_index.specs.declared.place.EndPlace.{EndPlace}
 use Rattle.end_index.specs.declared.runs.EndRuns.{EndRuns}
-use Rattle.end_index.specs.Runs.{runs, runs_left}
-use Rattle.end_index.specs.Ends.{ends_at_root, ends_by_stack, end_place, ends_after, AreEndsOf}
+use Rattle.end_index.specs.Runs.{runs, shares_left}
+use Rattle.partial_path.specs.Ends.{end_mark, ends_at_root, ends_by_stack}
+use Rattle.end_index.specs.Ends.{all_of, end_place, ends_after, AreEndsOf}
 use Rattle.end_index.specs.Looks.{ends_inside, inside_in, inside_left, rule_in, rules_of, AreThere, outside_left}
 use Rattle.end_index.proofs.Places.{place_of, at_place, one_place, kept_from, kept_into, kept_apart}
-use Rattle.end_index.proofs.Marked.{runs_among, runs_apart, runs_hold}
+use Rattle.end_index.proofs.Marked.{all_among, all_apart, all_hold}
 use Rattle.end_index.proofs.Ending.{P, IsEndingIn, ending_from, ending_into, may_is, root_moved, stack_not_there, in_file, source_at, rules_apart, same_rule}
 
 -- the paths of an index
@@ -37,7 +39,10 @@ pub record IsPassing (passes : Rule → Bool) (files : List FileRules) (p : P) :
   pub stored : IsIn p.1 file.rules
   pub passing : passes p.1 ≡ true
 
-module _ (files : List FileRules) (passes : Rule → Bool) (places : List EndPlace) (same : IsPermutation (ends_after passes 0 files) places) where
+module _ (files : List FileRules) (passes : Rule → Bool) (shares : List (List EndPlace)) (same : IsPermutation (ends_after passes 0 files) (all_of shares)) where
+  abbrev places : List EndPlace
+  places = all_of shares
+
   -- where an index's path stands
   pub record IsPlaced (e : EndPlace) : Type 0 where
     pub file : FileRules
@@ -45,22 +50,21 @@ module _ (files : List FileRules) (passes : Rule → Bool) (places : List EndPla
     pub found : slice_get files e.file ≡ Some file
     pub there : slice_get file.rules e.place ≡ Some rule
     pub passing : passes rule ≡ true
-    pub is : e ≡ end_place e.file e.place rule
+    pub is : e ≡ end_place e.file (end_mark e.place rule)
 
   placed : (e : EndPlace) → IsIn e places → IsPlaced e
   placed e h =
       let o = kept_from passes files places same e h in
       let file_is : o.i ≡ e.file = (let n : 0 + o.i ≡ o.i = omega arith in sym (ap (λ (p : EndPlace). p.file) o.here.is ∙ n)) in
-      let place_is : o.here.k ≡ e.place = (let n : 0 + o.here.k ≡ o.here.k = omega arith in sym (ap (λ (p : EndPlace). p.place) o.here.is ∙ n)) in
+      let place_is : o.here.k ≡ e.place = sym (ap (λ (p : EndPlace). p.place) o.here.is) in
       let file_whole : 0 + o.i ≡ e.file = sym (ap (λ (p : EndPlace). p.file) o.here.is) in
-      let place_whole : 0 + o.here.k ≡ e.place = sym (ap (λ (p : EndPlace). p.place) o.here.is) in
       record {
         file = o.file;
         rule = o.here.rule;
         found = ap (slice_get files) (sym file_is) ∙ o.found;
         there = ap (slice_get o.file.rules) (sym place_is) ∙ o.here.there;
         passing = o.here.passing;
-        is = o.here.is ∙ (λ j. end_place (file_whole j) (place_whole j) o.here.rule);
+        is = o.here.is ∙ (λ j. end_place (file_whole j) (end_mark (place_is j) o.here.rule));
       }
 
   rule_there : (e : EndPlace) (r : IsPlaced e) → rule_in files e ≡ Some r.rule
@@ -72,10 +76,13 @@ module _ (files : List FileRules) (passes : Rule → Bool) (places : List EndPla
   pub are_there : AreThere files places
   are_there e h = let r = placed e h in subst (λ (o : Option Rule). IsSome o) (sym (rule_there e r)) refl
 
+  few_texts : (symbols : List SymPat) → length (asked_texts (take key_size symbols)) < 8
+  few_texts symbols = omega (arith, length-map (take key_size symbols) (λ (pat : SymPat). pat.symbol), length-take key_size symbols)
+
   -- what the runs of texts give
   module _ (symbols : List SymPat) where
     abbrev Asked : List EndPlace
-    Asked = runs (asked_texts symbols) places
+    Asked = flat_map (runs (asked_texts (take key_size symbols))) shares
 
     abbrev Given : List P
     Given = flat_map (rules_of files) Asked
@@ -90,7 +97,7 @@ module _ (files : List FileRules) (passes : Rule → Bool) (places : List EndPla
     pub given_from : (p : P) → IsIn p Given → IsPassing passes files p
     given_from p h =
         let (e, among, g) = IsIn-flat_map_from (rules_of files) p Asked h in
-        let r = placed e (runs_among (asked_texts symbols) e places among) in
+        let r = placed e (all_among (asked_texts (take key_size symbols)) e shares among) in
         let is = given_of e p r g in
         let number : p.0 ≡ e.file = ap (λ (q : P). q.0) is in
         let rule : p.1 ≡ r.rule = ap (λ (q : P). q.1) is in
@@ -104,9 +111,9 @@ module _ (files : List FileRules) (passes : Rule → Bool) (places : List EndPla
     pub given_into : (p : P) → IsPassing passes files p → agrees symbols p.1.post.symbols ≡ true → IsIn p Given
     given_into p g agreed =
         let (k, there) = place_of p.1 g.file.rules g.stored in
-        let among : IsIn (end_place p.0 k p.1) places = kept_into passes files places same p.0 g.file k p.1 g.found there g.passing in
-        let rule : rule_in files (end_place p.0 k p.1) ≡ Some p.1 = ap (option_and_then (λ (f : FileRules). slice_get f.rules k)) g.found ∙ there in
-        IsIn-flat_map (rules_of files) (end_place p.0 k p.1) p Asked (runs_hold symbols p.1.post.symbols (end_place p.0 k p.1) places agreed among refl refl)
+        let among : IsIn (end_place p.0 (end_mark k p.1)) places = kept_into passes files places same p.0 g.file k p.1 g.found there g.passing in
+        let rule : rule_in files (end_place p.0 (end_mark k p.1)) ≡ Some p.1 = ap (option_and_then (λ (f : FileRules). slice_get f.rules k)) g.found ∙ there in
+        IsIn-flat_map (rules_of files) (end_place p.0 (end_mark k p.1)) p Asked (all_hold symbols p.1.post.symbols (end_place p.0 (end_mark k p.1)) shares agreed among refl)
         (subst (IsIn p) (sym (ap (λ (o : Option Rule). option_map_or (λ (r : Rule). numbered p.0 r ∷ []) o []) rule)) (inl refl))
 
     one_given : (n : ℕ) (o : Option Rule) → IsApart (option_map_or (λ (r : Rule). numbered n r ∷ []) o [])
@@ -115,20 +122,20 @@ module _ (files : List FileRules) (passes : Rule → Bool) (places : List EndPla
 
     pub given_apart : All IsSourceFile files → IsApart Given
     given_apart sources =
-        IsApart-flat_map (rules_of files) Asked (runs_apart (asked_texts symbols) places (kept_apart passes files places same))
+        IsApart-flat_map (rules_of files) Asked (all_apart (asked_texts (take key_size symbols)) shares (few_texts symbols) (kept_apart passes files places same))
         (λ e h. one_given e.file (rule_in files e)) share
       where
         share : (a b : EndPlace) (p : P) → IsIn a Asked → IsIn b Asked → IsIn p (rules_of files a) → IsIn p (rules_of files b) → a ≡ b
         share a b p in_a in_b by_a by_b =
-            let r = placed a (runs_among (asked_texts symbols) a places in_a) in
-            let s = placed b (runs_among (asked_texts symbols) b places in_b) in
+            let r = placed a (all_among (asked_texts (take key_size symbols)) a shares in_a) in
+            let s = placed b (all_among (asked_texts (take key_size symbols)) b shares in_b) in
             let both : numbered a.file r.rule ≡ numbered b.file s.rule = sym (given_of a p r by_a) ∙ given_of b p s by_b in
             let number : a.file ≡ b.file = ap (λ (q : P). q.0) both in
             let rule : r.rule ≡ s.rule = ap (λ (q : P). q.1) both in
             let file : s.file ≡ r.file = same_Some s.file r.file (sym s.found ∙ ap (slice_get files) (sym number) ∙ r.found) in
             let there : slice_get r.file.rules b.place ≡ Some r.rule = ap (λ (f : FileRules). slice_get f.rules b.place) (sym file) ∙ s.there ∙ ap Some (sym rule) in
             let place : a.place ≡ b.place = one_place r.rule r.file.rules a.place b.place (rules_apart r.file (source_at files a.file r.file sources r.found)) r.there there in
-            r.is ∙ (λ j. end_place (number j) (place j) (rule j)) ∙ sym s.is
+            r.is ∙ (λ j. end_place (number j) (end_mark (place j) (rule j))) ∙ sym s.is
 
 -- the paths that end at a node whatever the stack
 
@@ -184,14 +191,14 @@ module _ (files : List FileRules) (node : NodeAt) where
 
 module _ (files : List FileRules) (sources : All IsSourceFile files) (symbols : List SymPat) where
   -- a look-up in an index stands before all its runs
-  abbrev pub IsBefore : EndRuns → List EndPlace → Type 0
-  IsBefore at places = runs_left (asked_texts symbols) at places ≡ runs (asked_texts symbols) places
+  abbrev pub IsBefore : EndRuns → List (List EndPlace) → Type 0
+  IsBefore at shares = shares_left (asked_texts (take key_size symbols)) at shares ≡ flat_map (runs (asked_texts (take key_size symbols))) shares
 
-  pub given_at_root : (places : List EndPlace) (at : EndRuns) → AreEndsOf ends_at_root files places → IsBefore at places
-      → AreEnds files spot.Root symbols (outside_left files (asked_texts symbols) places at)
-  given_at_root places at of before = subst (λ (ps : List EndPlace). AreEnds files spot.Root symbols (flat_map (rules_of files) ps)) (sym before) (record {
+  pub given_at_root : (shares : List (List EndPlace)) (at : EndRuns) → AreEndsOf ends_at_root files shares → IsBefore at shares
+      → AreEnds files spot.Root symbols (outside_left files (asked_texts (take key_size symbols)) shares at)
+  given_at_root shares at of before = subst (λ (ps : List EndPlace). AreEnds files spot.Root symbols (flat_map (rules_of files) ps)) (sym before) (record {
     sound = λ p h.
-        let g = given_from files ends_at_root places of.all symbols p h in
+        let g = given_from files ends_at_root shares of.all symbols p h in
         ending_into files spot.Root p (record {
           file = g.file;
           found = g.found;
@@ -201,7 +208,7 @@ module _ (files : List FileRules) (sources : All IsSourceFile files) (symbols : 
         });
     complete = λ p h e.
         let g = ending_from files spot.Root p h in
-        given_into files ends_at_root places of.all symbols p
+        given_into files ends_at_root shares of.all symbols p
         (record {
           file = g.file;
           found = g.found;
@@ -210,7 +217,7 @@ module _ (files : List FileRules) (sources : All IsSourceFile files) (symbols : 
               ∙ whatever (ends_inside spot.Root p.0 p.1) (ends_by_stack p.1) (sym (may_is (graphs_of files) spot.Root p.0 p.1) ∙ g.ends);
         })
         e;
-    apart = λ h. given_apart files ends_at_root places of.all symbols sources;
+    apart = λ h. given_apart files ends_at_root shares of.all symbols sources;
   })
     where
       whatever : (a b : Bool) → a || (b && false) ≡ true → a ≡ true
@@ -250,27 +257,27 @@ module _ (files : List FileRules) (sources : All IsSourceFile files) (symbols : 
         whatever false true d none e = absurd (false≢true (sym none ∙ e))
         whatever false false d none e = absurd (false≢true e)
 
-    pub given_at_exported : (places : List EndPlace) (at : EndRuns) → AreEndsOf ends_by_stack files places → IsBefore at places
+    pub given_at_exported : (shares : List (List EndPlace)) (at : EndRuns) → AreEndsOf ends_by_stack files shares → IsBefore at shares
         → is_exported_spot (graphs_of files) (spot.At node) ≡ true
-        → AreEnds files (spot.At node) symbols (inside_left files node 0 ++ outside_left files (asked_texts symbols) places at)
-    given_at_exported places at of before exported = subst (λ (ps : List EndPlace). AreEnds files (spot.At node) symbols (inside_left files node 0 ++ flat_map (rules_of files) ps)) (sym before) (record {
-      sound = λ p h. sound p (IsIn-append_cases p (inside_left files node 0) (Given files ends_by_stack places of.all symbols) h);
+        → AreEnds files (spot.At node) symbols (inside_left files node 0 ++ outside_left files (asked_texts (take key_size symbols)) shares at)
+    given_at_exported shares at of before exported = subst (λ (ps : List EndPlace). AreEnds files (spot.At node) symbols (inside_left files node 0 ++ flat_map (rules_of files) ps)) (sym before) (record {
+      sound = λ p h. sound p (IsIn-append_cases p (inside_left files node 0) (Given files ends_by_stack shares of.all symbols) h);
       complete = λ p h e.
           let g = ending_from files (spot.At node) p h in
           complete p g e (or_cases (ends_inside (spot.At node) p.0 p.1) (ends_by_stack p.1 && is_exported_spot (graphs_of files) (spot.At node)) (sym (may_is (graphs_of files) (spot.At node) p.0 p.1) ∙ g.ends));
       apart = λ h.
-          IsApart-append (inside_left files node 0) (Given files ends_by_stack places of.all symbols) (inside_apart files node sources)
-          (given_apart files ends_by_stack places of.all symbols sources)
+          IsApart-append (inside_left files node 0) (Given files ends_by_stack shares of.all symbols) (inside_apart files node sources)
+          (given_apart files ends_by_stack shares of.all symbols sources)
           (λ p here there.
           let a = inside_from files node p here in
-          let b = given_from files ends_by_stack places of.all symbols p there in
+          let b = given_from files ends_by_stack shares of.all symbols p there in
           false≢true (sym (stack_not_there (spot.At node) p.0 p.1 b.passing) ∙ a.ends));
     })
       where
-        sound : (p : P) → IsIn p (inside_left files node 0) ⊎ IsIn p (Given files ends_by_stack places of.all symbols) → IsIn p (rules_to files (spot.At node))
+        sound : (p : P) → IsIn p (inside_left files node 0) ⊎ IsIn p (Given files ends_by_stack shares of.all symbols) → IsIn p (rules_to files (spot.At node))
         sound p (inl h) = inside_sound p h
         sound p (inr h) =
-            let g = given_from files ends_by_stack places of.all symbols p h in
+            let g = given_from files ends_by_stack shares of.all symbols p h in
             ending_into files (spot.At node) p (record {
               file = g.file;
               found = g.found;
@@ -282,9 +289,9 @@ module _ (files : List FileRules) (sources : All IsSourceFile files) (symbols : 
 
         complete : (p : P) (g : IsEndingIn (graphs_of files) (spot.At node) p.0 files p) → agrees symbols p.1.post.symbols ≡ true
             → (ends_inside (spot.At node) p.0 p.1 ≡ true) ⊎ ((ends_by_stack p.1 && is_exported_spot (graphs_of files) (spot.At node)) ≡ true)
-            → IsIn p (inside_left files node 0 ++ Given files ends_by_stack places of.all symbols)
-        complete p g e (inl ends) = IsIn-append_left p (inside_left files node 0) (Given files ends_by_stack places of.all symbols) (inside_complete p g ends)
+            → IsIn p (inside_left files node 0 ++ Given files ends_by_stack shares of.all symbols)
+        complete p g e (inl ends) = IsIn-append_left p (inside_left files node 0) (Given files ends_by_stack shares of.all symbols) (inside_complete p g ends)
         complete p g e (inr ends) =
             let parts = and_parts (ends_by_stack p.1) (is_exported_spot (graphs_of files) (spot.At node)) ends in
-            IsIn-append_right p (inside_left files node 0) (Given files ends_by_stack places of.all symbols)
-            (given_into files ends_by_stack places of.all symbols p (record { file = g.file; found = g.found; stored = g.stored; passing = parts.0 }) e)
+            IsIn-append_right p (inside_left files node 0) (Given files ends_by_stack shares of.all symbols)
+            (given_into files ends_by_stack shares of.all symbols p (record { file = g.file; found = g.found; stored = g.stored; passing = parts.0 }) e)

@@ -1,4 +1,4 @@
--- Which clause rests on which file. `EndIndex::of` on Places and Dealt and, for the order, on Ordered; `EndSource::ends` on
+-- Which clause rests on which file. `EndIndex::fit` on Dealt and Fitted and, for the order, on Ordered; `EndSource::ends` on
 -- Given, which Ending, Places and Marked serve; `EndSource::next_end` on Ordered and Among; `EndSource::path_to` on Listed.
 mod Ordered
 mod Marked
@@ -7,4 +7,6 @@ mod Ending
 mod Given
 mod Among
 mod Listed
+mod Filtered
+mod Fitted
 mod Dealt

@@ -1,54 +1,34 @@
--- What the marks of texts tell of them, and which paths stand in the runs of texts.
-use Rattle.std.proofs.Common.{◌≡◌, refl, sym, ◌∙◌, ap, ℕ, zero, suc, ◌+◌, ◌-◌, ◌<◌, ◌≤◌, List, [], ◌∷◌, ◌++◌, length, min, take, drop, get_or, true, arith, ◌⊎◌, inl, inr}
-use Rattle.std.specs.Ordering.{nat_cmp, is_eq, ordering_then}
-use Rattle.std.specs.declared.cmp.Ordering.{Ordering}
-use Rattle.std.specs.declared.cmp.Ordering.TheVariants.{Less, Equal, Greater}
+-- Which paths stand in the runs of texts.
+use Rattle.std.proofs.Common.{◌≡◌, refl, sym, ◌∙◌, ap, ℕ, zero, suc, ◌+◌, ◌*◌, ◌/◌, ◌%◌, ◌^◌, ◌<◌, List, [], ◌∷◌, ◌++◌, length, take, true, arith, ◌⊎◌, inl, inr}
+use Rattle.std.specs.List.{flat_map}
+use Rattle.std.specs.Ordering.{nat_cmp, is_eq}
 use Rattle.std.specs.Str.{bytes_eq}
-use Rattle.std.proofs.lemmas.Bool.{false≢true, and_parts, cases_lt}
+use Rattle.std.proofs.lemmas.Bool.{false≢true, and_parts, and_from}
 use Rattle.std.proofs.lemmas.Bool.Decides.{nat_tests}
-use Rattle.std.proofs.lemmas.List.{drop_more, drop_all}
 use Rattle.std.proofs.lemmas.Slice.Eq.{bytes_eq-Decides}
 use Rattle.list_facts.specs.Members.{IsIn}
 use Rattle.list_facts.specs.Apart.{IsApart}
 use Rattle.list_facts.proofs.Members.{IsIn-append_left, IsIn-append_right, IsIn-append_cases, IsIn-filter, IsIn-filter_from}
-use Rattle.list_facts.proofs.Apart.{IsApart-append, IsApart-filter}
+use Rattle.list_facts.proofs.Apart.{Differ, IsApart-append, IsApart-append_left, IsApart-swap, IsApart-filter}
+use Rattle.list_facts.proofs.Pairs.{Pairs-across}
 use Rattle.stacks_vars.specs.declared.patterns.SymOut.{SymOut}
 use Rattle.stacks_vars.specs.declared.patterns.SymPat.{SymPat}
-use Rattle.partial_path.specs.Keys.{asked_texts}
+use Rattle.partial_path.specs.Keys.{asked_texts, key_size}
+use Rattle.partial_path.specs.Marks.{with_text, with_texts, made_texts, end_key, made_key}
 use Rattle.back_stitch.specs.Sources.{agrees}
 use Rattle.end_index.specs.declared.place.EndPlace.{EndPlace}
-use Rattle.end_index.specs.Marks.{with_one, with_all, with_text, with_texts, made_texts}
+use Rattle.end_index.specs.Ends.{all_of}
 use Rattle.end_index.specs.Runs.{is_in_run, run, runs_behind, runs}
 
--- a text's bytes one by one
+-- a key tells how many symbols the paths of its run make, as far as it tells them
+abbrev pub count_of : ℕ → ℕ
+count_of key = key % 8
 
-pub byte_more : (mark i : ℕ) (bytes : List ℕ) → i < min (length bytes) 64
-    → with_all mark (take (64 - i) (drop i bytes)) ≡ with_all (with_one mark (get_or bytes i 0)) (take (64 - (i + 1)) (drop (i + 1) bytes))
-byte_more mark i bytes h =
-    let more : 64 - i ≡ suc (64 - (i + 1)) = omega (arith, h) in
-    let inside : i < length bytes = omega (arith, h) in
-    λ k. with_all mark (take (more k) (drop_more bytes i 0 inside k))
-
-pub bytes_over : (mark i : ℕ) (bytes : List ℕ) → min (length bytes) 64 ≤ i → with_all mark (take (64 - i) (drop i bytes)) ≡ mark
-bytes_over mark i bytes h = elim (cases_lt i (length bytes)) [
-  | inl inside ↦ (let none : 64 - i ≡ 0 = omega (arith, h, inside) in ap (λ n. with_all mark (take n (drop i bytes))) none)
-  | inr past ↦ ap (λ bs. with_all mark (take (64 - i) bs)) (drop_all i bytes past) ∙ ap (with_all mark) (take_none (64 - i))
-]
+key_counts : (mark count : ℕ) → count < 8 → count_of (end_key mark count) ≡ count
+key_counts mark count few = by (mark * 11400714819323198485 % 2 ^ 64 / 2 ^ 35)
   where
-    take_none : (n : ℕ) → take {A = ℕ} n [] ≡ []
-    take_none zero = refl
-    take_none (suc n) = refl
-
--- a path's symbols one by one
-
-pub symbol_more : (mark i : ℕ) (made : List SymOut) (d : SymOut) → i < length made
-    → with_texts mark (made_texts (drop i made)) ≡ with_texts (with_text mark (get_or made i d).symbol) (made_texts (drop (i + 1) made))
-symbol_more mark i made d inside = ap (λ (outs : List SymOut). with_texts mark (made_texts outs)) (drop_more made i d inside)
-
-pub symbols_over : (mark i : ℕ) (made : List SymOut) → length made ≤ i → with_texts mark (made_texts (drop i made)) ≡ mark
-symbols_over mark i made past = ap (λ (outs : List SymOut). with_texts mark (made_texts outs)) (drop_all i made past)
-
--- the paths of a run make so many symbols of that mark
+    by : (upper : ℕ) → (upper * 8 + count) % 8 ≡ count
+    by upper = omega (arith, few)
 
 equal : (x a : ℕ) → x ≡ a → is_eq (nat_cmp x a) ≡ true
 equal x a e = grind (arith, nat_tests, e)
@@ -56,34 +36,24 @@ equal x a e = grind (arith, nat_tests, e)
 equal_is : (x a : ℕ) → is_eq (nat_cmp x a) ≡ true → x ≡ a
 equal_is x a e = grind (arith, nat_tests, e)
 
-both : (o p : Ordering) → is_eq o ≡ true → is_eq p ≡ true → is_eq (ordering_then o p) ≡ true
-both Less p e f = e
-both Equal p e f = f
-both Greater p e f = e
+into_run : (key : ℕ) (p : EndPlace) (places : List EndPlace) → IsIn p places → p.key ≡ key → IsIn p (run key places)
+into_run key p places h is = IsIn-filter (is_in_run key) p places h (equal p.key key is)
 
-second : (o p : Ordering) → is_eq (ordering_then o p) ≡ true → is_eq p ≡ true
-second Less p e = absurd (false≢true e)
-second Equal p e = e
-second Greater p e = absurd (false≢true e)
-
-into_run : (mark count : ℕ) (p : EndPlace) (places : List EndPlace) → IsIn p places → p.mark ≡ mark → p.count ≡ count → IsIn p (run mark count places)
-into_run mark count p places h m n =
-    IsIn-filter (is_in_run mark count) p places h (both (nat_cmp p.mark mark) (nat_cmp p.count count) (equal p.mark mark m) (equal p.count count n))
-
-run_counts : (mark count : ℕ) (p : EndPlace) (places : List EndPlace) → IsIn p (run mark count places) → p.count ≡ count
-run_counts mark count p places h =
-    equal_is p.count count (second (nat_cmp p.mark mark) (nat_cmp p.count count) (IsIn-filter_from (is_in_run mark count) p places h).1)
+run_counts : (mark count : ℕ) (p : EndPlace) (places : List EndPlace) → count < 8 → IsIn p (run (end_key mark count) places) → count_of p.key ≡ count
+run_counts mark count p places few h =
+    ap count_of (equal_is p.key (end_key mark count) (IsIn-filter_from (is_in_run (end_key mark count)) p places h).1) ∙ key_counts mark count few
 
 -- those of the runs behind make more
-behind_counts : (mark count : ℕ) (asked : List (List ℕ)) (p : EndPlace) (places : List EndPlace) → IsIn p (runs_behind mark count asked places) → count < p.count
-behind_counts mark count [] p places h = absurd h
-behind_counts mark count (text ∷ asked) p places h =
-    by (IsIn-append_cases p (run (with_text mark text) (count + 1) places) (runs_behind (with_text mark text) (count + 1) asked places) h)
-    (λ g. behind_counts (with_text mark text) (count + 1) asked p places g)
+behind_counts : (mark count : ℕ) (asked : List (List ℕ)) (p : EndPlace) (places : List EndPlace) → count + length asked < 8 → IsIn p (runs_behind mark count asked places)
+    → count < count_of p.key
+behind_counts mark count [] p places few h = absurd h
+behind_counts mark count (text ∷ asked) p places few h =
+    by (IsIn-append_cases p (run (end_key (with_text mark text) (count + 1)) places) (runs_behind (with_text mark text) (count + 1) asked places) h)
+    (λ g. behind_counts (with_text mark text) (count + 1) asked p places (omega (arith, few)) g)
   where
-    by : IsIn p (run (with_text mark text) (count + 1) places) ⊎ IsIn p (runs_behind (with_text mark text) (count + 1) asked places)
-        → (IsIn p (runs_behind (with_text mark text) (count + 1) asked places) → count + 1 < p.count) → count < p.count
-    by (inl g) on = let is = run_counts (with_text mark text) (count + 1) p places g in omega (arith, is)
+    by : IsIn p (run (end_key (with_text mark text) (count + 1)) places) ⊎ IsIn p (runs_behind (with_text mark text) (count + 1) asked places)
+        → (IsIn p (runs_behind (with_text mark text) (count + 1) asked places) → count + 1 < count_of p.key) → count < count_of p.key
+    by (inl g) on = let is = run_counts (with_text mark text) (count + 1) p places (omega (arith, few)) g in omega (arith, is)
     by (inr g) on = let more = on g in omega (arith, more)
 
 -- runs hold paths of the list alone, and each once
@@ -91,50 +61,96 @@ behind_counts mark count (text ∷ asked) p places h =
 pub behind_among : (mark count : ℕ) (asked : List (List ℕ)) (p : EndPlace) (places : List EndPlace) → IsIn p (runs_behind mark count asked places) → IsIn p places
 behind_among mark count [] p places h = absurd h
 behind_among mark count (text ∷ asked) p places h =
-    by (IsIn-append_cases p (run (with_text mark text) (count + 1) places) (runs_behind (with_text mark text) (count + 1) asked places) h)
+    by (IsIn-append_cases p (run (end_key (with_text mark text) (count + 1)) places) (runs_behind (with_text mark text) (count + 1) asked places) h)
     (λ g. behind_among (with_text mark text) (count + 1) asked p places g)
   where
-    by : IsIn p (run (with_text mark text) (count + 1) places) ⊎ IsIn p (runs_behind (with_text mark text) (count + 1) asked places)
+    by : IsIn p (run (end_key (with_text mark text) (count + 1)) places) ⊎ IsIn p (runs_behind (with_text mark text) (count + 1) asked places)
         → (IsIn p (runs_behind (with_text mark text) (count + 1) asked places) → IsIn p places) → IsIn p places
-    by (inl g) on = (IsIn-filter_from (is_in_run (with_text mark text) (count + 1)) p places g).0
+    by (inl g) on = (IsIn-filter_from (is_in_run (end_key (with_text mark text) (count + 1))) p places g).0
     by (inr g) on = on g
 
-pub runs_among : (asked : List (List ℕ)) (p : EndPlace) (places : List EndPlace) → IsIn p (runs asked places) → IsIn p places
-runs_among asked p places h = by (IsIn-append_cases p (run 0 0 places) (runs_behind 0 0 asked places) h)
+runs_among : (asked : List (List ℕ)) (p : EndPlace) (places : List EndPlace) → IsIn p (runs asked places) → IsIn p places
+runs_among asked p places h = by (IsIn-append_cases p (run (end_key 0 0) places) (runs_behind 0 0 asked places) h)
   where
-    by : IsIn p (run 0 0 places) ⊎ IsIn p (runs_behind 0 0 asked places) → IsIn p places
-    by (inl g) = (IsIn-filter_from (is_in_run 0 0) p places g).0
+    by : IsIn p (run (end_key 0 0) places) ⊎ IsIn p (runs_behind 0 0 asked places) → IsIn p places
+    by (inl g) = (IsIn-filter_from (is_in_run (end_key 0 0)) p places g).0
     by (inr g) = behind_among 0 0 asked p places g
 
-run_and_behind : (mark count : ℕ) (asked : List (List ℕ)) (places : List EndPlace) → IsApart places → IsApart (runs_behind mark count asked places)
-    → IsApart (run mark count places ++ runs_behind mark count asked places)
-run_and_behind mark count asked places apart behind =
-    IsApart-append (run mark count places) (runs_behind mark count asked places) (IsApart-filter (is_in_run mark count) places apart) behind
+run_and_behind : (mark count : ℕ) (asked : List (List ℕ)) (places : List EndPlace) → count + length asked < 8 → IsApart places → IsApart (runs_behind mark count asked places)
+    → IsApart (run (end_key mark count) places ++ runs_behind mark count asked places)
+run_and_behind mark count asked places few apart behind =
+    IsApart-append (run (end_key mark count) places) (runs_behind mark count asked places) (IsApart-filter (is_in_run (end_key mark count)) places apart) behind
     (λ p first later.
-    let is = run_counts mark count p places first in
-    let more = behind_counts mark count asked p places later in
+    let is = run_counts mark count p places (omega (arith, few)) first in
+    let more = behind_counts mark count asked p places few later in
     omega (arith, is, more))
 
-behind_apart : (mark count : ℕ) (asked : List (List ℕ)) (places : List EndPlace) → IsApart places → IsApart (runs_behind mark count asked places)
-behind_apart mark count [] places apart = tt
-behind_apart mark count (text ∷ asked) places apart =
-    run_and_behind (with_text mark text) (count + 1) asked places apart (behind_apart (with_text mark text) (count + 1) asked places apart)
+behind_apart : (mark count : ℕ) (asked : List (List ℕ)) (places : List EndPlace) → count + length asked < 8 → IsApart places → IsApart (runs_behind mark count asked places)
+behind_apart mark count [] places few apart = tt
+behind_apart mark count (text ∷ asked) places few apart =
+    run_and_behind (with_text mark text) (count + 1) asked places (omega (arith, few)) apart
+    (behind_apart (with_text mark text) (count + 1) asked places (omega (arith, few)) apart)
 
-pub runs_apart : (asked : List (List ℕ)) (places : List EndPlace) → IsApart places → IsApart (runs asked places)
-runs_apart asked places apart = run_and_behind 0 0 asked places apart (behind_apart 0 0 asked places apart)
+runs_apart : (asked : List (List ℕ)) (places : List EndPlace) → length asked < 8 → IsApart places → IsApart (runs asked places)
+runs_apart asked places few apart = run_and_behind 0 0 asked places (omega (arith, few)) apart (behind_apart 0 0 asked places (omega (arith, few)) apart)
 
 -- a path that makes just the first of what is asked for stands in one of the runs
 agree : (mark count : ℕ) (asked : List SymPat) (made : List SymOut) (p : EndPlace) (places : List EndPlace) → agrees asked made ≡ true → IsIn p places
-    → p.mark ≡ with_texts mark (made_texts made) → p.count ≡ count + length made → IsIn p (run mark count places ++ runs_behind mark count (asked_texts asked) places)
-agree mark count asked [] p places e h is many =
-    IsIn-append_left p (run mark count places) (runs_behind mark count (asked_texts asked) places) (into_run mark count p places h is (omega (arith, many)))
-agree mark count [] (out ∷ made) p places e h is many = absurd (false≢true e)
-agree mark count (pat ∷ asked) (out ∷ made) p places e h is many =
+    → p.key ≡ end_key (with_texts mark (made_texts made)) (count + length (made_texts made))
+    → IsIn p (run (end_key mark count) places ++ runs_behind mark count (asked_texts asked) places)
+agree mark count asked [] p places e h is =
+    let none : count + zero ≡ count = omega arith in
+    IsIn-append_left p (run (end_key mark count) places) (runs_behind mark count (asked_texts asked) places) (into_run (end_key mark count) p places h (is ∙ ap (end_key mark) none))
+agree mark count [] (out ∷ made) p places e h is = absurd (false≢true e)
+agree mark count (pat ∷ asked) (out ∷ made) p places e h is =
     let parts = and_parts (bytes_eq pat.symbol out.symbol) (agrees asked made) e in
     let same = (bytes_eq-Decides pat.symbol out.symbol).0 parts.0 in
-    IsIn-append_right p (run mark count places) (runs_behind mark count (asked_texts (pat ∷ asked)) places)
-    (agree (with_text mark pat.symbol) (count + 1) asked made p places parts.1 h (is ∙ ap (λ (t : List ℕ). with_texts (with_text mark t) (made_texts made)) (sym same)) (omega (arith, many)))
+    let more : count + suc (length (made_texts made)) ≡ (count + 1) + length (made_texts made) = omega arith in
+    IsIn-append_right p (run (end_key mark count) places) (runs_behind mark count (asked_texts (pat ∷ asked)) places)
+    (agree (with_text mark pat.symbol) (count + 1) asked made p places parts.1 h
+    (is ∙ (λ i. end_key (with_texts (with_text mark (sym same i)) (made_texts made)) (more i))))
 
-pub runs_hold : (asked : List SymPat) (made : List SymOut) (p : EndPlace) (places : List EndPlace) → agrees asked made ≡ true → IsIn p places
-    → p.mark ≡ with_texts 0 (made_texts made) → p.count ≡ length made → IsIn p (runs (asked_texts asked) places)
-runs_hold asked made p places e h is many = agree 0 0 asked made p places e h is (omega (arith, many))
+-- as far as some first ones go, what agrees does
+first_agree : (n : ℕ) (asked : List SymPat) (made : List SymOut) → agrees asked made ≡ true → agrees (take n asked) (take n made) ≡ true
+first_agree zero asked made e = refl
+first_agree (suc n) [] [] e = refl
+first_agree (suc n) [] (out ∷ made) e = absurd (false≢true e)
+first_agree (suc n) (pat ∷ asked) [] e = refl
+first_agree (suc n) (pat ∷ asked) (out ∷ made) e =
+    let parts = and_parts (bytes_eq pat.symbol out.symbol) (agrees asked made) e in
+    and_from (bytes_eq pat.symbol out.symbol) (agrees (take n asked) (take n made)) parts.0 (first_agree n asked made parts.1)
+
+runs_hold : (asked : List SymPat) (made : List SymOut) (p : EndPlace) (places : List EndPlace) → agrees asked made ≡ true → IsIn p places → p.key ≡ made_key made
+    → IsIn p (runs (asked_texts (take key_size asked)) places)
+runs_hold asked made p places e h is =
+    let whole : 0 + length (made_texts (take key_size made)) ≡ length (made_texts (take key_size made)) = omega arith in
+    agree 0 0 (take key_size asked) (take key_size made) p places (first_agree key_size asked made e) h
+    (is ∙ ap (end_key (with_texts 0 (made_texts (take key_size made)))) (sym whole))
+
+-- the same of the runs of all shares
+module _ (asked : List (List ℕ)) where
+  pub all_among : (p : EndPlace) (shares : List (List EndPlace)) → IsIn p (flat_map (runs asked) shares) → IsIn p (all_of shares)
+  all_among p [] h = absurd h
+  all_among p (places ∷ shares) h = by (IsIn-append_cases p (runs asked places) (flat_map (runs asked) shares) h) (λ g. all_among p shares g)
+    where
+      by : IsIn p (runs asked places) ⊎ IsIn p (flat_map (runs asked) shares) → (IsIn p (flat_map (runs asked) shares) → IsIn p (all_of shares)) → IsIn p (places ++ all_of shares)
+      by (inl g) on = IsIn-append_left p places (all_of shares) (runs_among asked p places g)
+      by (inr g) on = IsIn-append_right p places (all_of shares) (on g)
+
+  pub all_apart : (shares : List (List EndPlace)) → length asked < 8 → IsApart (all_of shares) → IsApart (flat_map (runs asked) shares)
+  all_apart [] few apart = tt
+  all_apart (places ∷ shares) few apart =
+      let rest = IsApart-append_left (all_of shares) places (IsApart-swap places (all_of shares) apart) in
+      IsApart-append (runs asked places) (flat_map (runs asked) shares) (runs_apart asked places few (IsApart-append_left places (all_of shares) apart)) (all_apart shares few rest)
+      (λ p here there. Pairs-across Differ places (all_of shares) apart p p (runs_among asked p places here) (all_among p shares there) refl)
+
+pub all_hold : (asked : List SymPat) (made : List SymOut) (p : EndPlace) (shares : List (List EndPlace)) → agrees asked made ≡ true → IsIn p (all_of shares) → p.key ≡ made_key made
+    → IsIn p (flat_map (runs (asked_texts (take key_size asked))) shares)
+all_hold asked made p [] e h is = absurd h
+all_hold asked made p (places ∷ shares) e h is =
+    by (IsIn-append_cases p places (all_of shares) h) (λ g. all_hold asked made p shares e g is)
+  where
+    by : IsIn p places ⊎ IsIn p (all_of shares) → (IsIn p (all_of shares) → IsIn p (flat_map (runs (asked_texts (take key_size asked))) shares))
+        → IsIn p (runs (asked_texts (take key_size asked)) places ++ flat_map (runs (asked_texts (take key_size asked))) shares)
+    by (inl g) on = IsIn-append_left p (runs (asked_texts (take key_size asked)) places) (flat_map (runs (asked_texts (take key_size asked))) shares) (runs_hold asked made p places e g is)
+    by (inr g) on = IsIn-append_right p (runs (asked_texts (take key_size asked)) places) (flat_map (runs (asked_texts (take key_size asked))) shares) (on g)

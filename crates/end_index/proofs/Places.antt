@@ -1,18 +1,19 @@
 -- Which paths of files stand in an index: those that pass, each once.
-use Rattle.std.proofs.Common.{◌≡◌, ◌≢◌, refl, sym, ◌∙◌, ap, subst, ℕ, zero, suc, ◌+◌, ◌<◌, ◌≤◌, List, [], ◌∷◌, ◌++◌, Bool, true, false, cond, Some, arith, ◌⊎◌, inl, inr, slice_get, get_or, drop, length, append_assoc, append-nil}
+use Rattle.std.proofs.Common.{◌≡◌, ◌≢◌, refl, sym, ◌∙◌, ap, subst, ℕ, zero, suc, ◌+◌, List, [], ◌∷◌, Bool, true, false, cond, Some, arith, ◌⊎◌, inl, inr, slice_get, drop}
 use Rattle.std.specs.List.{AllByRecursion}
 use Rattle.std.specs.List.Sorted.{IsPermutation}
-use Rattle.std.proofs.lemmas.List.{drop_more, drop_all}
 use Rattle.std.proofs.lemmas.List.Sorted.{Contains-permutation, IsPermutation-sym}
 use Rattle.std.proofs.lemmas.Option.{none-some, same_Some}
 use Rattle.list_facts.specs.Members.{IsIn}
 use Rattle.list_facts.specs.Apart.{IsApart}
-use Rattle.list_facts.proofs.Members.{IsIn-append_left, IsIn-append_right, IsIn-append_cases, IsIn-from_Contains, Contains-from_IsIn}
-use Rattle.list_facts.proofs.Apart.{IsApart-append}
+use Rattle.list_facts.proofs.Members.{IsIn-append_left, IsIn-append_right, IsIn-append_cases, IsIn-map, IsIn-map_from, IsIn-from_Contains, Contains-from_IsIn}
+use Rattle.list_facts.proofs.Apart.{IsApart-append, IsApart-map}
 use Rattle.partial_path.specs.Rules.{Rule}
 use Rattle.partial_path.specs.PathSets.{FileRules}
 use Rattle.partial_path.proofs.Reordered.{apart_reordered}
 use Rattle.end_index.specs.declared.place.EndPlace.{EndPlace}
+use Rattle.partial_path.specs.declared.end_table.EndMark.{EndMark}
+use Rattle.partial_path.specs.Ends.{end_mark, end_marks}
 use Rattle.end_index.specs.Ends.{end_place, ends_in, ends_after}
 
 -- an element of a list stands at some place, and what stands at a place is an element
@@ -48,107 +49,133 @@ file_first (g ∷ files) (suc i) f found =
     let next : suc (i + 1) ≡ suc i + 1 = omega arith in file_first files i f found ∙ ap (λ n. f ∷ drop n (g ∷ files)) next
 
 module _ (passes : Rule → Bool) where
-  -- the path stands in a file of that number among the rules, of which the first has the place
-  pub record IsEndIn (file place : ℕ) (rules : List Rule) (e : EndPlace) : Type 0 where
+  -- the mark tells of a path among the rules, of which the first has the place
+  pub record IsMarkIn (place : ℕ) (rules : List Rule) (m : EndMark) : Type 0 where
     pub k : ℕ
     pub rule : Rule
     pub there : slice_get rules k ≡ Some rule
     pub passing : passes rule ≡ true
-    pub is : e ≡ end_place file (place + k) rule
+    pub is : m ≡ end_mark (place + k) rule
 
-  one_of : (b : Bool) (x y : EndPlace) → IsIn x (cond b (y ∷ []) []) → (b ≡ true) × (x ≡ y)
+  one_of : (b : Bool) (x y : EndMark) → IsIn x (cond b (y ∷ []) []) → (b ≡ true) × (x ≡ y)
   one_of true x y (inl e) = (refl, e)
   one_of true x y (inr h) = absurd h
   one_of false x y h = absurd h
 
-  pub end_from : (file place : ℕ) (rules : List Rule) (e : EndPlace) → IsIn e (ends_in passes file place rules) → IsEndIn file place rules e
-  end_from file place [] e h = absurd h
-  end_from file place (rule ∷ rules) e h =
-      by (IsIn-append_cases e (cond (passes rule) (end_place file place rule ∷ []) []) (ends_in passes file (place + 1) rules) h) (λ g. end_from file (place + 1) rules e g)
+  mark_from : (place : ℕ) (rules : List Rule) (m : EndMark) → IsIn m (end_marks passes place rules) → IsMarkIn place rules m
+  mark_from place [] m h = absurd h
+  mark_from place (rule ∷ rules) m h =
+      by (IsIn-append_cases m (cond (passes rule) (end_mark place rule ∷ []) []) (end_marks passes (place + 1) rules) h) (λ g. mark_from (place + 1) rules m g)
     where
-      by : IsIn e (cond (passes rule) (end_place file place rule ∷ []) []) ⊎ IsIn e (ends_in passes file (place + 1) rules)
-          → (IsIn e (ends_in passes file (place + 1) rules) → IsEndIn file (place + 1) rules e) → IsEndIn file place (rule ∷ rules) e
+      by : IsIn m (cond (passes rule) (end_mark place rule ∷ []) []) ⊎ IsIn m (end_marks passes (place + 1) rules)
+          → (IsIn m (end_marks passes (place + 1) rules) → IsMarkIn (place + 1) rules m) → IsMarkIn place (rule ∷ rules) m
       by (inl g) on =
-          let (passing, is) = one_of (passes rule) e (end_place file place rule) g in
+          let (passing, is) = one_of (passes rule) m (end_mark place rule) g in
           let here : place ≡ place + zero = omega arith in
-          record { k = zero; rule = rule; there = refl; passing = passing; is = is ∙ ap (λ n. end_place file n rule) here }
+          record { k = zero; rule = rule; there = refl; passing = passing; is = is ∙ ap (λ n. end_mark n rule) here }
       by (inr g) on =
           let r = on g in
           let next : (place + 1) + r.k ≡ place + suc r.k = omega arith in
-          record { k = suc r.k; rule = r.rule; there = r.there; passing = r.passing; is = r.is ∙ ap (λ n. end_place file n r.rule) next }
+          record { k = suc r.k; rule = r.rule; there = r.there; passing = r.passing; is = r.is ∙ ap (λ n. end_mark n r.rule) next }
 
-  pub end_into : (file place : ℕ) (rules : List Rule) (k : ℕ) (rule : Rule) → slice_get rules k ≡ Some rule → passes rule ≡ true
-      → IsIn (end_place file (place + k) rule) (ends_in passes file place rules)
-  end_into file place [] k rule there passing = absurd (none-some rule there)
-  end_into file place (first ∷ rules) zero rule there passing =
+  mark_into : (place : ℕ) (rules : List Rule) (k : ℕ) (rule : Rule) → slice_get rules k ≡ Some rule → passes rule ≡ true
+      → IsIn (end_mark (place + k) rule) (end_marks passes place rules)
+  mark_into place [] k rule there passing = absurd (none-some rule there)
+  mark_into place (first ∷ rules) zero rule there passing =
       let same : first ≡ rule = same_Some first rule there in
       let here : place + zero ≡ place = omega arith in
-      IsIn-append_left (end_place file (place + zero) rule) (cond (passes first) (end_place file place first ∷ []) []) (ends_in passes file (place + 1) rules)
-      (subst (λ (b : Bool). IsIn (end_place file (place + zero) rule) (cond b (end_place file place first ∷ []) [])) (sym (ap passes same ∙ passing))
-      (inl (λ i. end_place file (here i) (sym same i))))
-  end_into file place (first ∷ rules) (suc k) rule there passing =
+      IsIn-append_left (end_mark (place + zero) rule) (cond (passes first) (end_mark place first ∷ []) []) (end_marks passes (place + 1) rules)
+      (subst (λ (b : Bool). IsIn (end_mark (place + zero) rule) (cond b (end_mark place first ∷ []) [])) (sym (ap passes same ∙ passing))
+      (inl (λ i. end_mark (here i) (sym same i))))
+  mark_into place (first ∷ rules) (suc k) rule there passing =
       let next : (place + 1) + k ≡ place + suc k = omega arith in
-      IsIn-append_right (end_place file (place + suc k) rule) (cond (passes first) (end_place file place first ∷ []) []) (ends_in passes file (place + 1) rules)
-      (subst (λ n. IsIn (end_place file n rule) (ends_in passes file (place + 1) rules)) next (end_into file (place + 1) rules k rule there passing))
+      IsIn-append_right (end_mark (place + suc k) rule) (cond (passes first) (end_mark place first ∷ []) []) (end_marks passes (place + 1) rules)
+      (subst (λ n. IsIn (end_mark n rule) (end_marks passes (place + 1) rules)) next (mark_into (place + 1) rules k rule there passing))
 
-  apart_in : (file place : ℕ) (rules : List Rule) → IsApart (ends_in passes file place rules)
-  apart_in file place [] = tt
-  apart_in file place (rule ∷ rules) =
-      IsApart-append (cond (passes rule) (end_place file place rule ∷ []) []) (ends_in passes file (place + 1) rules) (short (passes rule)) (apart_in file (place + 1) rules)
-      (λ e here there.
-      let one = one_of (passes rule) e (end_place file place rule) here in
-      let r = end_from file (place + 1) rules e there in
-      let a : e.place ≡ place = ap (λ (p : EndPlace). p.place) one.1 in
-      let b : e.place ≡ (place + 1) + r.k = ap (λ (p : EndPlace). p.place) r.is in
+  marks_apart : (place : ℕ) (rules : List Rule) → IsApart (end_marks passes place rules)
+  marks_apart place [] = tt
+  marks_apart place (rule ∷ rules) =
+      IsApart-append (cond (passes rule) (end_mark place rule ∷ []) []) (end_marks passes (place + 1) rules) (short (passes rule)) (marks_apart (place + 1) rules)
+      (λ m here there.
+      let one = one_of (passes rule) m (end_mark place rule) here in
+      let r = mark_from (place + 1) rules m there in
+      let a : m.place ≡ place = ap (λ (p : EndMark). p.place) one.1 in
+      let b : m.place ≡ (place + 1) + r.k = ap (λ (p : EndMark). p.place) r.is in
       omega (arith, a, b))
     where
-      short : (b : Bool) → IsApart (cond b (end_place file place rule ∷ []) [])
+      short : (b : Bool) → IsApart (cond b (end_mark place rule ∷ []) [])
       short true = (tt, tt)
       short false = tt
+
+  -- the path stands in a file of that number, among its rules
+  pub record IsEndIn (file : ℕ) (rules : List Rule) (e : EndPlace) : Type 0 where
+    pub k : ℕ
+    pub rule : Rule
+    pub there : slice_get rules k ≡ Some rule
+    pub passing : passes rule ≡ true
+    pub is : e ≡ end_place file (end_mark k rule)
+
+  end_from : (file : ℕ) (rules : List Rule) (e : EndPlace) → IsIn e (ends_in passes file rules) → IsEndIn file rules e
+  end_from file rules e h =
+      let (mark, there, is) = IsIn-map_from (end_place file) e (end_marks passes 0 rules) h in
+      let r = mark_from 0 rules mark there in
+      let whole : 0 + r.k ≡ r.k = omega arith in
+      record { k = r.k; rule = r.rule; there = r.there; passing = r.passing; is = sym is ∙ ap (end_place file) (r.is ∙ ap (λ n. end_mark n r.rule) whole) }
+
+  end_into : (file : ℕ) (rules : List Rule) (k : ℕ) (rule : Rule) → slice_get rules k ≡ Some rule → passes rule ≡ true
+      → IsIn (end_place file (end_mark k rule)) (ends_in passes file rules)
+  end_into file rules k rule there passing =
+      let whole : 0 + k ≡ k = omega arith in
+      IsIn-map (end_place file) (end_mark k rule) (end_marks passes 0 rules)
+      (subst (λ n. IsIn (end_mark n rule) (end_marks passes 0 rules)) whole (mark_into 0 rules k rule there passing))
+
+  same_mark : (file : ℕ) (a b : EndMark) → end_place file a ≡ end_place file b → a ≡ b
+  same_mark file a b e = λ i. record { key = (e i).key; place = (e i).place }
+
+  apart_in : (file : ℕ) (rules : List Rule) → IsApart (ends_in passes file rules)
+  apart_in file rules = IsApart-map (end_place file) (same_mark file) (end_marks passes 0 rules) (marks_apart 0 rules)
 
   -- the same of files of which the first has the number
   pub record IsEndOf (first : ℕ) (files : List FileRules) (e : EndPlace) : Type 0 where
     pub i : ℕ
     pub file : FileRules
     pub found : slice_get files i ≡ Some file
-    pub here : IsEndIn (first + i) 0 file.rules e
+    pub here : IsEndIn (first + i) file.rules e
 
   pub end_of : (first : ℕ) (files : List FileRules) (e : EndPlace) → IsIn e (ends_after passes first files) → IsEndOf first files e
   end_of first [] e h = absurd h
-  end_of first (f ∷ files) e h = by (IsIn-append_cases e (ends_in passes first 0 f.rules) (ends_after passes (first + 1) files) h) (λ g. end_of (first + 1) files e g)
+  end_of first (f ∷ files) e h = by (IsIn-append_cases e (ends_in passes first f.rules) (ends_after passes (first + 1) files) h) (λ g. end_of (first + 1) files e g)
     where
-      by : IsIn e (ends_in passes first 0 f.rules) ⊎ IsIn e (ends_after passes (first + 1) files)
+      by : IsIn e (ends_in passes first f.rules) ⊎ IsIn e (ends_after passes (first + 1) files)
           → (IsIn e (ends_after passes (first + 1) files) → IsEndOf (first + 1) files e) → IsEndOf first (f ∷ files) e
       by (inl g) on =
           let none : first ≡ first + zero = omega arith in
-          record { i = zero; file = f; found = refl; here = subst (λ n. IsEndIn n 0 f.rules e) none (end_from first 0 f.rules e g) }
+          record { i = zero; file = f; found = refl; here = subst (λ n. IsEndIn n f.rules e) none (end_from first f.rules e g) }
       by (inr g) on =
           let r = on g in
           let next : (first + 1) + r.i ≡ first + suc r.i = omega arith in
-          record { i = suc r.i; file = r.file; found = r.found; here = subst (λ n. IsEndIn n 0 r.file.rules e) next r.here }
+          record { i = suc r.i; file = r.file; found = r.found; here = subst (λ n. IsEndIn n r.file.rules e) next r.here }
 
   pub of_end : (first : ℕ) (files : List FileRules) (i : ℕ) (file : FileRules) (k : ℕ) (rule : Rule) → slice_get files i ≡ Some file → slice_get file.rules k ≡ Some rule
-      → passes rule ≡ true → IsIn (end_place (first + i) k rule) (ends_after passes first files)
+      → passes rule ≡ true → IsIn (end_place (first + i) (end_mark k rule)) (ends_after passes first files)
   of_end first [] i file k rule found there passing = absurd (none-some file found)
   of_end first (f ∷ files) zero file k rule found there passing =
       let same : f ≡ file = same_Some f file found in
       let none : first ≡ first + zero = omega arith in
-      let whole : 0 + k ≡ k = omega arith in
-      IsIn-append_left (end_place (first + zero) k rule) (ends_in passes first 0 f.rules) (ends_after passes (first + 1) files)
-      (subst (λ n. IsIn (end_place n k rule) (ends_in passes first 0 f.rules)) none
-      (subst (λ n. IsIn (end_place first n rule) (ends_in passes first 0 f.rules)) whole
-      (end_into first 0 f.rules k rule (ap (λ (g : FileRules). slice_get g.rules k) same ∙ there) passing)))
+      IsIn-append_left (end_place (first + zero) (end_mark k rule)) (ends_in passes first f.rules) (ends_after passes (first + 1) files)
+      (subst (λ n. IsIn (end_place n (end_mark k rule)) (ends_in passes first f.rules)) none
+      (end_into first f.rules k rule (ap (λ (g : FileRules). slice_get g.rules k) same ∙ there) passing))
   of_end first (f ∷ files) (suc i) file k rule found there passing =
       let next : (first + 1) + i ≡ first + suc i = omega arith in
-      IsIn-append_right (end_place (first + suc i) k rule) (ends_in passes first 0 f.rules) (ends_after passes (first + 1) files)
-      (subst (λ n. IsIn (end_place n k rule) (ends_after passes (first + 1) files)) next (of_end (first + 1) files i file k rule found there passing))
+      IsIn-append_right (end_place (first + suc i) (end_mark k rule)) (ends_in passes first f.rules) (ends_after passes (first + 1) files)
+      (subst (λ n. IsIn (end_place n (end_mark k rule)) (ends_after passes (first + 1) files)) next (of_end (first + 1) files i file k rule found there passing))
 
   apart_after : (first : ℕ) (files : List FileRules) → IsApart (ends_after passes first files)
   apart_after first [] = tt
   apart_after first (f ∷ files) =
-      IsApart-append (ends_in passes first 0 f.rules) (ends_after passes (first + 1) files) (apart_in first 0 f.rules) (apart_after (first + 1) files)
+      IsApart-append (ends_in passes first f.rules) (ends_after passes (first + 1) files) (apart_in first f.rules) (apart_after (first + 1) files)
       (λ e here there.
-      let r = end_from first 0 f.rules e here in
+      let r = end_from first f.rules e here in
       let o = end_of (first + 1) files e there in
       let a : e.file ≡ first = ap (λ (p : EndPlace). p.file) r.is in
       let b : e.file ≡ (first + 1) + o.i = ap (λ (p : EndPlace). p.file) o.here.is in
@@ -162,38 +189,13 @@ module _ (passes : Rule → Bool) where
         (Contains-permutation places (ends_after passes 0 files) e (IsPermutation-sym (ends_after passes 0 files) places same) (Contains-from_IsIn places e h)))
 
     pub kept_into : (i : ℕ) (file : FileRules) (k : ℕ) (rule : Rule) → slice_get files i ≡ Some file → slice_get file.rules k ≡ Some rule → passes rule ≡ true
-        → IsIn (end_place i k rule) places
+        → IsIn (end_place i (end_mark k rule)) places
     kept_into i file k rule found there passing =
         let whole : 0 + i ≡ i = omega arith in
-        IsIn-from_Contains places (end_place i k rule)
-        (Contains-permutation (ends_after passes 0 files) places (end_place i k rule) same
-        (Contains-from_IsIn (ends_after passes 0 files) (end_place i k rule)
-        (subst (λ n. IsIn (end_place n k rule) (ends_after passes 0 files)) whole (of_end 0 files i file k rule found there passing))))
+        IsIn-from_Contains places (end_place i (end_mark k rule))
+        (Contains-permutation (ends_after passes 0 files) places (end_place i (end_mark k rule)) same
+        (Contains-from_IsIn (ends_after passes 0 files) (end_place i (end_mark k rule))
+        (subst (λ n. IsIn (end_place n (end_mark k rule)) (ends_after passes 0 files)) whole (of_end 0 files i file k rule found there passing))))
 
     pub kept_apart : IsApart places
     kept_apart = apart_reordered (ends_after passes 0 files) places same (apart_after 0 files)
-
-  -- gathering them: what was gathered, then what is left, is the whole
-  one_alone : (file place : ℕ) (rule : Rule) (rest : List EndPlace) → ends_in passes file place (rule ∷ []) ++ rest ≡ cond (passes rule) (end_place file place rule ∷ []) [] ++ rest
-  one_alone file place rule rest = ap (λ (ps : List EndPlace). ps ++ rest) (append-nil (cond (passes rule) (end_place file place rule ∷ []) []))
-
-  -- one that passes is put behind those that were there
-  pub put_behind : (file place : ℕ) (rule : Rule) (old new : List EndPlace) (e : EndPlace) → new ≡ old ++ e ∷ [] → e ≡ end_place file place rule → passes rule ≡ true
-      → new ≡ old ++ ends_in passes file place (rule ∷ [])
-  put_behind file place rule old new e is same passing =
-      is ∙ ap (λ (p : EndPlace). old ++ p ∷ []) same
-      ∙ sym (ap (λ (b : Bool). old ++ (cond b (end_place file place rule ∷ []) [] ++ [])) passing)
-
-  pub one_added : (file place : ℕ) (rules : List Rule) (d : Rule) (done more whole : List EndPlace) → place < length rules → more ≡ done ++ ends_in passes file place (get_or rules place d ∷ [])
-      → done ++ ends_in passes file place (drop place rules) ≡ whole → more ++ ends_in passes file (place + 1) (drop (place + 1) rules) ≡ whole
-  one_added file place rules d done more whole h is e =
-      ap (λ (ps : List EndPlace). ps ++ ends_in passes file (place + 1) (drop (place + 1) rules)) is
-      ∙ append_assoc done (ends_in passes file place (get_or rules place d ∷ [])) (ends_in passes file (place + 1) (drop (place + 1) rules))
-      ∙ ap (λ (ps : List EndPlace). done ++ ps) (one_alone file place (get_or rules place d) (ends_in passes file (place + 1) (drop (place + 1) rules)))
-      ∙ sym (ap (λ (rs : List Rule). done ++ ends_in passes file place rs) (drop_more rules place d h))
-      ∙ e
-
-  -- at the end all were gathered
-  pub ends_over : (file place : ℕ) (rules : List Rule) (done whole : List EndPlace) → length rules ≤ place → done ++ ends_in passes file place (drop place rules) ≡ whole → done ≡ whole
-  ends_over file place rules done whole h e =
-      sym (append-nil done) ∙ sym (ap (λ (rs : List Rule). done ++ ends_in passes file place rs) (drop_all place rules h)) ∙ e

@@ -1,4 +1,3 @@
-pub mod Marks
 pub mod Runs
 pub mod Ends
 pub mod Looks

@@ -19,7 +19,7 @@ use Rattle.end_index.specs.declared.runs.EndRuns.{EndRuns}
 use Rattle.end_index.specs.declared.source.EndLook.{EndLook}
 use Rattle.end_index.specs.declared.source.EndLook.TheVariants.{Inside, Root, Stack}
 use Rattle.end_index.specs.Ends.{Ends}
-use Rattle.end_index.specs.Runs.{runs_left}
+use Rattle.end_index.specs.Runs.{shares_left}
 
 -- whether a path with this end that makes these scopes ends at the spot, whatever the stack
 abbrev pub ends_there : Spot → End → List NodeAt → Bool
@@ -50,14 +50,14 @@ abbrev pub AreThere : List FileRules → List EndPlace → Type 0
 AreThere files places = (p : EndPlace) → IsIn p places → IsSome (rule_in files p)
 
 -- what is left of such paths for these texts
-abbrev pub outside_left : List FileRules → List (List ℕ) → List EndPlace → EndRuns → List (ℕ × Rule)
-outside_left files asked places at = flat_map (rules_of files) (runs_left asked at places)
+abbrev pub outside_left : List FileRules → List (List ℕ) → List (List EndPlace) → EndRuns → List (ℕ × Rule)
+outside_left files asked shares at = flat_map (rules_of files) (shares_left asked at shares)
 
 -- what a look-up of these texts that stands there still has to give
 abbrev pub ends_left : List FileRules → List (List ℕ) → Ends → EndLook → List (ℕ × Rule)
-ends_left files asked ends (Inside node place stack) = inside_left files node place ++ outside_left files asked ends.stack stack
-ends_left files asked ends (Root at) = outside_left files asked ends.root at
-ends_left files asked ends (Stack at) = outside_left files asked ends.stack at
+ends_left files asked ends (Inside node place stack) = inside_left files node place ++ outside_left files asked ends.stack.shares stack
+ends_left files asked ends (Root at) = outside_left files asked ends.root.shares at
+ends_left files asked ends (Stack at) = outside_left files asked ends.stack.shares at
 
 -- what is seen, with its index
 pub record Seen : Type 0 where

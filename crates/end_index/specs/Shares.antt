@@ -1,26 +1,38 @@
--- Parts of an index: the paths of some of the files, as threads list them.
-use Rattle.std.specs.Prelude.{ℕ, ◌%◌, List, filter, Bool, nat_eq, nat_lt, IsPermutation}
+-- Parts of an index: what files that follow one another tell, as threads list it.
+use Rattle.std.specs.Prelude.{◌≡◌, ℕ, ◌*◌, ◌-◌, List, length, min, take, drop, Bool}
+use Rattle.partial_path.specs.declared.end_table.EndMark.{EndMark}
 use Rattle.version_tree.specs.Contents.{FileRow}
 use Rattle.root_index.specs.Offers.{files_of}
-use Rattle.end_index.specs.declared.place.EndPlace.{EndPlace}
-use Rattle.end_index.specs.Ends.{Ends, ends_after, ends_at_root, ends_by_stack}
+use Rattle.partial_path.specs.Rules.{Rule}
+use Rattle.partial_path.specs.Ends.{ends_at_root, ends_by_stack}
+use Rattle.end_index.specs.Ends.{Ends, IsPartAt, PartView, SideView, marks_of}
 
--- whether the path is of a file of that share, of so many: files are dealt out one by one
-abbrev pub is_of_share : ℕ → ℕ → EndPlace → Bool
-is_of_share count share p = nat_eq (p.file % count) share
+-- the first file of the share with that number, where each but the last has so many: all of them are dealt out
+abbrev pub first_of : List FileRow → ℕ → ℕ → ℕ
+first_of view step share = min (share * step) (length view)
 
--- whether it is of one of the first shares, so many of them
-abbrev pub is_of_first : ℕ → ℕ → EndPlace → Bool
-is_of_first count shares p = nat_lt (p.file % count) shares
+-- the marks of the files from that number on and before the other
+abbrev pub marks_between : (Rule → Bool) → List FileRow → ℕ → ℕ → List (List EndMark)
+marks_between passes view from to = take (to - from) (drop from (marks_of passes (files_of view)))
 
--- of all paths that stand in the index of what a user sees those that pass
-pub record ArePassing (passes : EndPlace → Bool) (view : List FileRow) (ends : Ends) : Type 0 where
-  pub root : IsPermutation (filter passes (ends_after ends_at_root 0 (files_of view))) ends.root
-  pub stack : IsPermutation (filter passes (ends_after ends_by_stack 0 (files_of view))) ends.stack
+-- the part of these files
+pub record IsPartOf (passes : Rule → Bool) (view : List FileRow) (from to : ℕ) (part : PartView) : Type 0 where
+  pub marks : part.marks ≡ marks_between passes view from to
+  pub at : IsPartAt from part
 
--- those of a share, and those of the first shares
-abbrev pub IsShareOf : List FileRow → ℕ → ℕ → Ends → Type 0
-IsShareOf view count share = ArePassing (is_of_share count share) view
+-- both parts of these files: a share
+abbrev pub IsShareOf : List FileRow → ℕ → ℕ → PartView × PartView → Type 0
+IsShareOf view from to share = IsPartOf ends_at_root view from to share.0 × IsPartOf ends_by_stack view from to share.1
 
-abbrev pub AreOfFirst : List FileRow → ℕ → ℕ → Ends → Type 0
-AreOfFirst view count shares = ArePassing (is_of_first count shares) view
+-- the marks of the first files, so many
+abbrev pub AreFirst : (Rule → Bool) → List FileRow → ℕ → SideView → Type 0
+AreFirst passes view to side = side.marks ≡ take to (marks_of passes (files_of view))
+
+-- the index of the first files, so many
+abbrev pub IsIndexOfFirst : List FileRow → ℕ → Ends → Type 0
+IsIndexOfFirst view to ends = AreFirst ends_at_root view to ends.root × AreFirst ends_by_stack view to ends.stack
+
+-- of a side of as many files as are seen the first ones, so many, have their marks
+pub record HasFirst (passes : Rule → Bool) (view : List FileRow) (to : ℕ) (side : SideView) : Type 0 where
+  pub count : length side.marks ≡ length view
+  pub first : take to side.marks ≡ take to (marks_of passes (files_of view))

@@ -4,12 +4,12 @@
 mod index;
 mod inside;
 mod listing;
-mod marks;
 mod nodes;
 mod outside;
 mod place;
 mod runs;
 mod sharing;
+mod side;
 mod source;
 
 pub use index::EndIndex;

@@ -4,11 +4,10 @@ ghost use Rattle.partial_path.specs.Moved.{moved};
 ghost use Rattle.partial_path.specs.Sources.{graphs_of};
 ghost use Rattle.root_index.specs.Offers.{files_of};
 ghost use Rattle.back_stitch.specs.Sources.{may_end_at, rules_to};
-ghost use Rattle.end_index.specs.Ends.{ends_by_stack};
 
 use crate::inside::ends_inside;
 use crate::nodes::is_exported_spot;
-use partial_path::{End, Spot, StoredPath, StoredPaths};
+use partial_path::{Spot, StoredPath, StoredPaths, ends_by_stack};
 use version_tree::View;
 
 /// The path at place `k` of those that may end at the spot, with its file's number. It goes over all paths.
@@ -63,15 +62,5 @@ fn may_end(view: &View, file: u32, path: &StoredPath<'_>, spot: Spot) -> bool
         is_exported_spot(view, spot)
     } else {
         ends_inside(path, file, spot)
-    }
-}
-
-/// Whether the path ends by the stack and makes no scope.
-fn ends_by_stack(path: &StoredPath<'_>) -> bool
-    ensures { result ≡ ends_by_stack path.now }
-{
-    match path.end() {
-        End::At(_) => false,
-        End::ByStack => path.scopes().is_empty(),
     }
 }

@@ -1,10 +1,10 @@
-ghost use Rattle.std.specs.Prelude.{◌≡◌, [], ◌∷◌, All, MatchOption};
+ghost use Rattle.std.specs.Prelude.{◌≡◌, ◌≤◌, [], ◌∷◌, length, take, All, MatchOption};
 ghost use Rattle.partial_path.specs.declared.config.Spot.TheVariants as spots;
-ghost use Rattle.partial_path.specs.Keys.{asked_texts};
+ghost use Rattle.partial_path.specs.Keys.{asked_texts, key_size};
 ghost use Rattle.partial_path.specs.Sources.{IsSourceFile};
 ghost use Rattle.root_index.specs.Offers.{files_of};
 ghost use Rattle.back_stitch.specs.Sources.{AreEnds};
-ghost use Rattle.end_index.specs.Ends.{IsEndIndexOf};
+ghost use Rattle.end_index.specs.Ends.{AreListed, IsEndIndexOf};
 ghost use Rattle.end_index.specs.Looks.{ends_left};
 
 use crate::index::EndIndex;
@@ -12,7 +12,7 @@ use crate::inside::next_inside;
 use crate::listing::path_to;
 use crate::nodes::is_exported;
 use crate::outside::next_outside;
-use crate::runs::{EndRuns, before_runs, behind_runs};
+use crate::runs::{EndRuns, before_runs, behind_runs, first_symbols};
 use back_stitch::BackSource;
 use partial_path::{Spot, StoredPath};
 use stacks_vars::{NodeAt, SymPat};
@@ -65,7 +65,8 @@ impl<'a> EndSource<'a> {
 }
 
 impl<'a> BackSource for EndSource<'a> {
-    ghost use Rattle.partial_path.specs.Keys.{asked_texts};
+    ghost use Rattle.std.specs.Prelude.{take};
+    ghost use Rattle.partial_path.specs.Keys.{asked_texts, key_size};
     ghost use Rattle.root_index.specs.Offers.{files_of};
     ghost use Rattle.back_stitch.specs.Sources.{rules_to};
     ghost use Rattle.end_index.specs.Looks.{ends_left};
@@ -81,7 +82,8 @@ impl<'a> BackSource for EndSource<'a> {
 
     type Ends = EndLook;
 
-    ghost given = { λ s symbols at. ends_left (files_of s.rows) (asked_texts symbols) s.ends at };
+    ghost given = { λ s symbols at.
+        ends_left (files_of s.rows) (asked_texts (take key_size symbols)) s.ends at };
 
     fn ends(&self, spot: &Spot, symbols: &[SymPat]) -> EndLook {
         are_sources(self.view);
@@ -89,7 +91,7 @@ impl<'a> BackSource for EndSource<'a> {
     }
 
     fn next_end(&self, symbols: &[SymPat], at: EndLook) -> Option<(u32, StoredPath<'_>, EndLook)> {
-        next_end(self.view, self.ends, symbols, at)
+        next_end(self.view, self.ends, first_symbols(symbols), at)
     }
 
     fn is_exported(&self, at: &NodeAt) -> bool {
@@ -104,33 +106,45 @@ fn are_sources(view: &View)
     view.row_count();
 }
 
+/// Tells that the index has all paths that its marks tell, each once and in order, which its two lists say.
+fn are_listed(ends: &EndIndex)
+    ensures root { AreListed ends.now.root.marks ends.now.root.shares }
+    ensures stack { AreListed ends.now.stack.marks ends.now.stack.shares }
+{
+    ends.root();
+    ends.stack();
+}
+
 /// Before the first path that may end at the spot and make these symbols.
-fn ends_of(view: &View, ends: &EndIndex, spot: Spot, symbols: &[SymPat]) -> EndLook
+fn ends_of(view: &View, ends: &EndIndex, spot: Spot, _symbols: &[SymPat]) -> EndLook
     requires { IsEndIndexOf view.now ends.now }
-    ensures { AreEnds (files_of view.now) spot symbols.now
-        (ends_left (files_of view.now) (asked_texts symbols.now) ends.now result) }
+    ensures { AreEnds (files_of view.now) spot _symbols.now
+        (ends_left (files_of view.now) (asked_texts (take key_size _symbols.now)) ends.now result) }
 {
     are_sources(view);
+    are_listed(ends);
     match spot {
-        Spot::Root => EndLook::Root(before_runs()),
+        Spot::Root => EndLook::Root(before_runs(0)),
         Spot::At(node) => {
             if is_exported(view, node) {
-                EndLook::Inside(node, 0, before_runs())
+                EndLook::Inside(node, 0, before_runs(0))
             } else {
-                EndLook::Inside(node, 0, behind_runs(ends.stack(), symbols))
+                EndLook::Inside(node, 0, behind_runs(ends.stack()))
             }
         }
     }
 }
 
-/// The path that comes next in the look-up, with its file's number, and where the look-up stands after it.
+/// The path that comes next in the look-up, with its file's number, and where the look-up stands after it. The symbols are
+/// the first ones that are asked for.
 fn next_end<'a>(
     view: &'a View,
     ends: &EndIndex,
     symbols: &[SymPat],
     at: EndLook,
 ) -> Option<(u32, StoredPath<'a>, EndLook)>
-    requires { IsEndIndexOf view.now ends.now }
+    requires index { IsEndIndexOf view.now ends.now }
+    requires few { length symbols.now ≤ key_size }
     ensures { MatchOption result
         (ends_left (files_of view.now) (asked_texts symbols.now) ends.now at ≡ [])
         (λ found. ends_left (files_of view.now) (asked_texts symbols.now) ends.now at
@@ -156,10 +170,11 @@ fn next_at_root<'a>(
     symbols: &[SymPat],
     at: EndRuns,
 ) -> Option<(u32, StoredPath<'a>, EndLook)>
-    requires { IsEndIndexOf view.now ends.now }
+    requires index { IsEndIndexOf view.now ends.now }
+    requires few { length symbols.now ≤ key_size }
     ensures { MatchOption result
-        (outside_left (files_of view.now) (asked_texts symbols.now) ends.now.root at ≡ [])
-        (λ found. outside_left (files_of view.now) (asked_texts symbols.now) ends.now.root at
+        (outside_left (files_of view.now) (asked_texts symbols.now) ends.now.root.shares at ≡ [])
+        (λ found. outside_left (files_of view.now) (asked_texts symbols.now) ends.now.root.shares at
         ≡ (found.0, found.1)
         ∷ ends_left (files_of view.now) (asked_texts symbols.now) ends.now found.2) }
 {
@@ -176,10 +191,11 @@ fn next_by_stack<'a>(
     symbols: &[SymPat],
     at: EndRuns,
 ) -> Option<(u32, StoredPath<'a>, EndLook)>
-    requires { IsEndIndexOf view.now ends.now }
+    requires index { IsEndIndexOf view.now ends.now }
+    requires few { length symbols.now ≤ key_size }
     ensures { MatchOption result
-        (outside_left (files_of view.now) (asked_texts symbols.now) ends.now.stack at ≡ [])
-        (λ found. outside_left (files_of view.now) (asked_texts symbols.now) ends.now.stack at
+        (outside_left (files_of view.now) (asked_texts symbols.now) ends.now.stack.shares at ≡ [])
+        (λ found. outside_left (files_of view.now) (asked_texts symbols.now) ends.now.stack.shares at
         ≡ (found.0, found.1)
         ∷ ends_left (files_of view.now) (asked_texts symbols.now) ends.now found.2) }
 {

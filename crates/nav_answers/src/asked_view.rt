@@ -10,8 +10,9 @@ use back_stitch::{BackFault, back};
 use end_index::{EndIndex, EndSource};
 use partial_path::Bounds;
 use stacks_vars::NodeAt;
-use std::alloc::Global;
+use std::alloc::{AllocError, Global};
 use std::marker::Model;
+use std::mem;
 use std::thread::Threads;
 use version_tree::View;
 use whole_search::Hit;
@@ -58,12 +59,13 @@ impl Known {
 pub struct AskedView {
     view: View,
     known: Option<Known>,
-    /// Its paths by where they end, once they were asked for.
-    ends: Option<EndIndex>,
+    /// Paths by where they end, of the view or of an earlier one, and whether they are of the view.
+    ends: EndIndex,
+    fits: bool,
 }
 
 impl Model for AskedView {
-    ghost use Rattle.std.specs.Prelude.{List, IfSome};
+    ghost use Rattle.std.specs.Prelude.{List, IfSome, IsTrue};
     ghost use Rattle.version_tree.specs.Contents.{FileRow};
     ghost use Rattle.nav_answers.specs.Sources.{graphs_seen};
     ghost use Rattle.end_index.specs.Ends.{IsEndIndexOf};
@@ -74,7 +76,7 @@ impl Model for AskedView {
     ghost view = { λ v. v.view };
 
     ghost invariant = { λ v. IfSome v.known (IsKnown (graphs_seen v.view))
-        × IfSome v.ends (IsEndIndexOf v.view) };
+        × (IsTrue v.fits → IsEndIndexOf v.view v.ends) };
 }
 
 impl AskedView {
@@ -87,14 +89,28 @@ impl AskedView {
     ghost use Rattle.nav_answers.specs.Asking.{IsKnown, IsKnownOf};
 
     /// The view, of whose references nothing is kept yet. It takes no memory.
-    pub fn of(view: View) -> AskedView
+    pub fn of(alloc: Global, view: View) -> AskedView
+        ensures { result ≡ view }
+    {
+        AskedView::after(view, EndIndex::new(alloc))
+    }
+
+    /// The same with the paths by where they end that an earlier view kept: what is asked for by where it ends is then
+    /// listed anew of such files alone as have changed, where they are few. It takes no memory.
+    pub fn after(view: View, ends: EndIndex) -> AskedView
         ensures { result ≡ view }
     {
         AskedView {
             view,
             known: None,
-            ends: None,
+            ends,
+            fits: false,
         }
+    }
+
+    /// The paths by where they end, for a later view.
+    pub fn into_ends(self) -> EndIndex {
+        self.ends
     }
 
     /// The view.
@@ -137,7 +153,7 @@ impl AskedView {
 
     /// The references from which a bounded complete run leads to the definition, in file order; `Many` where too many
     /// back lists lead to it, and else `NoMemory` where memory is refused. What is asked for by where it ends is listed
-    /// the first time, on several threads in time that follows the files, and kept.
+    /// the first time, and kept.
     pub(crate) fn leading<R: Threads + Sync>(
         &mut self,
         rt: &R,
@@ -151,14 +167,29 @@ impl AskedView {
         ensures few { OnOk result (¬ HasMany (graphs_seen self.old) node) }
         ensures same { self.new ≡ self.old }
     {
-        let ends = match self.ends.take() {
-            Some(ends) => ends,
-            None => EndIndex::of(rt, alloc, &self.view)?,
-        };
-        let found = leading_by(alloc, &self.view, &ends, node);
-        self.ends = Some(ends);
-        found
+        let fits = mem::replace(&mut self.fits, false);
+        fit_to(rt, alloc, &self.view, fits, &mut self.ends)?;
+        self.fits = true;
+        leading_by(alloc, &self.view, &self.ends, node)
     }
+}
+
+/// Makes the index that of the view, unless it is. The one error is want of memory.
+fn fit_to<R: Threads + Sync>(
+    rt: &R,
+    alloc: Global,
+    view: &View,
+    fits: bool,
+    ends: &mut EndIndex,
+) -> Result<(), AllocError>
+    requires { IsTrue fits → IsEndIndexOf view.now ends.old }
+    ensures { OnOk result (IsEndIndexOf view.now ends.new) }
+{
+    if fits {
+        return Ok(());
+    }
+    ends.fit(rt, alloc, view)?;
+    Ok(())
 }
 
 /// The same, by the paths that end outside their files.

@@ -26,6 +26,7 @@ mod viewed;
 pub use asked_view::AskedView;
 pub use calling::callers;
 pub use defining::define;
+pub use end_index::EndIndex;
 pub use found::{AskFault, At};
 pub use laws::{callers_have_one_reply, queries_have_one_reply, twins_are_found_alike};
 pub use meaning::definition_at;

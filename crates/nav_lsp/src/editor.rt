@@ -76,7 +76,7 @@ impl Editor {
     {
         match self.view.take() {
             Some(view) => Ok(view),
-            None => Ok(AskedView::of(version.view(alloc, OPERATOR)?)),
+            None => Ok(AskedView::of(alloc, version.view(alloc, OPERATOR)?)),
         }
     }
 

@@ -119,7 +119,7 @@ fn bad_file(alloc: Global, path: &str, fault: FileFault) -> Result<Reply, AllocE
 }
 
 /// The reply to a commit whose documents have these files.
-fn put_in<R, B: Commits<R>>(
+fn put_in<R: Threads + Sync, B: Commits<R>>(
     rt: &R,
     alloc: Global,
     desk: &mut Desk,
@@ -141,5 +141,6 @@ fn put_in<R, B: Commits<R>>(
     let edits = edits_from(alloc, drafts, files)?;
     let reply = judge(rt, alloc, desk, board, base, &edits)?;
     desk.sweep_after(&reply);
+    desk.list_ends(rt, alloc, &board.pinned().version, edits.len());
     Ok(reply)
 }

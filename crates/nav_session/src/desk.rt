@@ -4,11 +4,13 @@ ghost use Rattle.version_tree.specs.Contents.{granted_rows};
 ghost use Rattle.nav_session.specs.Desks.{is_accepted, max_cost, share, shared_cost};
 ghost use Rattle.nav_session.specs.Inside.{change_refusal};
 
-use nav_answers::AskedView;
+use nav_answers::{AskedView, EndIndex};
 use nav_proto::{PlainError, Reply};
 use path_store::PathStore;
 use std::alloc::{AllocError, Global};
 use std::marker::Model;
+use std::mem;
+use std::thread::Threads;
 use version_tree::{UserText, Version};
 
 /// The most that the documents may cost that a desk keeps which shares with none: the weights of their paths and their
@@ -18,6 +20,10 @@ pub const MAX_COST: u64 = 48_000_000;
 /// The most that those may cost which several desks keep together that share. It is less, since each of their sessions has
 /// a thread of its own, whose freed memory the others don't use.
 pub const SHARED_COST: u64 = 24_000_000;
+
+/// A commit of so many edits lists paths by where they end, so that the first `callers` behind it needn't: that takes some
+/// hundredth of such a commit, and a tenth of one of few edits.
+const MANY_EDITS: usize = 64;
 
 /// The user that may change a version.
 const OPERATOR: &str = "operator";
@@ -32,6 +38,8 @@ pub struct Desk {
     user: Option<UserText>,
     view: Option<AskedView>,
     keeps: u64,
+    /// Paths by where they end, for the next view: what an earlier one kept of them, or a commit of many documents.
+    ends: EndIndex,
 }
 
 impl Model for Desk {
@@ -56,6 +64,7 @@ impl Desk {
             user: None,
             view: None,
             keeps: MAX_COST,
+            ends: EndIndex::new(alloc),
         }
     }
 
@@ -72,6 +81,7 @@ impl Desk {
             user: None,
             view: None,
             keeps: SHARED_COST / desks,
+            ends: EndIndex::new(alloc),
         }
     }
 
@@ -80,7 +90,7 @@ impl Desk {
         ensures { self.new ≡ record self.old { user = None; view = None } }
     {
         self.user = None;
-        self.view = None;
+        self.forget_view();
     }
 
     /// Names the user, who has looked at nothing yet.
@@ -88,15 +98,17 @@ impl Desk {
         ensures { self.new ≡ record self.old { user = Some user; view = None } }
     {
         self.user = Some(user);
-        self.view = None;
+        self.forget_view();
     }
 
     /// Forgets what the user sees, before another version is pinned. Whoever moves a board's pin between two lines, or
-    /// goes on at another board, calls it first. It takes no memory.
+    /// goes on at another board, calls it first. Paths by where they end stay for the next view. It takes no memory.
     pub fn forget_view(&mut self)
         ensures { self.new ≡ record self.old { view = None } }
     {
-        self.view = None;
+        if let Some(view) = self.view.take() {
+            self.ends = view.into_ends();
+        }
     }
 
     /// Whether a user is named.
@@ -134,7 +146,30 @@ impl Desk {
     {
         match self.view.take() {
             Some(view) => Ok(view),
-            None => Ok(AskedView::of(version.view(alloc, self.user_text())?)),
+            None => {
+                let view = version.view(alloc, self.user_text())?;
+                let ends = mem::replace(&mut self.ends, EndIndex::new(alloc));
+                Ok(AskedView::after(view, ends))
+            }
+        }
+    }
+
+    /// Lists what the user sees of the version by where its paths end, for the next view, where a commit of many edits made
+    /// it; nothing where memory is refused.
+    pub(crate) fn list_ends<R: Threads + Sync>(
+        &mut self,
+        rt: &R,
+        alloc: Global,
+        version: &Version,
+        edits: usize,
+    )
+        ensures { self.new ≡ self.old }
+    {
+        if edits < MANY_EDITS {
+            return;
+        }
+        if let Ok(view) = version.view(alloc, self.user_text()) {
+            let _listed = self.ends.fit(rt, alloc, &view);
         }
     }
 

@@ -46,5 +46,6 @@ pub mod HighJoints
 pub mod CutJoints
 pub mod Returned
 pub mod OfferedStored
+mod Marked
 mod Pooling
 mod Points

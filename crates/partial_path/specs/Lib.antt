@@ -15,6 +15,8 @@ pub mod Pooled
 pub mod Starts
 pub mod Tables
 pub mod Keys
+pub mod Marks
+pub mod Ends
 pub mod Heads
 pub mod Inside
 pub mod Sources

@@ -1,6 +1,6 @@
 -- How a file's paths are kept: their parts in pools, and a row for each path that tells where its parts stand. No
 -- public clause cites this.
-use Rattle.std.specs.Prelude.{◌≡◌, ℕ, ◌+◌, ◌≤◌, List, ◌++◌, map, take, drop, length}
+use Rattle.std.specs.Prelude.{◌≡◌, ℕ, zero, suc, ◌+◌, ◌≤◌, List, ◌++◌, map, take, drop, length}
 use Rattle.stacks_vars.specs.declared.scopes.NodeAt.{NodeAt}
 use Rattle.stacks_vars.specs.declared.patterns.SymPat.{SymPat}
 use Rattle.stacks_vars.specs.declared.patterns.Pre.{Pre}
@@ -16,10 +16,6 @@ use Rattle.partial_path.specs.declared.rule.End.{End}
 use Rattle.partial_path.specs.declared.rule.End.TheVariants as end
 use Rattle.partial_path.specs.declared.path_row.RowStart.{RowStart}
 use Rattle.partial_path.specs.declared.path_row.RowStart.TheVariants.{Before, Root, After}
-use Rattle.partial_path.specs.declared.path_row.RowEnd.{RowEnd}
-use Rattle.partial_path.specs.declared.path_row.RowEnd.TheVariants as row_end
-use Rattle.partial_path.specs.declared.path_row.RowTail.{RowTail}
-use Rattle.partial_path.specs.declared.path_row.RowTail.TheVariants as row_tail
 use Rattle.partial_path.specs.declared.path_row.PathRow.{PathRow}
 use Rattle.partial_path.specs.declared.pools.Pools.{Pools}
 use Rattle.partial_path.specs.Spots.{node_at}
@@ -45,17 +41,17 @@ start_of (Before node) = start.Before (node_at 0 node)
 start_of Root = start.After spot.Root
 start_of (After node) = start.After (spot.At (node_at 0 node))
 
--- its end
-abbrev pub end_of : RowEnd → End
-end_of row_end.Root = end.At spot.Root
-end_of (row_end.At node) = end.At (spot.At (node_at 0 node))
-end_of row_end.ByStack = end.ByStack
+-- its end, which is kept as a number
+abbrev pub end_of : ℕ → End
+end_of zero = end.At spot.Root
+end_of (suc zero) = end.ByStack
+end_of (suc (suc node)) = end.At (spot.At (node_at 0 node))
 
--- the variable behind the scopes that it makes
-abbrev pub kept_tail : RowTail → Tail
-kept_tail row_tail.Nil = tail.Nil
-kept_tail row_tail.Front = tail.Front
-kept_tail (row_tail.Item place) = tail.Item place
+-- the variable behind the scopes that it makes, which is kept as a number
+abbrev pub kept_tail : ℕ → Tail
+kept_tail zero = tail.Nil
+kept_tail (suc zero) = tail.Front
+kept_tail (suc (suc place)) = tail.Item place
 
 -- a precondition of these symbols and scopes
 abbrev pub pre_of : List SymPat → List NodeAt → Pre

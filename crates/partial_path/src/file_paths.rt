@@ -1,3 +1,4 @@
+use crate::end_table::{EndMark, EndTable};
 use crate::offers::{FileOffers, next_offer};
 use crate::path::PartialPath;
 use crate::rule::Start;
@@ -22,10 +23,13 @@ pub struct FilePaths {
     weight: u32,
     /// Where the paths of each start and first symbol stand.
     starts: StartTable,
+    /// Which of them end outside the file.
+    ends: EndTable,
 }
 
 impl Model for FilePaths {
     ghost use Rattle.partial_path.specs.PathSets.{FileRules, file_rules};
+    ghost use Rattle.partial_path.specs.Ends.{AreEndMarks};
     ghost use Rattle.partial_path.specs.Inside.{IsStored};
 
     ghost Value = { FileRules };
@@ -33,7 +37,8 @@ impl Model for FilePaths {
     ghost view = { λ f. file_rules f.graph f.paths f.weight };
 
     ghost invariant = { λ f. IsStored (file_rules f.graph f.paths f.weight) f.starts.heads.items
-        f.starts.before.items f.starts.nodes };
+        f.starts.before.items f.starts.nodes
+        × AreEndMarks f.paths f.ends.root.items f.ends.stack.items };
 }
 
 impl FilePaths {
@@ -50,6 +55,7 @@ impl FilePaths {
     ghost use Rattle.partial_path.specs.Starts.{IsByStart, rules_at};
     ghost use Rattle.partial_path.specs.Keys.{IsByKey, key_size, rules_asking, texts};
     ghost use Rattle.partial_path.specs.Offers.{offers_left};
+    ghost use Rattle.partial_path.specs.Ends.{end_marks, ends_at_root, ends_by_stack};
 
     /// The paths of this file, sorted by their starts, and those of one start by their keys, with their parts
     /// put together in pools. The one error is want of memory for these, or of numbers for so many parts.
@@ -73,11 +79,13 @@ impl FilePaths {
         sort_paths(&mut paths);
         let paths = KeptPaths::of(alloc, paths)?;
         let starts = StartTable::of(alloc, &paths.lent(), graph.node_count());
+        let ends = EndTable::of(alloc, &paths.lent())?;
         Ok(FilePaths {
             graph,
             paths,
             weight,
             starts,
+            ends,
         })
     }
 
@@ -140,6 +148,20 @@ impl FilePaths {
         ensures sets { AreFileRules self.now }
     {
         next_offer(&self.paths.lent(), &self.starts, symbols, at)
+    }
+
+    /// The paths that end at the root, in their order.
+    pub fn root_ends(&self) -> &[EndMark]
+        ensures { result.now ≡ end_marks ends_at_root 0 self.now.rules }
+    {
+        self.ends.root.as_slice()
+    }
+
+    /// The paths that end by the stack and make no scope, in their order.
+    pub fn stack_ends(&self) -> &[EndMark]
+        ensures { result.now ≡ end_marks ends_by_stack 0 self.now.rules }
+    {
+        self.ends.stack.as_slice()
     }
 
     /// How many edges all walks of the file have together.

@@ -5,6 +5,7 @@
 mod applying;
 mod bounds;
 mod config;
+mod end_table;
 mod fault;
 mod file_list;
 mod file_paths;
@@ -14,6 +15,7 @@ mod heads;
 mod laws;
 mod lent_config;
 mod list_paths;
+mod marks;
 mod matching;
 mod moving;
 mod offers;
@@ -33,6 +35,7 @@ mod stored_paths;
 
 pub use bounds::{Bounds, MAX_RUNS};
 pub use config::{Config, EdgeAt, Spot};
+pub use end_table::{EndMark, ends_by_stack};
 pub use fault::PathFault;
 pub use file_list::{FileList, ListOffers};
 pub use file_paths::FilePaths;
@@ -45,6 +48,7 @@ pub use laws::{
 };
 pub use lent_config::LentConfig;
 pub use list_paths::asks;
+pub use marks::{end_key, with_symbol};
 pub use moving::file_zero_moves;
 pub use offers::FileOffers;
 pub use path::{PartialPath, PathParts};

@@ -18,6 +18,8 @@ pub fn file_zero_moves()
 {}
 
 impl<'a> StoredPath<'a> {
+    ghost use Rattle.partial_path.specs.Rules.{IsRule};
+
     /// The path with `base` added to each file number, to be applied as it is. The one error is want of memory; the cost follows
     /// the path's size, and no symbol is copied.
     pub fn moved(&self, alloc: Global, base: u32) -> Result<PartialPath, AllocError>
@@ -25,12 +27,41 @@ impl<'a> StoredPath<'a> {
         ensures moved { IfOk result (λ path. path ≡ moved base self.now) }
         ensures fits { IfOk result (Fits 0) }
     {
-        let start = moved_start(base, self.start());
-        let end = moved_end(base, self.end());
+        let (start, end) = self.moved_ends(base);
         let pre = moved_pre(alloc, base, self.asked(), self.fixed())?;
         let post = moved_post(alloc, base, self.made(), self.scopes(), self.tail())?;
-        let edges = moved_edges(alloc, base, self.edge_numbers())?;
+        let edges = self.moved_edges(alloc, base, 0)?;
         Ok(PartialPath::of(start, end, pre, post, self.peak(), edges))
+    }
+
+    /// The start and the end of the moved path.
+    pub fn moved_ends(&self, base: u32) -> (Start, End)
+        requires { CanMove base self.now }
+        ensures start { result.0 ≡ moved_start base self.now.start }
+        ensures end { result.1 ≡ moved_end base self.now.end }
+        ensures rule { IsRule (moved base self.now) }
+    {
+        (moved_start(base, self.start()), moved_end(base, self.end()))
+    }
+
+    /// The edges of the moved path, with room for so many more. The one error is want of memory.
+    pub fn moved_edges(
+        &self,
+        alloc: Global,
+        base: u32,
+        more: usize,
+    ) -> Result<Vec<EdgeAt>, AllocError>
+        ensures { IfOk result (λ edges. edges.items ≡ map (moved_edge base) self.now.edges) }
+    {
+        let numbers = self.edge_numbers();
+        let mut edges = Vec::with_capacity(alloc, numbers.len().saturating_add(more))?;
+        for edge in numbers {
+            edges.push(EdgeAt {
+                file: base,
+                edge: *edge,
+            })?;
+        }
+        Ok(edges)
     }
 }
 
@@ -72,21 +103,6 @@ fn moved_post(
             tail,
         },
     })
-}
-
-/// The edges of file `base` with these numbers. The one error is want of memory.
-fn moved_edges(alloc: Global, base: u32, numbers: &[u32]) -> Result<Vec<EdgeAt>, AllocError>
-    ensures { IfOk result
-        (λ edges. edges.items ≡ map (moved_edge base) (map own_edge numbers.now)) }
-{
-    let mut edges = Vec::with_capacity(alloc, numbers.len())?;
-    for edge in numbers {
-        edges.push(EdgeAt {
-            file: base,
-            edge: *edge,
-        })?;
-    }
-    Ok(edges)
 }
 
 /// The start with `base` added to its file's number.

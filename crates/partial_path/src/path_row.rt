@@ -1,5 +1,5 @@
 //! What is kept of each path of a file beside its parts, which stand in pools.
-ghost use Rattle.std.specs.Prelude.{◌≡◌, ℕ, IfOk};
+ghost use Rattle.std.specs.Prelude.{◌≡◌, ◌+◌, ℕ, IfOk};
 ghost use Rattle.partial_path.specs.FileNumbers.{StartIn, EndIn};
 ghost use Rattle.partial_path.specs.Pooled.{start_of, end_of, kept_tail};
 
@@ -19,31 +19,9 @@ pub enum RowStart {
     After(u16),
 }
 
-/// Where it ends.
-#[derive(Clone, Copy, Debug)]
-pub enum RowEnd {
-    /// At the root.
-    Root,
-    /// At this node.
-    At(u16),
-    /// At the scope in front of the scope stack, which is taken off.
-    ByStack,
-}
-
-/// The variable behind the scopes that it makes.
-#[derive(Clone, Copy, Debug)]
-pub enum RowTail {
-    /// Nothing.
-    Nil,
-    /// What followed the scopes that it asks for.
-    Front,
-    /// What followed the scopes attached to the symbol at this place of those that it asks for.
-    Item(u16),
-}
-
-/// A path of one file: its ends, its peak, the variable behind the scopes that it makes, and where its parts
-/// stand in the pools. It has 40 bytes: numbers of 16 bits serve for nodes, for how many parts a path has and for its
-/// peak, since a graph has at most 16,384 nodes, and a stored path goes through each at most once.
+/// A path of one file: its ends, its peak, the variable behind the scopes that it makes, and where its parts stand in the
+/// pools. It has 36 bytes: numbers of 16 bits serve for nodes, for how many parts a path has and for its peak, since a
+/// graph has at most 16,384 nodes, and a stored path goes through each at most once.
 #[derive(Clone, Copy, Debug)]
 pub struct PathRow {
     /// From which place on its parts stand: the symbols that it asks for, those that it makes, its scopes, and
@@ -53,8 +31,12 @@ pub struct PathRow {
     pub nodes_from: u32,
     pub edges_from: u32,
     pub start: RowStart,
-    pub end: RowEnd,
-    pub tail: RowTail,
+    /// Where it ends: 0 at the root, 1 at the scope in front of the scope stack, which is taken off, and from 2 on at the
+    /// node with so much less.
+    pub end: u16,
+    /// The variable behind the scopes that it makes: 0 for none, 1 for what followed the scopes that it asks for, and from
+    /// 2 on for what followed those attached to the symbol that it asks for at the place with so much less.
+    pub tail: u16,
     pub peak: u16,
     /// How many symbols it asks for, and how many it makes.
     pub asked: u16,
@@ -78,26 +60,36 @@ pub fn row_start(start: Start) -> Result<RowStart, AllocError>
 }
 
 /// The end, as a row of its file keeps it. The error comes where the node has no number of 16 bits.
-pub fn row_end(end: End) -> Result<RowEnd, AllocError>
+pub fn row_end(end: End) -> Result<u16, AllocError>
     requires { EndIn (λ file. file ≡ 0) end }
     ensures { IfOk result (λ row. end_of row ≡ end) }
 {
     match end {
-        End::At(Spot::Root) => Ok(RowEnd::Root),
-        End::At(Spot::At(node)) => Ok(RowEnd::At(short(node.node)?)),
-        End::ByStack => Ok(RowEnd::ByStack),
+        End::At(Spot::Root) => Ok(0),
+        End::At(Spot::At(node)) => behind_two(node.node),
+        End::ByStack => Ok(1),
     }
 }
 
 /// The variable, as a row keeps it. The error comes where the symbol's place has no number of 16 bits.
-pub fn row_tail(tail: Tail) -> Result<RowTail, AllocError>
+pub fn row_tail(tail: Tail) -> Result<u16, AllocError>
     ensures { IfOk result (λ row. kept_tail row ≡ tail) }
 {
     match tail {
-        Tail::Nil => Ok(RowTail::Nil),
-        Tail::Front => Ok(RowTail::Front),
-        Tail::Item(place) => Ok(RowTail::Item(short(place)?)),
+        Tail::Nil => Ok(0),
+        Tail::Front => Ok(1),
+        Tail::Item(place) => behind_two(place),
     }
+}
+
+/// The number and two more, in 16 bits. The error comes where it has more.
+fn behind_two(number: u32) -> Result<u16, AllocError>
+    ensures { IfOk result (λ short. short ≡ number + 2) }
+{
+    if number >= 65_534 {
+        return Err(AllocError);
+    }
+    Ok(number as u16 + 2)
 }
 
 /// The number in 16 bits. The error comes where it has more.
@@ -122,24 +114,24 @@ pub fn start_of(start: RowStart) -> Start
 }
 
 /// The end that a row keeps.
-pub fn end_of(end: RowEnd) -> End
+pub fn end_of(end: u16) -> End
     ensures { result ≡ end_of end }
 {
     match end {
-        RowEnd::Root => End::At(Spot::Root),
-        RowEnd::At(node) => End::At(Spot::At(own_node(node))),
-        RowEnd::ByStack => End::ByStack,
+        0 => End::At(Spot::Root),
+        1 => End::ByStack,
+        node => End::At(Spot::At(own_node(node - 2))),
     }
 }
 
 /// The variable that a row keeps.
-pub fn kept_tail(tail: RowTail) -> Tail
+pub fn kept_tail(tail: u16) -> Tail
     ensures { result ≡ kept_tail tail }
 {
     match tail {
-        RowTail::Nil => Tail::Nil,
-        RowTail::Front => Tail::Front,
-        RowTail::Item(place) => Tail::Item(place as u32),
+        0 => Tail::Nil,
+        1 => Tail::Front,
+        place => Tail::Item(place as u32 - 2),
     }
 }
 

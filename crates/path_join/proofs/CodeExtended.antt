@@ -66,7 +66,7 @@ grown_symbols-nothing n [] = refl
 grown_symbols-nothing n (out ∷ outs) =
     same_cons _ _ _ _ (ap (out_of out.symbol) (grown_attached-nothing n out.scopes)) (grown_symbols-nothing n outs)
 
-abbrev fixed_of : List NodeAt → ScopePat
+abbrev pub fixed_of : List NodeAt → ScopePat
 fixed_of scopes = record { fixed = scopes }
 
 longer_scopes-nothing : (pat : ScopePat) → longer_scopes [] pat ≡ pat
@@ -86,7 +86,7 @@ grow_nothing-nothing n Nil = refl
 grow_nothing-nothing n Front = refl
 grow_nothing-nothing n (Item i) = grow-nothing (nothing_known n) i
 
-met-nothing : (n : ℕ) (out : ScopeOut) → meet_scopes (nothing_known n) [] out ≡ Some (nothing_known n)
+pub met-nothing : (n : ℕ) (out : ScopeOut) → meet_scopes (nothing_known n) [] out ≡ Some (nothing_known n)
 met-nothing n out = grow_nothing-nothing n out.tail
 
 drop-nil : {X : Type 0} (n : ℕ) → drop {A = X} n [] ≡ []
@@ -101,20 +101,20 @@ pre_of symbols scopes = record { symbols = symbols; scopes = scopes }
 abbrev bound_of : ScopeOut → List ScopeOut → Bound
 bound_of front items = record { front = front; items = items }
 
-abbrev nothing_of : Rule → Rule → Rests
+abbrev pub nothing_of : Rule → Rule → Rests
 nothing_of p q = nothing_known (length (wide_pre p q))
 
-abbrev bound_plain : Rule → Rule → Bound
+abbrev pub bound_plain : Rule → Rule → Bound
 bound_plain p q = bound_of p.post.scopes (bound_items (nothing_of p q) q.pre.symbols (wide_post p q))
 
 abbrev post_with : Rule → Rule → Bound → List SymOut → Post
 post_with p q bound left = post_of (map (put_symbol bound) q.post.symbols ++ left) (put_scopes bound q.post.scopes)
 
-abbrev joined_plain : Rule → Rule → Rule
+abbrev pub joined_plain : Rule → Rule → Rule
 joined_plain p q =
     rule_of p.start q.end (pre_of (wide_pre p q) p.pre.scopes) (post_with p q (bound_plain p q) (drop (length q.pre.symbols) (wide_post p q))) (joined_peak p q) (p.edges ++ q.edges)
 
-joined-plain : (p q : Rule) → joined_by p q (nothing_of p q) (bound_by p q [] (nothing_of p q)) ≡ joined_plain p q
+pub joined-plain : (p q : Rule) → joined_by p q (nothing_of p q) (bound_by p q [] (nothing_of p q)) ≡ joined_plain p q
 joined-plain p q =
     let items : List ScopeOut = bound_items (nothing_of p q) q.pre.symbols (wide_post p q) in
     let left : List SymOut = drop (length q.pre.symbols) (wide_post p q) in

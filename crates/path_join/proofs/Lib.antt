@@ -5,7 +5,7 @@
 -- are handed on), CodeBound (what variables stand for), CodeWritten (the joined conditions). `unit` and `opening`:
 -- rule and files on CodeExact, which FilesLaws serves, and peak on CodeUnits. `extend_in_place`: both clauses on
 -- CodeExtended: a path made longer where it lies is the join by its definition, and so on Joined. `extend` and
--- `extended` call it.
+-- `extended` call it. `join_stored`: PlainLaws, which CodeExtended serves, and Joined.
 pub mod CodePast
 pub mod CodeTables
 pub mod CodeMet
@@ -37,3 +37,4 @@ pub mod CodeUnits
 pub mod CodeExact
 pub mod FilesLaws
 pub mod CodeExtended
+pub mod PlainLaws

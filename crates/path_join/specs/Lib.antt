@@ -4,3 +4,4 @@ pub mod Tables
 pub mod Units
 pub mod Extended
 pub mod Extending
+pub mod Plain

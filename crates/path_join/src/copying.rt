@@ -1,4 +1,4 @@
-ghost use Rattle.std.specs.Prelude.{◌≡◌, IfOk};
+ghost use Rattle.std.specs.Prelude.{◌≡◌, ◌++◌, IfOk, OnOk};
 ghost use Rattle.partial_path.specs.Rules.{IsRule};
 ghost use Rattle.path_join.specs.Extended.{rule_apart};
 
@@ -57,10 +57,22 @@ fn copied_pats(alloc: Global, pats: &[SymPat]) -> Result<Listed<SymPat>, AllocEr
     ensures { IfOk result (λ copy. copy ≡ pats.now) }
 {
     let mut symbols = Vec::with_capacity(alloc, room_for(pats.len()))?;
+    add_pats(alloc, &mut symbols, pats)?;
+    Ok(Listed::of(symbols))
+}
+
+/// Puts the symbols asked for behind the others, once more. The one error is want of memory.
+pub(crate) fn add_pats(
+    alloc: Global,
+    symbols: &mut Vec<SymPat>,
+    pats: &[SymPat],
+) -> Result<(), AllocError>
+    ensures { OnOk result (symbols.new.items ≡ symbols.old.items ++ pats.now) }
+{
     for pat in pats {
         symbols.push(copied_pat(alloc, pat)?)?;
     }
-    Ok(Listed::of(symbols))
+    Ok(())
 }
 
 /// The symbols made, once more.

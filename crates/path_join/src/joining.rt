@@ -1,4 +1,4 @@
-ghost use Rattle.std.specs.Prelude.{◌≡◌, ◌++◌, ◌+◌, ◌<◌, ◌^◌, length, IfOk, IfSome, Some, None};
+ghost use Rattle.std.specs.Prelude.{◌≡◌, ◌++◌, ◌+◌, ◌-◌, ◌<◌, ◌^◌, length, max, IfOk, IfSome, Some, None};
 ghost use Rattle.partial_path.specs.Rules.{Rule, IsRule};
 ghost use Rattle.path_join.specs.Joins.{IsJoin, NonePasses, joined_peak};
 ghost use Rattle.path_join.specs.Joining.{can_end, join_rules, wide_pre};
@@ -84,10 +84,21 @@ fn joined_peak(p: &PartialPath, q: &PartialPath) -> u32
     requires { joined_peak p.now q.now < 2 ^ 32 }
     ensures { result ≡ joined_peak p.now q.now }
 {
-    let made = p.post().symbols.len();
-    let asked = q.pre().symbols.len();
-    let first = p.peak() as usize + asked.saturating_sub(made);
-    let second = q.peak() as usize + made.saturating_sub(asked);
+    peak_of(
+        p.peak(),
+        p.post().symbols.len(),
+        q.pre().symbols.len(),
+        q.peak(),
+    )
+}
+
+/// The same by the peak of the first path, how many symbols it makes, how many the second asks for, and its peak.
+pub(crate) fn peak_of(first: u32, made: usize, asked: usize, second: u32) -> u32
+    requires { max (first + (asked - made)) (second + (made - asked)) < 2 ^ 32 }
+    ensures { result ≡ max (first + (asked - made)) (second + (made - asked)) }
+{
+    let first = first as usize + asked.saturating_sub(made);
+    let second = second as usize + made.saturating_sub(asked);
     first.max(second) as u32
 }
 

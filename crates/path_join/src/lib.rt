@@ -10,9 +10,11 @@ mod joint;
 mod known;
 mod meeting;
 mod sides;
+mod stored;
 mod units;
 mod writing;
 
 pub use extending::{extend, extend_in_place, extended, whole};
 pub use joining::join;
+pub use stored::join_stored;
 pub use units::{opening, unit};

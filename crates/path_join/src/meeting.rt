@@ -19,7 +19,7 @@ pub(crate) fn asked_scopes(
     ensures { IfOk result (λ asked. asked ≡ asked_scopes end (start_spot start) fixed.now) }
 {
     let mut asked = Listed::new(alloc);
-    match (end, spot_of(start)) {
+    match (end, start_spot(start)) {
         (End::At(end), start) if end.same(start) => {}
         (End::ByStack, Spot::At(node)) => asked.push(node)?,
         _ => return Ok(None),
@@ -29,7 +29,7 @@ pub(crate) fn asked_scopes(
 }
 
 /// The spot at which a path begins.
-fn spot_of(start: Start) -> Spot
+pub(crate) fn start_spot(start: Start) -> Spot
     ensures { result ≡ start_spot start }
 {
     match start {

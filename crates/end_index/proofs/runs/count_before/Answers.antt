@@ -6,5 +6,5 @@ use Rattle.end_index.proofs.runs.count_before.Goals as goal
 
 pub returns : goal.returns
 returns c =
-    prefix_from_point (is_before_run c.args.mark c.args.asked) _ _ c.partition_point.ensures.bound
-    (IsPartitionPoint-from_clause (is_before_run c.args.mark c.args.asked) _ _ c.partition_point.ensures.partitioned c.requires (λ a r q k. search rules))
+    prefix_from_point (is_before_run c.args.key) _ _ c.partition_point.ensures.bound
+    (IsPartitionPoint-from_clause (is_before_run c.args.key) _ _ c.partition_point.ensures.partitioned c.requires (λ a r q k. search rules))

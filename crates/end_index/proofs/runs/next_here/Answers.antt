@@ -1,8 +1,9 @@
-use Rattle.std.proofs.Common.{◌∙◌, sym, ap, arith}
-use Rattle.std.specs.Ordering.{is_eq}
-use Rattle.end_index.proofs.Ordered.{next_is}
+use Rattle.std.proofs.Common.{arith}
+use Rattle.end_index.proofs.Ordered.{next_is, next_is_other}
 use Rattle.end_index.proofs.runs.next_here.Goals as goal
 
-pub returns-then-is_eq-clause-value : goal.returns-then-is_eq-clause-value
-returns-then-is_eq-clause-value c =
-    next_is c.args.at c.args.places.now _ (omega (arith, c.if-at-places.false)) (sym (ap is_eq c.side.ensures) ∙ sym c.is_eq.ensures ∙ c.if-is_eq.true)
+pub returns-then-place-at-clause-value : goal.returns-then-place-at-clause-value
+returns-then-place-at-clause-value c = next_is c.args.at c.args.places.now _ (omega (arith, c.if-at-places.false)) c.if-place-at.true
+
+pub returns-else-place-at-clause-value : goal.returns-else-place-at-clause-value
+returns-else-place-at-clause-value c = next_is_other c.args.at c.args.places.now _ (omega (arith, c.if-at-places.false)) c.if-place-at.false

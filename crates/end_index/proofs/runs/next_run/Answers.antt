@@ -7,8 +7,8 @@ use Rattle.end_index.proofs.Ordered.{run_behind, run_begun}
 use Rattle.end_index.proofs.runs.next_run.Goals as goal
 
 -- the run has a path: its first comes next
-pub returns-in-Some : goal.returns-in-Some
-returns-in-Some c =
+pub returns-in-Some-clause-next : goal.returns-in-Some-clause-next
+returns-in-Some-clause-next c =
     c.loop-asked.invariant
     ∙ run_behind c.args.symbols.now c.loop-asked.mark c.loop-asked.asked c.with_symbol-mark.result _ c.args.places.now c.loop-asked-test.true (c.with_symbol-mark.ensures)
     ∙ run_begun (asked_texts c.args.symbols.now) c.run_of-run.result c.with_symbol-mark.result (c.loop-asked.asked + 1) c.args.places.now c.in-Some.place c.run_of-run.ensures.run c.run_of-run.ensures.mark c.run_of-run.ensures.asked
