@@ -1,5 +1,5 @@
 -- The search goes on from one rule to the next, and what it has found when none is left.
-use Rattle.std.proofs.Common.{◌≡◌, ◌≤◌, ◌<◌, refl, sym, ap, ◌∙◌, subst, ℕ, suc, ◌+◌, ◌-◌, List, [], ◌∷◌, ◌++◌, map, length, Bool, true, false, Some, arith, length-append, append_assoc, ◌⊎◌, inl, inr}
+use Rattle.std.proofs.Common.{◌≡◌, ◌≤◌, ◌<◌, refl, sym, ap, ◌∙◌, subst, ℕ, suc, ◌+◌, ◌-◌, List, [], ◌∷◌, ◌++◌, map, filter, length, Bool, true, false, Some, arith, length-append, append_assoc, append-nil, ◌⊎◌, inl, inr}
 use Rattle.std.specs.Prelude.{All, IsTrue, Contains, ◌↔◌, ◌&&◌}
 use Rattle.std.specs.Option.{option_map}
 use Rattle.std.proofs.lemmas.Bool.{and_parts, and_from}
@@ -25,11 +25,12 @@ use Rattle.list_facts.specs.Members.{IsIn}
 use Rattle.list_facts.specs.Apart.{IsApart}
 use Rattle.list_facts.proofs.Members.{IsIn-flat_map, IsIn-flat_map_from, IsIn-from_Contains, Contains-from_IsIn}
 use Rattle.list_facts.proofs.Apart.{IsApart-append_left}
+use Rattle.list_facts.proofs.Tests.{filter-short}
 use Rattle.back_stitch.specs.Lists.{most_lists, at_start, LeadTo, IsBackList, HasMany, BeginsList}
 use Rattle.back_stitch.specs.Sources.{AreEnds}
-use Rattle.back_stitch.specs.Joined.{is_none}
+use Rattle.back_stitch.specs.Joined.{is_after, is_none}
 use Rattle.back_stitch.specs.Paths.{IsBackPath}
-use Rattle.back_stitch.specs.Held.{IsBack, IsHeld, AreHeld, begun_at, begun, AreThose, in_front, HasExtended, IsOverfull, HasGone, IsPast, AreListed}
+use Rattle.back_stitch.specs.Held.{IsBack, IsHeld, AreHeld, begun_at, begun, AreThose, in_front, HasExtended, IsOverfull, HasGone, IsPast, AreListed, goes_on}
 use Rattle.back_stitch.proofs.Matched.{least, least_item, met_many}
 use Rattle.back_stitch.proofs.Applied.{applied_by}
 use Rattle.back_stitch.proofs.Stood.{leads_chain, stands_least, leads_of, list_of, paths_of, rest_of, nil_is, fit, IsFit}
@@ -166,22 +167,60 @@ module _ (files : List FileRules) (d : NodeAt) (sources : All IsSourceFile files
     pub searched : IsSearched files d sources opens noted rules count rows
     pub held : AreHeld files d opens work
 
-  pub going_first : (listed : List P) (new : ℕ) (after : List NodeAt) (work : List Rule) → AreEnds files (At d) [] listed
-      → HasExtended files d [] listed 0 new [] after [] work → IsGoing work new after
-  going_first listed new after work ends (added, rules, e, w) = record {
-    opens = made files d sources [] added;
-    noted = made files d sources [] added;
-    rules = rules;
-    searched = searched_first files d sources added listed rules new after (listed_apart files d sources (At d) [] listed ends) (lists_first files d sources listed ends) e;
-    held = subst (AreHeld files d (made files d sources [] added)) (sym w) e.held;
-  }
-
   -- a rule that begins before a reference has nothing in front
   none_before : (paths : List P) (j : Rule) (r : NodeAt) → IsHeld files d paths j → j.start ≡ Before r → (p : P) → IsBack files d (p ∷ paths) → ⊥
   none_before [] j r held start p back = held.joined.begins
   none_before (q ∷ paths) j r held start p (s, back) =
       let rest = rest_of files d s p q paths sources back in
       let e : Before r ≡ After rest.at = sym start ∙ held.joined.begins ∙ rest.begins in cc
+
+  -- a rule that goes on, and one that doesn't
+  filter_yes : (j : Rule) (rules : List Rule) → goes_on j ≡ true → filter goes_on (j ∷ rules) ≡ j ∷ filter goes_on rules
+  filter_yes j rules is = rw is refl
+
+  filter_no : (j : Rule) (rules : List Rule) → goes_on j ≡ false → filter goes_on (j ∷ rules) ≡ filter goes_on rules
+  filter_no j rules is = rw is refl
+
+  -- of the lists behind those of before the ones that go on, whose rules are these
+  record AreOpen (before : List (List P)) (work : List Rule) (noted : List (List P)) (rules : List Rule) (count : ℕ) (rows : List NodeAt) : Type 0 where
+    opens : List (List P)
+    held : AreHeld files d opens work
+    searched : IsSearched files d sources (before ++ opens) noted rules count rows
+
+  put_aside : (before all noted : List (List P)) (these rules : List Rule) (count : ℕ) (rows : List NodeAt) → AreHeld files d all these
+      → IsSearched files d sources (before ++ all) noted rules count rows → AreOpen before (filter goes_on these) noted rules count rows
+  put_aside before [] noted [] rules count rows h s = record { opens = []; held = tt; searched = s }
+  put_aside before [] noted (j ∷ these) rules count rows h s = absurd h
+  put_aside before (paths ∷ all) noted [] rules count rows h s = absurd h
+  put_aside before (paths ∷ all) noted (j ∷ these) rules count rows h s =
+      by j.start refl (λ others t. put_aside others all noted these rules count rows h.1 t)
+    where
+      by : (start : Start) → j.start ≡ start
+          → ((others : List (List P)) → IsSearched files d sources (others ++ all) noted rules count rows → AreOpen others (filter goes_on these) noted rules count rows)
+          → AreOpen before (filter goes_on (j ∷ these)) noted rules count rows
+      by (Before r) is on =
+          subst (λ (js : List Rule). AreOpen before js noted rules count rows) (sym (filter_no j these (ap is_after is)))
+          (on before (searched_past files d sources before all noted rules count rows paths s (none_before paths j r h.0 is)))
+      by (After x) is on =
+          let o = on (before ++ paths ∷ []) (subst (λ (os : List (List P)). IsSearched files d sources os noted rules count rows) (sym (append_assoc before (paths ∷ []) all)) s) in
+          subst (λ (js : List Rule). AreOpen before js noted rules count rows) (sym (filter_yes j these (ap is_after is)))
+          record {
+            opens = paths ∷ o.opens;
+            held = (h.0, o.held);
+            searched = subst (λ (os : List (List P)). IsSearched files d sources os noted rules count rows) (append_assoc before (paths ∷ []) o.opens) o.searched;
+          }
+
+  pub going_first : (listed : List P) (new : ℕ) (after : List NodeAt) (work : List Rule) → AreEnds files (At d) [] listed
+      → HasExtended files d [] listed 0 new [] after [] work → IsGoing work new after
+  going_first listed new after work ends (added, rules, e, w) =
+      let first = searched_first files d sources added listed rules new after (listed_apart files d sources (At d) [] listed ends) (lists_first files d sources listed ends) e in
+      let o = put_aside [] (made files d sources [] added) (made files d sources [] added) rules rules new after e.held first in record {
+        opens = o.opens;
+        noted = made files d sources [] added;
+        rules = rules;
+        searched = o.searched;
+        held = subst (AreHeld files d o.opens) (sym w) o.held;
+      }
 
   ends_past : (work : List Rule) (count new : ℕ) (rows after : List NodeAt) (more : List Rule) → IsGoing work count rows → (new ≡ count) × (after ≡ rows) × (more ≡ work) → IsGoing more new after
   ends_past work count new rows after more g (a, b, c) =
@@ -203,16 +242,25 @@ module _ (files : List FileRules) (d : NodeAt) (sources : All IsSourceFile files
           → (start : Start) → j.start ≡ start → AreListed files j.pre.symbols listed start → HasGone files d paths listed start count new rows after rest more → IsGoing more new after
       by before paths held last s (Before r) start ends done =
           ends_past rest count new rows after more
-          record { opens = before; noted = g.noted; rules = g.rules; searched = searched_past files d sources before g.noted g.rules count rows paths s (none_before paths j r last start); held = held }
+          record {
+            opens = before;
+            noted = g.noted;
+            rules = g.rules;
+            searched = subst (λ (os : List (List P)). IsSearched files d sources os g.noted g.rules count rows) (append-nil before)
+                (searched_past files d sources before [] g.noted g.rules count rows paths s (none_before paths j r last start));
+            held = held;
+          }
           done
-      by before paths held last s (After x) start ends (added, rules, e, w) = record {
-        opens = before ++ made files d sources paths added;
-        noted = g.noted ++ made files d sources paths added;
-        rules = g.rules ++ rules;
-        searched = searched_more files d sources before g.noted g.rules rules count new rows after paths added listed s (listed_apart files d sources x j.pre.symbols listed ends)
-            (behind paths x last start ends) e;
-        held = subst (AreHeld files d (before ++ made files d sources paths added)) (sym w) (held-append files d before (made files d sources paths added) rest rules held e.held);
-      }
+      by before paths held last s (After x) start ends (added, rules, e, w) =
+          let more = searched_more files d sources before g.noted g.rules rules count new rows after paths added listed s (listed_apart files d sources x j.pre.symbols listed ends)
+          (behind paths x last start ends) e in
+          let o = put_aside before (made files d sources paths added) (g.noted ++ made files d sources paths added) rules (g.rules ++ rules) new after e.held more in record {
+            opens = before ++ o.opens;
+            noted = g.noted ++ made files d sources paths added;
+            rules = g.rules ++ rules;
+            searched = o.searched;
+            held = subst (AreHeld files d (before ++ o.opens)) (sym w) (held-append files d before o.opens rest (filter goes_on rules) held o.held);
+          }
 
   -- the rule that is gone on from is within the bounds
   pub open_last : (rest : List Rule) (j : Rule) (count : ℕ) (rows : List NodeAt) → IsGoing (rest ++ j ∷ []) count rows → IsFit (graphs_of files) j
@@ -226,16 +274,17 @@ module _ (files : List FileRules) (d : NodeAt) (sources : All IsSourceFile files
   held_long (paths ∷ all) (j ∷ rules) h = ap suc (held_long all rules h.1)
 
   extended_long : (paths listed : List P) (old new : ℕ) (before after : List NodeAt) (work more : List Rule) → HasExtended files d paths listed old new before after work more
-      → new + length work ≡ old + length more
+      → old + length more ≤ new + length work
   extended_long paths listed old new before after work more (added, rules, e, w) =
       let n : new ≡ old + length added = e.count in
-      let m : length more ≡ length work + length rules = ap length w ∙ length-append work rules in
+      let m : length more ≡ length work + length (filter goes_on rules) = ap length w ∙ length-append work (filter goes_on rules) in
+      let s : length (filter goes_on rules) ≤ length rules = filter-short goes_on rules in
       let k : length rules ≡ length (made files d sources paths added) = held_long (made files d sources paths added) rules e.held in
       let i : length (made files d sources paths added) ≡ length added = length-map added (in_front paths) in
-      omega (arith, n, m, k, i)
+      omega (arith, n, m, s, k, i)
 
   gone_long : (paths listed : List P) (start : Start) (old new : ℕ) (before after : List NodeAt) (work more : List Rule)
-      → HasGone files d paths listed start old new before after work more → new + length work ≡ old + length more
+      → HasGone files d paths listed start old new before after work more → old + length more ≤ new + length work
   gone_long paths listed (Before r) old new before after work more (n, rows, w) = let m : length more ≡ length work = ap length w in omega (arith, n, m)
   gone_long paths listed (After at) old new before after work more h = extended_long paths listed old new before after work more h
 
@@ -244,7 +293,7 @@ module _ (files : List FileRules) (d : NodeAt) (sources : All IsSourceFile files
       → (most_lists - new) + length more < (most_lists - count) + length (rest ++ j ∷ [])
   falls listed rest more j count new rows after g gone few =
       let l = last_of files d g.opens rest j g.held in
-      let n : new + length rest ≡ count + length more = gone_long l.paths listed j.start count new rows after rest more (gone l.paths l.last) in
+      let n : count + length more ≤ new + length rest = gone_long l.paths listed j.start count new rows after rest more (gone l.paths l.last) in
       let m : length (rest ++ j ∷ []) ≡ length rest + 1 = length-append rest (j ∷ []) in
       let k : count ≤ new = grows l.paths j.start (gone l.paths l.last) in
       omega (arith, n, m, few, k)

@@ -3,7 +3,7 @@ use Rattle.std.proofs.Common.{◌≡◌, ◌≢◌, refl, sym, ap, ◌∙◌, su
 use Rattle.std.specs.Prelude.{All, slice_get, Contains}
 use Rattle.std.specs.List.{AllByRecursion, flat_map}
 use Rattle.std.proofs.lemmas.Option.{none-some, same_Some}
-use Rattle.std.proofs.lemmas.List.Elements.{All-tail}
+use Rattle.std.proofs.lemmas.List.Elements.{All-tail, filter-append}
 use Rattle.graph_nodes.specs.Graph.{Graph}
 use Rattle.stacks_vars.specs.declared.scopes.NodeAt.{NodeAt}
 use Rattle.stacks_vars.specs.declared.patterns.SymPat.{SymPat}
@@ -21,7 +21,7 @@ use Rattle.list_facts.proofs.Members.{IsIn-append_left, IsIn-append_right, IsIn-
 use Rattle.list_facts.proofs.Apart.{absent, all_differ, IsApart-append, IsApart-map, IsApart-filter}
 use Rattle.back_stitch.specs.Lists.{most_lists}
 use Rattle.back_stitch.specs.Sources.{may_end_at, rules_to_in, rules_to_after, agrees, AreEnds}
-use Rattle.back_stitch.specs.Held.{IsBack, IsHeld, AreHeld, IsOutcome, begun, AreThose, in_front, HasExtended, IsOverfull}
+use Rattle.back_stitch.specs.Held.{IsBack, IsHeld, AreHeld, IsOutcome, begun, AreThose, in_front, HasExtended, IsOverfull, goes_on}
 use Rattle.back_stitch.proofs.Agreed.{front_agrees, alone_agrees}
 use Rattle.back_stitch.proofs.Stood.{stands, rest_of, first_may}
 use Rattle.back_stitch.proofs.Searched.{P, held-append, flat_map-append, ListsAll}
@@ -188,7 +188,8 @@ module _ (files : List FileRules) (d : NodeAt) (paths : List P) where
       rows = f.rows ∙ ap (λ (rs : List NodeAt). rs ++ flat_map begun y) e.rows ∙ append_assoc before (flat_map begun x) (flat_map begun y)
           ∙ ap (λ (rs : List NodeAt). before ++ rs) (sym (flat_map-append begun x y));
     },
-    v ∙ ap (λ (rs : List Rule). rs ++ y) w ∙ append_assoc work x y,
+    v ∙ ap (λ (rs : List Rule). rs ++ filter goes_on y) w ∙ append_assoc work (filter goes_on x) (filter goes_on y)
+        ∙ ap (λ (rs : List Rule). work ++ rs) (sym (filter-append goes_on x y)),
   )
 
   -- a path of which nothing comes, and one of which a rule does
@@ -210,7 +211,7 @@ module _ (files : List FileRules) (d : NodeAt) (paths : List P) where
       only x (inr never) back = never
 
   pub extended_by : (p : P) (j : Rule) (old new : ℕ) (before after : List NodeAt) (work all : List Rule) → IsBack files d (p ∷ paths) → IsHeld files d (p ∷ paths) j
-      → new ≡ old + 1 → after ≡ before ++ begun j → all ≡ work ++ j ∷ [] → HasExtended files d paths (p ∷ []) old new before after work all
+      → new ≡ old + 1 → after ≡ before ++ begun j → all ≡ work ++ filter goes_on (j ∷ []) → HasExtended files d paths (p ∷ []) old new before after work all
   extended_by p j old new before after work all back held count rows is = (
     p ∷ [],
     j ∷ [],
@@ -250,7 +251,7 @@ module _ (files : List FileRules) (d : NodeAt) (paths : List P) where
   back_of p j held = (j.start, stands files d (p ∷ paths) j held.joined held.lands held.kept)
 
   pub tried_by : (p : P) (j : Rule) (old new : ℕ) (before after : List NodeAt) (work all : List Rule) (found : Option Rule) → IsOutcome files d (p ∷ paths) found → found ≡ Some j
-      → new ≡ old + 1 → after ≡ before ++ begun j → all ≡ work ++ j ∷ [] → HasExtended files d paths (p ∷ []) old new before after work all
+      → new ≡ old + 1 → after ≡ before ++ begun j → all ≡ work ++ filter goes_on (j ∷ []) → HasExtended files d paths (p ∷ []) old new before after work all
   tried_by p j old new before after work all found outcome is count rows more =
       let held : IsHeld files d (p ∷ paths) j = subst (λ (o : Option Rule). IsOutcome files d (p ∷ paths) o) is outcome in
       extended_by p j old new before after work all (back_of p j held) held count rows more

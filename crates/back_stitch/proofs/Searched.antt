@@ -18,7 +18,7 @@ use Rattle.list_facts.specs.Members.{IsIn}
 use Rattle.list_facts.specs.Apart.{IsApart}
 use Rattle.list_facts.proofs.Each.{all-append}
 use Rattle.list_facts.proofs.Members.{IsIn-append_left, IsIn-append_right, IsIn-append_cases, IsIn-map, IsIn-map_from, at_member, each_member}
-use Rattle.list_facts.proofs.Apart.{absent, all_differ, IsApart-append, IsApart-append_left, IsApart-last, IsApart-map}
+use Rattle.list_facts.proofs.Apart.{absent, all_differ, IsApart-append, IsApart-append_left, IsApart-swap, IsApart-last, IsApart-map}
 use Rattle.list_facts.proofs.Sums.{length-apart_le}
 use Rattle.back_stitch.specs.Lists.{most_lists, IsBackList, HasMany}
 use Rattle.back_stitch.specs.Paths.{IsBackPath}
@@ -259,30 +259,34 @@ module _ (files : List FileRules) (d : NodeAt) (sources : All IsSourceFile files
           let f : in_front [] y ≡ [] = same ∙ sym e in cc
 
   -- nothing can be joined in front of a list that begins before a reference
-  pub searched_past : (opens noted : List (List P)) (rules : List Rule) (count : ℕ) (rows : List NodeAt) (paths : List P)
-      → IsSearched (opens ++ paths ∷ []) noted rules count rows → ((p : P) → IsBack files d (p ∷ paths) → ⊥) → IsSearched opens noted rules count rows
-  searched_past opens noted rules count rows paths s none = record {
+  pub searched_past : (opens others noted : List (List P)) (rules : List Rule) (count : ℕ) (rows : List NodeAt) (paths : List P)
+      → IsSearched (opens ++ paths ∷ others) noted rules count rows → ((p : P) → IsBack files d (p ∷ paths) → ⊥) → IsSearched (opens ++ others) noted rules count rows
+  searched_past opens others noted rules count rows paths s none = record {
     known = s.known;
     apart = s.apart;
-    opens_apart = IsApart-append_left opens (paths ∷ []) s.opens_apart;
-    opens_in = λ x here. s.opens_in x (IsIn-append_left x opens (paths ∷ []) here);
+    opens_apart = IsApart-swap others opens (IsApart-swap opens (paths ∷ others) s.opens_apart).1;
+    opens_in = λ x here. s.opens_in x (was x (IsIn-append_cases x opens others here));
     first = s.first;
     closed = λ p more here back. still p more back (s.closed p more here back);
-    fresh = λ p more here front. s.fresh p more (IsIn-append_left more opens (paths ∷ []) here) front;
+    fresh = λ p more here front. s.fresh p more (was more (IsIn-append_cases more opens others here)) front;
     tails = s.tails;
     held = s.held;
     counted = s.counted;
     told = s.told;
   }
     where
-      ends : (p : P) (more : List P) → IsBack files d (p ∷ more) → IsIn more opens ⊎ IsIn more (paths ∷ []) → IsIn (p ∷ more) noted ⊎ IsIn more opens
-      ends p more back (inl open') = inr open'
-      ends p more back (inr (inl same)) = absurd (none p (subst (λ (x : List P). IsBack files d (p ∷ x)) same back))
-      ends p more back (inr (inr never)) = absurd never
+      was : (x : List P) → IsIn x opens ⊎ IsIn x others → IsIn x (opens ++ paths ∷ others)
+      was x (inl here) = IsIn-append_left x opens (paths ∷ others) here
+      was x (inr here) = IsIn-append_right x opens (paths ∷ others) (inr here)
 
-      still : (p : P) (more : List P) → IsBack files d (p ∷ more) → IsIn (p ∷ more) noted ⊎ IsIn more (opens ++ paths ∷ []) → IsIn (p ∷ more) noted ⊎ IsIn more opens
+      ends : (p : P) (more : List P) → IsBack files d (p ∷ more) → IsIn more opens ⊎ IsIn more (paths ∷ others) → IsIn (p ∷ more) noted ⊎ IsIn more (opens ++ others)
+      ends p more back (inl open') = inr (IsIn-append_left more opens others open')
+      ends p more back (inr (inl same)) = absurd (none p (subst (λ (x : List P). IsBack files d (p ∷ x)) same back))
+      ends p more back (inr (inr open')) = inr (IsIn-append_right more opens others open')
+
+      still : (p : P) (more : List P) → IsBack files d (p ∷ more) → IsIn (p ∷ more) noted ⊎ IsIn more (opens ++ paths ∷ others) → IsIn (p ∷ more) noted ⊎ IsIn more (opens ++ others)
       still p more back (inl known) = inl known
-      still p more back (inr open') = ends p more back (IsIn-append_cases more opens (paths ∷ []) open')
+      still p more back (inr open') = ends p more back (IsIn-append_cases more opens (paths ∷ others) open')
 
   -- with none open all back lists are known
   pub all_known : (noted : List (List P)) (rules : List Rule) (count : ℕ) (rows : List NodeAt) → IsSearched [] noted rules count rows → (paths : List P) → IsBack files d paths → IsIn paths noted

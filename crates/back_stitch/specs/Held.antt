@@ -1,6 +1,6 @@
 -- The rules that a backward search keeps, each for the stored paths of a back list, and what it finds of them. No public
 -- clause cites this.
-use Rattle.std.specs.Prelude.{◌≡◌, ◌≤◌, ◌+◌, ℕ, List, [], ◌∷◌, ◌++◌, map, length, Bool, true, ◌&&◌, Option, Some, None, MatchOption, if◌then◌else◌, IsTrue, ⊤}
+use Rattle.std.specs.Prelude.{◌≡◌, ◌≤◌, ◌+◌, ℕ, List, [], ◌∷◌, ◌++◌, map, filter, length, Bool, true, ◌&&◌, Option, Some, None, MatchOption, if◌then◌else◌, IsTrue, ⊤}
 use Rattle.std.specs.List.{flat_map}
 use Rattle.list_facts.specs.Members.{IsIn}
 use Rattle.list_facts.specs.Apart.{IsApart}
@@ -71,10 +71,14 @@ pub record IsExtended (files : List FileRules) (d : NodeAt) (paths listed added 
 abbrev pub IsBehind : List FileRules → NodeAt → List (ℕ × Rule) → Spot → Option Rule → Type 0
 IsBehind files d paths at o = MatchOption o ((paths ≡ []) × (at ≡ At d)) (λ (j : Rule). IsHeld files d paths j × (j.start ≡ After at))
 
--- the same of what is kept in `work` too: the rules are put behind those that were there
+-- whether more may be joined in front of the rule: before a reference nothing is
+abbrev pub goes_on : Rule → Bool
+goes_on j = is_after j.start
+
+-- the same of what is kept in `work` too: the rules that go on are put behind those that were there
 abbrev pub HasExtended : List FileRules → NodeAt → List (ℕ × Rule) → List (ℕ × Rule) → ℕ → ℕ → List NodeAt → List NodeAt → List Rule → List Rule → Type 0
 HasExtended files d paths listed old new before after work more =
-    (added : List (ℕ × Rule)) × (rules : List Rule) × IsExtended files d paths listed added rules old new before after × (more ≡ work ++ rules)
+    (added : List (ℕ × Rule)) × (rules : List Rule) × IsExtended files d paths listed added rules old new before after × (more ≡ work ++ filter goes_on rules)
 
 -- some of the first listed paths make as many back lists as there may be with those of before, and the next one more
 pub record IsOverfull (files : List FileRules) (d : NodeAt) (paths listed : List (ℕ × Rule)) (old : ℕ) : Type 0 where

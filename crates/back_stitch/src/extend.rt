@@ -1,5 +1,5 @@
 //! The stored paths that may end at a spot, in front of what is known.
-ghost use Rattle.std.specs.Prelude.{◌≡◌, ◌≤◌, ◌∷◌, [], ℕ, List, All, Err, IfOk, IfSome, OnOk, IsTrue, option_copied, true};
+ghost use Rattle.std.specs.Prelude.{◌≡◌, ◌≤◌, ◌∷◌, ◌++◌, [], ℕ, List, filter, All, Err, IfOk, IfSome, OnOk, IsTrue, option_copied, true};
 ghost use Rattle.graph_nodes.specs.Whole.{is_definition_of};
 ghost use Rattle.stacks_vars.specs.declared.scopes.NodeAt.{NodeAt};
 ghost use Rattle.partial_path.specs.declared.config.Spot.{Spot};
@@ -9,13 +9,13 @@ ghost use Rattle.partial_path.specs.Cutting.{IsStoredIn};
 ghost use Rattle.partial_path.specs.Sources.{IsSourceFile, graphs_of};
 ghost use Rattle.back_stitch.specs.Lists.{most_lists};
 ghost use Rattle.back_stitch.specs.Sources.{may_end_at};
-ghost use Rattle.back_stitch.specs.Held.{IsBack, IsBehind, IsOutcome, IsOpen, HasExtended, HasTried, IsTriedPast, asked_behind};
+ghost use Rattle.back_stitch.specs.Held.{IsBack, IsBehind, IsOutcome, IsOpen, HasExtended, HasTried, IsTriedPast, asked_behind, goes_on};
 
 use crate::fault::BackFault;
 use crate::join::{first_of, join_left};
 use crate::source::BackSource;
 use crate::tally::Tally;
-use partial_path::{PartialPath, Spot, StoredPath};
+use partial_path::{PartialPath, Spot, Start, StoredPath};
 use stacks_vars::SymPat;
 use std::alloc::{AllocError, Global};
 
@@ -76,8 +76,22 @@ fn try_path<P: BackSource>(
         return Ok(());
     };
     tally.note(&found)?;
-    work.push(found)?;
+    keep_open(found, work)?;
     Ok(())
+}
+
+/// Keeps the path where more may be joined in front of it. Of what leads to a function of a module that many others import,
+/// nearly all begins before a reference and asks for more: that is let go of at once, and its memory serves the next.
+fn keep_open(path: PartialPath, work: &mut Vec<PartialPath>) -> Result<(), AllocError>
+    ensures { OnOk result (work.new.items ≡ work.old.items ++ filter goes_on (path ∷ [])) }
+{
+    match path.start() {
+        Start::Before(_) => Ok(()),
+        Start::After(_) => {
+            work.push(path)?;
+            Ok(())
+        }
+    }
 }
 
 /// The symbols that the known path asks for; none where nothing is known.

@@ -24,7 +24,7 @@ use std::alloc::Global;
 /// in the end.
 ///
 /// No edge is followed: stored paths are joined, each in front of the path that is known so far. The memory follows the
-/// back lists that are still to be gone on from; no call calls itself.
+/// back lists that are still to be gone on from, of which none begins before a reference; no call calls itself.
 pub fn back<P: BackSource>(
     alloc: Global,
     source: &P,
