@@ -35,7 +35,7 @@ from programs import Editor, Lines, changed, commits_of, line_of, opened
 
 PROGRAM = Path(__file__).parent.parent / "crates/navd/out/navd"
 SIZES = ["64", "512", "2048"]
-DEFINES, AGAIN, CHANGES = 20_000, 5, 25
+DEFINES, AGAIN, CHANGES = 100_000, 5, 25
 # How many calls are looked at for places to ask at.
 LOOKED_AT = 4_096
 COLUMNS = ("first commit s", "memory MB", "define us", "references ms", "again ms", "change ms", "an editor's ms")
