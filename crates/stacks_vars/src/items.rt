@@ -169,8 +169,20 @@ impl SymbolStack {
     }
 }
 
-/// Whether both are the same symbols in the same order, begun at the last.
-fn same_items(left: &[SymbolItem], right: &[SymbolItem]) -> bool
+/// What tells whether it equals another of its type.
+pub(crate) trait Equal {
+    fn equals(&self, other: &Self) -> bool
+        ensures { IsTrue result ↔ (self.now ≡ other.now) };
+}
+
+impl Equal for SymbolItem {
+    fn equals(&self, other: &SymbolItem) -> bool {
+        self.same(other)
+    }
+}
+
+/// Whether both are the same items in the same order, begun at the last.
+pub(crate) fn same_items<T: Equal>(left: &[T], right: &[T]) -> bool
     ensures { IsTrue result ↔ (left.now ≡ right.now) }
 {
     if left.len() != right.len() {
@@ -179,7 +191,7 @@ fn same_items(left: &[SymbolItem], right: &[SymbolItem]) -> bool
     let mut rest = left.len();
     while rest > 0 {
         rest -= 1;
-        if !left[rest].same(&right[rest]) {
+        if !left[rest].equals(&right[rest]) {
             return false;
         }
     }

@@ -1,5 +1,5 @@
 //! Symbols on the stacks of a search, lent by the files whose paths make them.
-use crate::items::{SymbolItem, SymbolStack, copy_scopes, same_scopes};
+use crate::items::{Equal, SymbolItem, SymbolStack, copy_scopes, same_items, same_scopes};
 use crate::scopes::ScopeStack;
 use crate::symbol::Symbol;
 use std::alloc::{AllocError, Global};
@@ -177,7 +177,7 @@ impl<'a> LentStack<'a> {
     }
 }
 
-ghost use Rattle.std.specs.Prelude.{◌≡◌, ◌↔◌, IfOk, IsTrue};
+ghost use Rattle.std.specs.Prelude.{◌≡◌, IfOk};
 
 /// The symbol lent, with a copy of its attached scopes; the one error is want of memory.
 fn lent<'a>(alloc: Global, item: &'a SymbolItem) -> Result<LentItem<'a>, AllocError>
@@ -187,19 +187,8 @@ fn lent<'a>(alloc: Global, item: &'a SymbolItem) -> Result<LentItem<'a>, AllocEr
     Ok(LentItem::of(&item.symbol, scopes))
 }
 
-/// Whether both are the same symbols in the same order, begun at the last.
-fn same_items(left: &[LentItem<'_>], right: &[LentItem<'_>]) -> bool
-    ensures { IsTrue result ↔ (left.now ≡ right.now) }
-{
-    if left.len() != right.len() {
-        return false;
+impl<'a> Equal for LentItem<'a> {
+    fn equals(&self, other: &LentItem<'a>) -> bool {
+        self.same(other)
     }
-    let mut rest = left.len();
-    while rest > 0 {
-        rest -= 1;
-        if !left[rest].same(&right[rest]) {
-            return false;
-        }
-    }
-    true
 }
