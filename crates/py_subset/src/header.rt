@@ -1,11 +1,11 @@
 //! What stands before the colon of a block.
 
 ghost use Rattle.std.specs.Prelude.{◌≡◌};
-ghost use Rattle.py_subset.specs.Parsers.{Gives, several, name};
-ghost use Rattle.py_subset.specs.Parsing.{is};
+ghost use Rattle.py_subset.specs.Parsers.{Gives};
 ghost use Rattle.py_subset.specs.Statements as spec;
 
 use crate::items::Items;
+use crate::lists::named_parts;
 use crate::primaries::in_round;
 use crate::symbols::{arguments, begins_expr};
 use crate::token::Mark;
@@ -34,30 +34,6 @@ pub fn begins_stmt(mark: Mark) -> bool
     }
 }
 
-/// Names with commas between, and whether a comma stands at the end.
-#[tactic(auto, using(crate::proofs::Turns::turns))]
-fn names<'a>(
-    alloc: Global,
-    tokens: &mut Tokens<'a>,
-    turns: usize,
-) -> Result<(Items<Word<'a>>, bool), Stop>
-    ensures { Gives result tokens.new (several (is Mark.Name) name turns tokens.old) }
-{
-    let mut list = Items::new(alloc);
-    list.push(tokens.name()?)?;
-    for _turn in 0..turns {
-        if !tokens.sees(Mark::Comma) {
-            return Ok((list, false));
-        }
-        tokens.pass();
-        if !tokens.sees(Mark::Name) {
-            return Ok((list, true));
-        }
-        list.push(tokens.name()?)?;
-    }
-    Err(Stop::Refused)
-}
-
 /// The parameters of a function.
 #[tactic(auto, unfolding(crate::specs::Statements::parameters))]
 pub fn parameters<'a>(
@@ -72,7 +48,7 @@ pub fn parameters<'a>(
         tokens.take(Mark::CloseRound)?;
         return Ok(Items::new(alloc));
     }
-    let (list, _) = names(alloc, tokens, turns)?;
+    let (list, _) = named_parts(alloc, tokens, turns)?;
     tokens.take(Mark::CloseRound)?;
     Ok(list)
 }

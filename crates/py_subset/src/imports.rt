@@ -1,39 +1,22 @@
 //! Statements that import.
 
 ghost use Rattle.std.specs.Prelude.{◌≡◌};
-ghost use Rattle.py_subset.specs.Parsers.{Gives, star, several, ◌▹◌};
-ghost use Rattle.py_subset.specs.Parsing.{is};
-ghost use Rattle.py_subset.specs.Parsers as parsers;
+ghost use Rattle.py_subset.specs.Parsers.{Gives};
 ghost use Rattle.py_subset.specs.Statements as spec;
 
 use crate::items::Items;
+use crate::lists::{Part, named_parts, parts};
 use crate::token::Mark;
 use crate::token_list::{Stop, Tokens};
 use crate::tree::{FromItem, ImportItem, Stmt, Word};
 use std::alloc::Global;
 
-/// A dot and a name.
-fn member<'a>(tokens: &mut Tokens<'a>) -> Result<Word<'a>, Stop>
-    ensures { Gives result tokens.new ((Mark.Dot ▹ parsers.name) tokens.old) }
-{
-    tokens.take(Mark::Dot)?;
-    tokens.name()
-}
-
 /// Names with dots between.
-#[tactic(auto, using(crate::proofs::Turns::turns), unfolding(crate::specs::Statements::dotted))]
+#[tactic(auto, unfolding(crate::specs::Statements::dotted))]
 fn dotted<'a>(alloc: Global, tokens: &mut Tokens<'a>, turns: usize) -> Result<Items<Word<'a>>, Stop>
     ensures { Gives result tokens.new (spec.dotted turns tokens.old) }
 {
-    let mut words = Items::new(alloc);
-    words.push(tokens.name()?)?;
-    for _turn in 0..turns {
-        if !tokens.sees(Mark::Dot) {
-            return Ok(words);
-        }
-        words.push(member(tokens)?)?;
-    }
-    Err(Stop::Refused)
+    parts(alloc, tokens, turns, Mark::Dot)
 }
 
 /// The name behind `as`, if there is one.
@@ -48,50 +31,20 @@ fn alias<'a>(tokens: &mut Tokens<'a>, turns: usize) -> Result<Option<Word<'a>>, 
     Ok(Some(tokens.name()?))
 }
 
-/// An imported module and its name behind `as`.
-#[tactic(auto, unfolding(crate::specs::Statements::modas))]
-fn modas<'a>(alloc: Global, tokens: &mut Tokens<'a>, turns: usize) -> Result<ImportItem<'a>, Stop>
-    ensures { Gives result tokens.new (spec.modas turns tokens.old) }
-{
-    let dotted = dotted(alloc, tokens, turns)?;
-    let alias = alias(tokens, turns)?;
-    Ok(ImportItem { dotted, alias })
-}
+impl<'a> Part<'a> for ImportItem<'a> {
+    ghost rule = { λ turns. spec.modas turns };
 
-/// A further one behind a comma.
-fn next_modas<'a>(
-    alloc: Global,
-    tokens: &mut Tokens<'a>,
-    turns: usize,
-) -> Result<ImportItem<'a>, Stop>
-    ensures { Gives result tokens.new ((Mark.Comma ▹ spec.modas turns) tokens.old) }
-{
-    tokens.take(Mark::Comma)?;
-    modas(alloc, tokens, turns)
-}
-
-/// Imported modules with commas between.
-#[tactic(auto, using(crate::proofs::Turns::turns), unfolding(crate::specs::Statements::modas_list))]
-fn modas_list<'a>(
-    alloc: Global,
-    tokens: &mut Tokens<'a>,
-    turns: usize,
-) -> Result<Items<ImportItem<'a>>, Stop>
-    ensures { Gives result tokens.new (spec.modas_list turns tokens.old) }
-{
-    let mut list = Items::new(alloc);
-    list.push(modas(alloc, tokens, turns)?)?;
-    for _turn in 0..turns {
-        if !tokens.sees(Mark::Comma) {
-            return Ok(list);
-        }
-        list.push(next_modas(alloc, tokens, turns)?)?;
+    /// An imported module and its name behind `as`.
+    #[tactic(auto, unfolding(crate::specs::Statements::modas))]
+    fn read(alloc: Global, tokens: &mut Tokens<'a>, turns: usize) -> Result<ImportItem<'a>, Stop> {
+        let dotted = dotted(alloc, tokens, turns)?;
+        let alias = alias(tokens, turns)?;
+        Ok(ImportItem { dotted, alias })
     }
-    Err(Stop::Refused)
 }
 
 /// `import ..`
-#[tactic(auto, unfolding(crate::specs::Statements::import_stmt))]
+#[tactic(auto, unfolding(crate::specs::Statements::import_stmt, crate::specs::Statements::modas_list))]
 pub fn import_stmt<'a>(
     alloc: Global,
     tokens: &mut Tokens<'a>,
@@ -100,69 +53,19 @@ pub fn import_stmt<'a>(
     ensures { Gives result tokens.new (spec.import_stmt turns tokens.old) }
 {
     tokens.take(Mark::Import)?;
-    Ok(Stmt::Import(modas_list(alloc, tokens, turns)?))
+    Ok(Stmt::Import(parts(alloc, tokens, turns, Mark::Comma)?))
 }
 
-/// An imported name and its name behind `as`.
-#[tactic(auto, unfolding(crate::specs::Statements::item))]
-fn item<'a>(tokens: &mut Tokens<'a>, turns: usize) -> Result<FromItem<'a>, Stop>
-    ensures { Gives result tokens.new (spec.item turns tokens.old) }
-{
-    let name = tokens.name()?;
-    let alias = alias(tokens, turns)?;
-    Ok(FromItem { name, alias })
-}
+impl<'a> Part<'a> for FromItem<'a> {
+    ghost rule = { λ turns. spec.item turns };
 
-/// A further one behind a comma.
-fn next_item<'a>(tokens: &mut Tokens<'a>, turns: usize) -> Result<FromItem<'a>, Stop>
-    ensures { Gives result tokens.new ((Mark.Comma ▹ spec.item turns) tokens.old) }
-{
-    tokens.take(Mark::Comma)?;
-    item(tokens, turns)
-}
-
-/// Imported names with commas between.
-#[tactic(auto, using(crate::proofs::Turns::turns), unfolding(crate::specs::Statements::items))]
-fn items<'a>(
-    alloc: Global,
-    tokens: &mut Tokens<'a>,
-    turns: usize,
-) -> Result<Items<FromItem<'a>>, Stop>
-    ensures { Gives result tokens.new (spec.items turns tokens.old) }
-{
-    let mut list = Items::new(alloc);
-    list.push(item(tokens, turns)?)?;
-    for _turn in 0..turns {
-        if !tokens.sees(Mark::Comma) {
-            return Ok(list);
-        }
-        list.push(next_item(tokens, turns)?)?;
+    /// An imported name and its name behind `as`.
+    #[tactic(auto, unfolding(crate::specs::Statements::item))]
+    fn read(_alloc: Global, tokens: &mut Tokens<'a>, turns: usize) -> Result<FromItem<'a>, Stop> {
+        let name = tokens.name()?;
+        let alias = alias(tokens, turns)?;
+        Ok(FromItem { name, alias })
     }
-    Err(Stop::Refused)
-}
-
-/// Imported names with commas between, and whether a comma stands at the end.
-#[tactic(auto, using(crate::proofs::Turns::turns))]
-fn listed<'a>(
-    alloc: Global,
-    tokens: &mut Tokens<'a>,
-    turns: usize,
-) -> Result<(Items<FromItem<'a>>, bool), Stop>
-    ensures { Gives result tokens.new (several (is Mark.Name) (spec.item turns) turns tokens.old) }
-{
-    let mut list = Items::new(alloc);
-    list.push(item(tokens, turns)?)?;
-    for _turn in 0..turns {
-        if !tokens.sees(Mark::Comma) {
-            return Ok((list, false));
-        }
-        tokens.pass();
-        if !tokens.sees(Mark::Name) {
-            return Ok((list, true));
-        }
-        list.push(item(tokens, turns)?)?;
-    }
-    Err(Stop::Refused)
 }
 
 /// Imported names in brackets.
@@ -175,13 +78,13 @@ fn enclosed<'a>(
     ensures { Gives result tokens.new (spec.enclosed turns tokens.old) }
 {
     tokens.take(Mark::OpenRound)?;
-    let (list, _) = listed(alloc, tokens, turns)?;
+    let (list, _) = named_parts(alloc, tokens, turns)?;
     tokens.take(Mark::CloseRound)?;
     Ok(Some(list))
 }
 
 /// What is imported: these names, or all.
-#[tactic(auto, unfolding(crate::specs::Statements::imported))]
+#[tactic(auto, unfolding(crate::specs::Statements::imported, crate::specs::Statements::items))]
 fn imported<'a>(
     alloc: Global,
     tokens: &mut Tokens<'a>,
@@ -196,7 +99,7 @@ fn imported<'a>(
     if tokens.sees(Mark::OpenRound) {
         return enclosed(alloc, tokens, turns);
     }
-    Ok(Some(items(alloc, tokens, turns)?))
+    Ok(Some(parts(alloc, tokens, turns, Mark::Comma)?))
 }
 
 /// `from .. import ..`

@@ -13,6 +13,7 @@ mod keywords;
 mod laws;
 mod layout;
 mod lex;
+mod lists;
 mod making;
 mod mark;
 mod piece;
