@@ -3,56 +3,25 @@ use Rattle.std.proofs.Common.{◌≡◌, refl, sym, ◌∙◌, ap, ℕ, zero, su
 use Rattle.std.specs.Prelude.{filter, ◌&&◌, nat_eq, All}
 use Rattle.std.specs.List.{AllByRecursion}
 use Rattle.std.specs.Option.{option_map, option_map_or}
-use Rattle.std.proofs.lemmas.Bool.{false≢true}
 use Rattle.std.proofs.lemmas.Bool.Decides.{nat_tests}
 use Rattle.std.proofs.lemmas.List.{append-nil}
 use Rattle.std.proofs.lemmas.List.Elements.{recursion_from_All}
 use Rattle.std.proofs.lemmas.Option.{slice_get-map}
 use Rattle.graph_nodes.specs.Graph.{Graph}
-use Rattle.stacks_vars.specs.declared.scopes.NodeAt.{NodeAt}
 use Rattle.stacks_vars.specs.declared.items.SymbolItem.{SymbolItem}
-use Rattle.stacks_vars.specs.Same.{node_eq}
 use Rattle.partial_path.specs.declared.config.Spot.TheVariants as spot
 use Rattle.partial_path.specs.declared.offers.FileOffers.{FileOffers}
 use Rattle.partial_path.specs.declared.rule.Start.{Start}
 use Rattle.partial_path.specs.declared.rule.Start.TheVariants.{Before, After}
 use Rattle.partial_path.specs.Rules.{Rule}
-use Rattle.partial_path.specs.Moved.{moved_node, moved_start}
-use Rattle.partial_path.specs.Spots.{node_at}
 use Rattle.partial_path.specs.Starts.{start_eq, rules_at, begins_at}
 use Rattle.partial_path.specs.PathSets.{FileRules, IsLandingRule}
 use Rattle.partial_path.specs.Inside.{file_of, start_inside}
 use Rattle.partial_path.specs.Sources.{IsSourceFile, asks_rule, is_asked, numbered, rules_in, rules_after, rules_from, rules_offered, rules_offered_after}
 use Rattle.partial_path.specs.Offers.{is_shared, offers_here}
 use Rattle.partial_path.proofs.Asking.{filter_twice}
-use Rattle.partial_path.proofs.Listing.{walks_start_in_0, list_offers, offers_from_is, IsAtFirst}
+use Rattle.partial_path.proofs.Listing.{walks_start_in_0, begins_moved, filter_alike, all_so, rejected, list_offers, offers_from_is, IsAtFirst}
 use Rattle.partial_path.proofs.Standing.{and_assoc}
-
-node_begins : (m : ℕ) (a b : NodeAt) → a.file ≡ 0 → node_eq (moved_node m a) b ≡ nat_eq m b.file && node_eq a (node_at 0 b.node)
-node_begins m a b e = grind (arith, nat_tests, e)
-
--- whether a start of file 0, moved, is that start
-begins_moved : (m : ℕ) (start other : Start) → is_shared start ≡ false → file_of other ≡ 0
-    → start_eq (moved_start m other) start ≡ nat_eq m (file_of start) && start_eq other (start_inside start)
-begins_moved m (Before b) (Before a) s e = node_begins m a b e
-begins_moved m (Before b) (After spot.Root) s e = grind (arith, nat_tests)
-begins_moved m (Before b) (After (spot.At a)) s e = grind (arith, nat_tests)
-begins_moved m (After spot.Root) other s e = absurd (false≢true (sym s))
-begins_moved m (After (spot.At b)) (Before a) s e = grind (arith, nat_tests)
-begins_moved m (After (spot.At b)) (After spot.Root) s e = grind (arith, nat_tests)
-begins_moved m (After (spot.At b)) (After (spot.At a)) s e = node_begins m a b e
-
-filter_alike : {X : Type 0} (p q : X → Bool) (xs : List X) → AllByRecursion (λ x. p x ≡ q x) xs → filter p xs ≡ filter q xs
-filter_alike p q [] alike = refl
-filter_alike p q (x ∷ xs) alike = (λ i. cond (alike.0 i) (x ∷ filter p xs) (filter p xs)) ∙ ap (λ ys. cond (q x) (x ∷ ys) ys) (filter_alike p q xs alike.1)
-
-all_so : {X : Type 0} (P Q : X → Type 0) → ((x : X) → P x → Q x) → (xs : List X) → AllByRecursion P xs → AllByRecursion Q xs
-all_so P Q so [] all = tt
-all_so P Q so (x ∷ xs) all = (so x all.0, all_so P Q so xs all.1)
-
-rejected : {X : Type 0} (xs : List X) → filter (λ x. false) xs ≡ []
-rejected [] = refl
-rejected (x ∷ xs) = rejected xs
 
 -- whether a rule of the file itself is asked for
 abbrev asked_inside : Start → Option (List ℕ) → Rule → Bool

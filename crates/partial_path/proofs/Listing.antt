@@ -144,7 +144,7 @@ node_begins : (m : ℕ) (a b : NodeAt) → a.file ≡ 0 → node_eq (moved_node 
 node_begins m a b e = grind (arith, nat_tests, e)
 
 -- whether a rule of file 0, moved, begins there
-begins_moved : (m : ℕ) (start other : Start) → is_shared start ≡ false → file_of other ≡ 0
+pub begins_moved : (m : ℕ) (start other : Start) → is_shared start ≡ false → file_of other ≡ 0
     → start_eq (moved_start m other) start ≡ nat_eq m (file_of start) && start_eq other (start_inside start)
 begins_moved m (Before b) (Before a) s e = node_begins m a b e
 begins_moved m (Before b) (After spot.Root) s e = grind (arith, nat_tests)
@@ -154,15 +154,15 @@ begins_moved m (After (spot.At b)) (Before a) s e = grind (arith, nat_tests)
 begins_moved m (After (spot.At b)) (After spot.Root) s e = grind (arith, nat_tests)
 begins_moved m (After (spot.At b)) (After (spot.At a)) s e = node_begins m a b e
 
-filter_alike : {X : Type 0} (p q : X → Bool) (xs : List X) → AllByRecursion (λ x. p x ≡ q x) xs → filter p xs ≡ filter q xs
+pub filter_alike : {X : Type 0} (p q : X → Bool) (xs : List X) → AllByRecursion (λ x. p x ≡ q x) xs → filter p xs ≡ filter q xs
 filter_alike p q [] alike = refl
 filter_alike p q (x ∷ xs) alike = (λ i. cond (alike.0 i) (x ∷ filter p xs) (filter p xs)) ∙ ap (λ ys. cond (q x) (x ∷ ys) ys) (filter_alike p q xs alike.1)
 
-all_so : {X : Type 0} (P Q : X → Type 0) → ((x : X) → P x → Q x) → (xs : List X) → AllByRecursion P xs → AllByRecursion Q xs
+pub all_so : {X : Type 0} (P Q : X → Type 0) → ((x : X) → P x → Q x) → (xs : List X) → AllByRecursion P xs → AllByRecursion Q xs
 all_so P Q so [] all = tt
 all_so P Q so (x ∷ xs) all = (so x all.0, all_so P Q so xs all.1)
 
-rejected : {X : Type 0} (xs : List X) → filter (λ x. false) xs ≡ []
+pub rejected : {X : Type 0} (xs : List X) → filter (λ x. false) xs ≡ []
 rejected [] = refl
 rejected (x ∷ xs) = rejected xs
 

@@ -129,7 +129,7 @@ number_is view path (Some n) order e =
     sym (number_of_place view 0 n path order e ∙ ap Some from_none)
 
 -- it is below the number of rows
-path_within : (rows : List FileRow) (k : ℕ) (path : List ℕ) → path_at rows k ≡ Some path → k < length rows
+pub path_within : (rows : List FileRow) (k : ℕ) (path : List ℕ) → path_at rows k ≡ Some path → k < length rows
 path_within [] zero path e = absurd (none-some path e)
 path_within [] (suc k) path e = absurd (none-some path e)
 path_within (row ∷ rows) zero path e = omega arith

@@ -1,4 +1,4 @@
-use Rattle.nav_answers.proofs.Numbers.{sources_of}
+use Rattle.end_index.proofs.Among.{sources_of}
 use Rattle.nav_answers.proofs.viewed.are_sources.Goals as goal
 
 pub returns : goal.returns
