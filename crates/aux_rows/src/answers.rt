@@ -55,7 +55,7 @@ fn paths_on<L: Ledger>(
 }
 
 /// All paths of a graph.
-pub fn paths_in(alloc: Global, graph: FileGraph) -> Result<FilePaths, TextFault> {
+fn paths_in(alloc: Global, graph: FileGraph) -> Result<FilePaths, TextFault> {
     match paths_on::<Brand>(alloc, graph, Blank::new(1)) {
         Ok(paths) => Ok(paths),
         Err(PathsFault::NoMemory) => Err(TextFault::NoMemory),

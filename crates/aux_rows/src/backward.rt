@@ -1,26 +1,15 @@
 //! What joining backward finds: the references from which stitching finds a run to a definition, for every order of the
 //! files, or those that a line states.
-use crate::answers::{list_of, paths_in};
+use crate::answers::list_of;
 use crate::counts::Tally;
 use crate::orders::{in_order, order_count};
 use crate::row::number;
 use aux_graph_text::{TextFault, files_of};
-use back_stitch::{BackFault, PlainSource, back};
+use back_stitch::{BackFault, back, is_definition_in};
 use partial_path::{Bounds, FileList, PathSource};
 use stacks_vars::NodeAt;
 use std::alloc::{AllocError, Global};
 use stitcher::{Room, StitchFault, stitch};
-
-/// The path sets of the graphs that a text stands for, to be joined backward.
-fn source_of(alloc: Global, text: &str) -> Result<PlainSource, TextFault> {
-    let mut source = PlainSource::new(alloc);
-    for graph in files_of(alloc, text)? {
-        if source.len() < 100 {
-            source.push(paths_in(alloc, graph)?)?;
-        }
-    }
-    Ok(source)
-}
 
 /// Nodes as a text; `none` where there are none.
 fn told(alloc: Global, rows: &[NodeAt]) -> Result<String, AllocError> {
@@ -35,11 +24,11 @@ fn told(alloc: Global, rows: &[NodeAt]) -> Result<String, AllocError> {
 }
 
 /// What joining backward answers, as such a text, or `many` or `no definition`.
-fn backward(alloc: Global, source: &PlainSource, at: NodeAt) -> Result<String, AllocError> {
-    if !source.is_definition(&at) {
+fn backward(alloc: Global, list: &FileList, at: NodeAt) -> Result<String, AllocError> {
+    if !is_definition_in(list.as_slice(), at) {
         return String::from_str(alloc, "no definition");
     }
-    match back(alloc, source, at.file, at.node) {
+    match back(alloc, list, at.file, at.node) {
         Ok(rows) => told(alloc, &rows),
         Err(BackFault::Many) => String::from_str(alloc, "many"),
         Err(BackFault::NoMemory) => Err(AllocError),
@@ -85,7 +74,6 @@ fn forward(
 
 /// Compares both for each definition of the files.
 fn ask_files(alloc: Global, name: &str, text: &str, tally: &mut Tally) -> Result<(), TextFault> {
-    let source = source_of(alloc, text)?;
     let list = list_of(alloc, text)?;
     let mut counts = Vec::new(alloc);
     for graph in files_of(alloc, text)? {
@@ -94,9 +82,9 @@ fn ask_files(alloc: Global, name: &str, text: &str, tally: &mut Tally) -> Result
     for (file, count) in (0u32..).zip(&counts) {
         for node in 0..*count {
             let to = NodeAt { file, node };
-            if source.is_definition(&to) {
+            if is_definition_in(list.as_slice(), to) {
                 let case = format!(in alloc; "backward from {to:?}")?;
-                let one = backward(alloc, &source, to)?;
+                let one = backward(alloc, &list, to)?;
                 let two = forward(alloc, &list, &counts, to)?;
                 tally.compare(alloc, name, case.as_str(), two.as_bytes(), one.as_bytes())?;
             }
@@ -142,8 +130,8 @@ pub fn back_line(
     let Some((graphs, to)) = asked.split_once(" to ") else {
         return Err(TextFault::Word);
     };
-    let source = source_of(alloc, graphs)?;
-    let came = backward(alloc, &source, node_of(to)?)?;
+    let list = list_of(alloc, graphs)?;
+    let came = backward(alloc, &list, node_of(to)?)?;
     let came = came.as_str().trim_end();
     tally.compare(alloc, name, text, wanted.as_bytes(), came.as_bytes())?;
     Ok(())

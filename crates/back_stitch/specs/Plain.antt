@@ -1,4 +1,4 @@
--- What a source that goes over all paths of its files still gives, and the files that it can have.
+-- What a source that goes over all paths of its files still gives.
 use Rattle.std.specs.Prelude.{ℕ, ◌+◌, ◌^◌, ◌≤◌, List, [], ◌++◌, map, filter, drop, length, Bool, slice_get, All}
 use Rattle.std.specs.Option.{option_map_or}
 use Rattle.stacks_vars.specs.declared.patterns.SymPat.{SymPat}
@@ -9,11 +9,6 @@ use Rattle.partial_path.specs.PathSets.{FileRules}
 use Rattle.partial_path.specs.Sources.{IsSourceFile, graphs_of, numbered}
 use Rattle.back_stitch.specs.declared.plain.PlainEnds.{PlainEnds}
 use Rattle.back_stitch.specs.Sources.{may_end_at, rules_to_after, agrees}
-
--- files that a source can have: each is one of a source, and their numbers have 32 bits
-pub record AreFiles (files : List FileRules) : Type 0 where
-  pub sets : All IsSourceFile files
-  pub few : length files ≤ 2 ^ 32
 
 -- whether a path of the file with that number may end there
 abbrev pub ends_in : List FileRules → Spot → ℕ → Rule → Bool

@@ -67,7 +67,7 @@ pub fn is_exported_in(files: &[FilePaths], at: NodeAt) -> bool
     }
 }
 
-/// Whether the node is a definition of its file.
+/// Whether the node is a definition of its file; false where there is no such file or node.
 pub fn is_definition_in(files: &[FilePaths], at: NodeAt) -> bool
     ensures { result ≡ is_definition_of (graphs_of files.now) at.file at.node }
 {

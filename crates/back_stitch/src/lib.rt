@@ -12,11 +12,12 @@ mod searching;
 mod source;
 mod tally;
 
+pub use ending::is_definition_in;
 pub use fault::BackFault;
 pub use laws::{
     cuts_from_are_unique, exported_scopes_stay, landing_runs_are_cut, leading_paths_are_runs,
     moved_by_nothing_stays, rounds_can_be_cut,
 };
-pub use plain::{PlainEnds, PlainSource};
+pub use plain::PlainEnds;
 pub use searching::back;
 pub use source::BackSource;

@@ -1,15 +1,13 @@
-//! A source that goes over all paths at each look-up.
+//! A list of files as a source that goes over all paths at each look-up.
 ghost use Rattle.std.specs.Prelude.{◌≡◌, ◌≤◌, ◌^◌, [], ◌∷◌, List, length, slice_get, filter, drop, MatchOption};
 ghost use Rattle.partial_path.specs.PathSets.{FileRules};
 ghost use Rattle.back_stitch.specs.Sources.{agrees, rules_to};
 ghost use Rattle.back_stitch.specs.Plain.{ends_in, ends_left, agreed_left};
 
-use crate::ending::{is_definition_in, is_exported_in, may_end};
+use crate::ending::{is_exported_in, may_end};
 use crate::source::BackSource;
-use partial_path::{FilePaths, Spot, StoredPath, StoredPaths};
+use partial_path::{FileList, FilePaths, Spot, StoredPath, StoredPaths};
 use stacks_vars::{NodeAt, SymOut, SymPat};
-use std::alloc::{AllocError, Global};
-use std::marker::Model;
 
 /// Where a look-up that goes over all paths stands.
 #[derive(Clone, Copy, Debug)]
@@ -22,66 +20,8 @@ pub struct PlainEnds {
     pub place: usize,
 }
 
-/// The path sets of a list of files. Each look-up goes over all paths of all files: it serves tests, and few files. A
-/// contract sees the list.
-#[derive(Debug, Drop)]
-pub struct PlainSource {
-    files: Vec<FilePaths>,
-}
-
-impl Model for PlainSource {
-    ghost use Rattle.std.specs.Prelude.{List};
-    ghost use Rattle.partial_path.specs.PathSets.{FileRules};
-    ghost use Rattle.back_stitch.specs.Plain.{AreFiles};
-
-    ghost Value = { List FileRules };
-
-    ghost view = { λ s. s.files.items };
-
-    ghost invariant = { λ s. AreFiles s.files.items };
-}
-
-impl PlainSource {
-    ghost use Rattle.std.specs.Prelude.{◌≡◌, ◌<◌, ◌^◌, [], ◌∷◌, ◌++◌, length, IfOk, OnErr};
-    ghost use Rattle.graph_nodes.specs.Whole.{is_definition_of};
-    ghost use Rattle.partial_path.specs.Sources.{graphs_of};
-
-    /// No files. It takes no memory.
-    pub fn new(alloc: Global) -> PlainSource
-        ensures { result ≡ [] }
-    {
-        PlainSource {
-            files: Vec::new(alloc),
-        }
-    }
-
-    /// How many files it has.
-    pub fn len(&self) -> usize
-        ensures { result ≡ length self.now }
-    {
-        self.files.len()
-    }
-
-    /// Whether the node is a definition of its file; false where there is no such file or node.
-    pub fn is_definition(&self, at: &NodeAt) -> bool
-        ensures { result ≡ is_definition_of (graphs_of self.now) at.now.file at.now.node }
-    {
-        is_definition_in(self.files.as_slice(), *at)
-    }
-
-    /// Puts the file last; the one error is want of memory, and leaves the list as it was.
-    pub fn push(&mut self, file: FilePaths) -> Result<(), AllocError>
-        requires { length self.old < 2 ^ 32 }
-        ensures ok { IfOk result (λ _. self.new ≡ self.old ++ file ∷ []) }
-        ensures err { OnErr result (self.new ≡ self.old) }
-    {
-        let _nodes = file.node_count();
-        self.files.push(file)?;
-        Ok(())
-    }
-}
-
-impl BackSource for PlainSource {
+/// Each look-up goes over all paths of all files: it serves tests, and few files.
+impl BackSource for FileList {
     ghost use Rattle.back_stitch.specs.Sources.{rules_to};
     ghost use Rattle.back_stitch.specs.Plain.{agreed_left};
 
@@ -90,7 +30,7 @@ impl BackSource for PlainSource {
     ghost listed = { λ l at. rules_to l at };
 
     fn path_to(&self, spot: &Spot, k: usize) -> Option<(u32, StoredPath<'_>)> {
-        path_of(self.files.as_slice(), *spot, k)
+        path_of(self.as_slice(), *spot, k)
     }
 
     type Ends = PlainEnds;
@@ -99,7 +39,7 @@ impl BackSource for PlainSource {
 
     fn ends(&self, spot: &Spot, _symbols: &[SymPat]) -> PlainEnds {
         // The files' facts are known once they are looked at.
-        let _count = self.files.len();
+        let _files = self.as_slice();
         first_end(*spot)
     }
 
@@ -108,11 +48,11 @@ impl BackSource for PlainSource {
         symbols: &[SymPat],
         at: PlainEnds,
     ) -> Option<(u32, StoredPath<'_>, PlainEnds)> {
-        next_agreed(self.files.as_slice(), symbols, at)
+        next_agreed(self.as_slice(), symbols, at)
     }
 
     fn is_exported(&self, at: &NodeAt) -> bool {
-        is_exported_in(self.files.as_slice(), *at)
+        is_exported_in(self.as_slice(), *at)
     }
 }
 

@@ -39,7 +39,8 @@ impl Model for FileList {
 }
 
 impl FileList {
-    ghost use Rattle.std.specs.Prelude.{◌≡◌, ◌<◌, ◌^◌, [], ◌∷◌, ◌++◌, length, IfOk, OnErr};
+    ghost use Rattle.std.specs.Prelude.{◌≡◌, ◌<◌, ◌≤◌, ◌^◌, [], ◌∷◌, ◌++◌, length, All, IfOk, OnErr};
+    ghost use Rattle.partial_path.specs.Sources.{IsSourceFile};
 
     /// No files. It takes no memory.
     pub fn new(alloc: Global) -> FileList
@@ -55,6 +56,15 @@ impl FileList {
         ensures { result ≡ length self.now }
     {
         self.files.len()
+    }
+
+    /// The path sets, each at the place of its file's number.
+    pub fn as_slice(&self) -> &[FilePaths]
+        ensures value { result.now ≡ self.now }
+        ensures sets { All IsSourceFile self.now }
+        ensures few { length self.now ≤ 2 ^ 32 }
+    {
+        self.files.as_slice()
     }
 
     /// Puts the file last; the one error is want of memory, and leaves the list as it was.
