@@ -55,7 +55,7 @@ pub use path::{PartialPath, PathParts};
 pub use places::{edge_at, is_at_definition, is_definition_spot, kind_at};
 pub use rule::{End, Start};
 pub use shared::SharedPaths;
-pub use slots::{KEY_SIZE, key_side, keys_cmp};
+pub use slots::{KEY_SIZE, key_side, keys_cmp, symbol_at};
 pub use source::PathSource;
 pub use start_table::count_before;
 pub use stepping::{is_cut_edge, start, step, symbol_of};
