@@ -30,7 +30,7 @@ fn absent_path<'a>(rows: &Store, edit: &'a Edit) -> Option<&'a PathText>
 {
     match edit {
         Edit::Remove { path } => {
-            if rows.has(path.as_str()) {
+            if rows.blocks().has(path.as_str()) {
                 None
             } else {
                 Some(path)
@@ -50,8 +50,9 @@ pub(crate) fn few_enough(rows: &Store) -> Result<(), EditFault>
         ≡ None) (Refuses (size_fault rows.now)) }
     ensures few { OnOk result (AreFew rows.now) }
 {
-    if rows.len() > MAX_FILES {
-        return Err(EditFault::TooManyFiles(rows.len() as u64));
+    let count = rows.blocks().len();
+    if count > MAX_FILES {
+        return Err(EditFault::TooManyFiles(count as u64));
     }
     if rows.weight() > MAX_VERSION_WEIGHT {
         return Err(EditFault::TooHeavy(rows.weight()));

@@ -1,7 +1,6 @@
 use crate::blocks::Blocks;
 use crate::row_handle::RowHandle;
 use crate::text::PathText;
-use grants::Grants;
 use partial_path::SharedPaths;
 use std::alloc::{AllocError, Global};
 use std::marker::Model;
@@ -27,10 +26,9 @@ impl Model for Store {
 }
 
 impl Store {
-    ghost use Rattle.std.specs.Prelude.{◌≡◌, [], length, slice_get, IfOk, MatchOption, false, option_copied};
+    ghost use Rattle.std.specs.Prelude.{◌≡◌, [], IfOk};
     ghost use Rattle.version_tree.specs.Blocks.{all_rows};
-    ghost use Rattle.version_tree.specs.Contents.{AreRows, has_path, with_row, without_row, covered};
-    ghost use Rattle.version_tree.specs.Places.{IsRowWith};
+    ghost use Rattle.version_tree.specs.Contents.{with_row, without_row};
     ghost use Rattle.version_tree.specs.Verdict.{weight_of};
 
     /// No rows. It takes no memory.
@@ -43,28 +41,11 @@ impl Store {
         }
     }
 
-    /// How many rows there are.
-    pub(crate) fn len(&self) -> usize
-        ensures count { result ≡ length self.now }
-        ensures rows { AreRows self.now }
+    /// The blocks that the rows stand in.
+    pub(crate) fn blocks(&self) -> &Blocks
+        ensures { all_rows result.now ≡ self.now }
     {
-        self.blocks.len()
-    }
-
-    /// The row at that place; None past the last. It goes over the blocks.
-    pub(crate) fn row(&self, place: usize) -> Option<&RowHandle>
-        ensures { option_copied result ≡ slice_get self.now place }
-    {
-        self.blocks.row(place)
-    }
-
-    /// The row with the path, by halving; None where there is none.
-    pub(crate) fn find(&self, path: &str) -> Option<&RowHandle>
-        ensures row { MatchOption result (has_path path.now self.now ≡ false)
-            (λ row. IsRowWith path.now self.now row.now) }
-        ensures rows { AreRows self.now }
-    {
-        self.blocks.row_with(path)
+        &self.blocks
     }
 
     /// The weights of the rows together.
@@ -72,13 +53,6 @@ impl Store {
         ensures { result ≡ weight_of self.now }
     {
         self.weight
-    }
-
-    /// Whether a row has the path, by halving.
-    pub(crate) fn has(&self, path: &str) -> bool
-        ensures { result ≡ has_path path.now self.now }
-    {
-        self.blocks.has(path)
     }
 
     /// The same rows once more, not copied. The one error is want of memory.
@@ -118,17 +92,5 @@ impl Store {
         let weight = weight - blocks.weight_at(path);
         let blocks = blocks.without(alloc, path)?;
         Ok(Store { blocks, weight })
-    }
-
-    /// Those of the rows that the user may see, in blocks. The one error is want of memory.
-    pub(crate) fn seen(
-        &self,
-        alloc: Global,
-        grants: &Grants,
-        user: &str,
-    ) -> Result<Blocks, AllocError>
-        ensures { IfOk result (λ seen. all_rows seen ≡ covered grants.now user.now self.now) }
-    {
-        self.blocks.seen(alloc, grants, user)
     }
 }

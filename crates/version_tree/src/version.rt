@@ -62,7 +62,7 @@ impl Version {
         ensures few { length self.now.content.rows ≤ max_files }
         ensures rows { AreRows self.now.content.rows }
     {
-        self.rows.len() as u32
+        self.rows.blocks().len() as u32
     }
 
     /// The path and the file at that place, from 0 and in the order of the paths; None past the last. It
@@ -71,7 +71,7 @@ impl Version {
         ensures { option_map (λ row. file_row row.0.now row.1.now) result
             ≡ slice_get self.now.content.rows place }
     {
-        match self.rows.row(place as usize) {
+        match self.rows.blocks().row(place as usize) {
             Some(row) => Some((row.path(), row.paths())),
             None => None,
         }
@@ -81,7 +81,7 @@ impl Version {
     pub fn paths_at(&self, path: &str) -> Option<&SharedPaths>
         ensures { option_copied result ≡ file_with path.now self.now.content.rows }
     {
-        match self.rows.find(path) {
+        match self.rows.blocks().row_with(path) {
             Some(row) => Some(row.paths()),
             None => None,
         }
@@ -118,7 +118,7 @@ impl Version {
     pub fn view(&self, alloc: Global, user: &str) -> Result<View, AllocError>
         ensures { IfOk result (λ view. view ≡ granted_rows user.now self.now.content) }
     {
-        let seen = self.rows.seen(alloc, self.grants.get(), user)?;
+        let seen = self.rows.blocks().seen(alloc, self.grants.get(), user)?;
         View::of(alloc, seen)
     }
 }
