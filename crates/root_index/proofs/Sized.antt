@@ -1,6 +1,6 @@
 -- Blocks of an index: each has a path, and those of its paths that stand no higher than one stand first.
 use Rattle.std.proofs.Common.{◌≡◌, refl, sym, ◌∙◌, ap, subst, ℕ, suc, ◌+◌, ◌-◌, ◌<◌, ◌≤◌, List, [], ◌∷◌, ◌++◌, length, take, drop, reverse, get_or, Bool, true, arith}
-use Rattle.std.specs.Prelude.{All}
+use Rattle.std.specs.Prelude.{All, slice_index_or}
 use Rattle.std.specs.List.{prefix_len}
 use Rattle.std.specs.List.Sorted.{IsPartitionedBy}
 use Rattle.std.specs.Ordering.{is_le, ordering_index}
@@ -11,9 +11,9 @@ use Rattle.std.proofs.lemmas.List.Elements.{All-weaker}
 use Rattle.std.proofs.lemmas.List.Sorted.{searchable_from_sorted}
 use Rattle.std.proofs.lemmas.List.Sums.{prefix_len-le-length}
 use Rattle.root_index.specs.Roots.{RootPath, AreByRank, rank, rank_cmp}
-use Rattle.root_index.specs.Blocks.{IsBlock, all_paths, first_passes, is_up_to}
+use Rattle.root_index.specs.Blocks.{IsBlock, AreStarts, all_paths, first_passes, is_up_to}
 use Rattle.root_index.proofs.KeyOrders.{rank_cmp_total}
-use Rattle.root_index.proofs.InBlocks.{HasSome, end_is, end_in}
+use Rattle.root_index.proofs.InBlocks.{HasSome, parted_block, end_is, end_in}
 
 pub blocks_filled : (blocks : List (List RootPath)) → All IsBlock blocks → All HasSome blocks
 blocks_filled blocks sizes = All-weaker IsBlock HasSome (λ b size. size.some) blocks sizes
@@ -73,3 +73,24 @@ some_within t blocks n start o m ps sizes whole parted count some here at place 
     = ap (prefix_len t) (sym whole) ∙ end_is t blocks sizes (subst (IsPartitionedBy t) (sym whole) parted) ∙ ap (λ k. end_in t k blocks) more
     ∙ ap (λ b. length (all_paths (take (n - 1) blocks)) + prefix_len t b) same in
     omega (arith, told, at, place)
+
+-- the last block that begins within a key, of the blocks as they were read
+module _ (t : RootPath → Bool) (blocks read : List (List RootPath)) (n : ℕ) (m ps : List RootPath) (same : read ≡ blocks) (whole : all_paths blocks ≡ ps) (parted : IsPartitionedBy t ps) (bound : n ≤ length read) (some : n ≡ 0 → ⊥) (here : m ≡ get_or read (n - 1) m) where
+  there : m ≡ get_or blocks (n - 1) m
+  there = here ∙ ap (λ (bs : List (List RootPath)). get_or bs (n - 1) m) same
+
+  inside : n - 1 < length blocks
+  inside = let count = ap length same in omega (arith, bound, some, count)
+
+  pub last_parted : IsPartitionedBy t m
+  last_parted = subst (IsPartitionedBy t) (sym there) (parted_block t blocks (n - 1) m inside (subst (IsPartitionedBy t) (sym whole) parted))
+
+  -- where the key ends
+  pub last_end : (starts : List ℕ) (start o : ℕ) → All HasSome blocks → AreStarts starts blocks → n ≡ prefix_len (first_passes t) read
+      → start ≡ slice_index_or starts (n - 1) start → o ≡ prefix_len t m → start + o ≡ prefix_len t ps
+  last_end starts start o sizes are count at place =
+      some_within t blocks n start o m ps sizes whole parted (count ∙ ap (prefix_len (first_passes t)) same) some there (at ∙ are.each (n - 1) start inside) place
+
+-- so many are no more than there are
+pub end_bound : (t : RootPath → Bool) (ps : List RootPath) (n : ℕ) → n ≡ prefix_len t ps → n ≤ length ps
+end_bound t ps n is = let most = prefix_len-le-length t ps in omega (arith, is, most)

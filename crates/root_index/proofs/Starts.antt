@@ -11,7 +11,7 @@ use Rattle.std.proofs.lemmas.List.Sums.{prefix_len_passes, prefix_len_stops, pre
 use Rattle.std.proofs.lemmas.Option.{slice_get-get_or}
 use Rattle.version_tree.proofs.Joined.{slice_get-left}
 use Rattle.root_index.specs.Roots.{RootPath}
-use Rattle.root_index.specs.Blocks.{AreStarts, all_paths, begins_by}
+use Rattle.root_index.specs.Blocks.{AreStarts, IsPlaceIn, all_paths, begins_by}
 use Rattle.root_index.proofs.InBlocks.{around, further}
 
 le_from : (a b : ℕ) → nat_le a b ≡ true → a ≤ b
@@ -74,30 +74,28 @@ module _ (starts : List ℕ) (blocks : List (List RootPath)) (place n : ℕ) (ar
         absurd (omega (arith, first, above))
   ]
 
-  pub block_inside : n - 1 < length blocks
+  block_inside : n - 1 < length blocks
   block_inside =
       let count = are.count in
       let one = one_begins in
       let fits : prefix_len (begins_by place) starts ≤ length starts = prefix_len-le-length (begins_by place) starts in
       omega (arith, count, one, fits, found)
 
-  start_is : (d : ℕ) → get_or starts (n - 1) d ≡ length (all_paths (take (n - 1) blocks))
-  start_is d = are.each (n - 1) d block_inside
+  start_is : get_or starts (n - 1) 0 ≡ length (all_paths (take (n - 1) blocks))
+  start_is = are.each (n - 1) 0 block_inside
 
-  pub start_below : (start : ℕ) → start ≡ get_or starts (n - 1) start → start ≤ place
-  start_below start is =
+  pub start_below : get_or starts (n - 1) 0 ≤ place
+  start_below =
       let one = one_begins in
-      let passed : begins_by place (get_or starts (n - 1) start) ≡ true = prefix_len_passes (begins_by place) starts (n - 1) start (omega (arith, one, found)) in
-      let le : get_or starts (n - 1) start ≤ place = le_from (get_or starts (n - 1) start) place passed in
-      omega (arith, is, le)
+      le_from (get_or starts (n - 1) 0) place (prefix_len_passes (begins_by place) starts (n - 1) 0 (omega (arith, one, found)))
 
   whole_is : (m : List RootPath) → m ≡ get_or blocks (n - 1) m → all_paths blocks ≡ all_paths (take (n - 1) blocks) ++ (m ++ all_paths (drop (n - 1 + 1) blocks))
   whole_is m here = around blocks (n - 1) m block_inside ∙ ap (λ b. all_paths (take (n - 1) blocks) ++ (b ++ all_paths (drop (n - 1 + 1) blocks))) (sym here)
 
-  pub place_inside : (start : ℕ) (m : List RootPath) → start ≡ get_or starts (n - 1) start → m ≡ get_or blocks (n - 1) m → place - start < length m
-  place_inside start m is here =
+  place_inside : (m : List RootPath) → m ≡ get_or blocks (n - 1) m → place - get_or starts (n - 1) 0 < length m
+  place_inside m here =
       let one = one_begins in
-      let at : start ≡ length (all_paths (take (n - 1) blocks)) = is ∙ start_is start in
+      let at = start_is in
       let next : n - 1 + 1 ≡ n = omega (arith, one) in
       let long : length (all_paths blocks) ≡ length (all_paths (take (n - 1) blocks)) + length (m ++ all_paths (drop (n - 1 + 1) blocks))
       = ap length (whole_is m here) ∙ length-append (all_paths (take (n - 1) blocks)) (m ++ all_paths (drop (n - 1 + 1) blocks)) in
@@ -114,28 +112,36 @@ module _ (starts : List ℕ) (blocks : List (List RootPath)) (place n : ℕ) (ar
             ∙ ap (λ r. all_paths (take (n - 1) blocks) ++ r) (append-nil (get_or blocks (n - 1) m) ∙ sym here) in
             let sum : length (all_paths (take n blocks)) ≡ length (all_paths (take (n - 1) blocks)) + length m
             = ap length grown ∙ length-append (all_paths (take (n - 1) blocks)) m in
-            let below = start_below start is in
+            let below = start_below in
             omega (arith, at, above, later, sum, below)
         | inr last ↦
             let none : all_paths (drop (n - 1 + 1) blocks) ≡ [] = ap all_paths (drop_all (n - 1 + 1) blocks (omega (arith, last, next))) in
             let zero_left : length (all_paths (drop (n - 1 + 1) blocks)) ≡ 0 = ap length none in
-            let below = start_below start is in
+            let below = start_below in
             let within = inside in
             omega (arith, at, long, rest, zero_left, below, within)
       ]
 
-  pub found_there : (start : ℕ) (m : List RootPath) (x : RootPath) → start ≡ get_or starts (n - 1) start → m ≡ get_or blocks (n - 1) m → x ≡ get_or m (place - start) x
+  found_there : (m : List RootPath) (x : RootPath) → m ≡ get_or blocks (n - 1) m → x ≡ get_or m (place - get_or starts (n - 1) 0) x
       → slice_get (all_paths blocks) place ≡ Some x
-  found_there start m x is here there =
-      let at : start ≡ length (all_paths (take (n - 1) blocks)) = is ∙ start_is start in
-      let below = start_below start is in
-      let within : place - start < length m = place_inside start m is here in
-      let split : place ≡ length (all_paths (take (n - 1) blocks)) + (place - start) = omega (arith, at, below) in
+  found_there m x here there =
+      let at = start_is in
+      let below = start_below in
+      let inside_it : ℕ = place - get_or starts (n - 1) 0 in
+      let within : inside_it < length m = place_inside m here in
+      let split : place ≡ length (all_paths (take (n - 1) blocks)) + inside_it = omega (arith, at, below) in
       slice_get-get_or (all_paths blocks) place x inside
       ∙ ap Some (ap (λ k. get_or (all_paths blocks) k x) split
-      ∙ ap (λ ps. get_or ps (length (all_paths (take (n - 1) blocks)) + (place - start)) x) (whole_is m here)
-      ∙ get_or-append-add (all_paths (take (n - 1) blocks)) (m ++ all_paths (drop (n - 1 + 1) blocks)) (place - start) x
-      ∙ get_or_append_left m (all_paths (drop (n - 1 + 1) blocks)) x (place - start) within ∙ sym there)
+      ∙ ap (λ ps. get_or ps (length (all_paths (take (n - 1) blocks)) + inside_it) x) (whole_is m here)
+      ∙ get_or-append-add (all_paths (take (n - 1) blocks)) (m ++ all_paths (drop (n - 1 + 1) blocks)) inside_it x
+      ∙ get_or_append_left m (all_paths (drop (n - 1 + 1) blocks)) x inside_it within ∙ sym there)
+
+  pub place_in : IsPlaceIn blocks place (n - 1) (place - get_or starts (n - 1) 0)
+  place_in = record {
+    in_range = block_inside;
+    there = place_inside;
+    path = found_there;
+  }
 
 -- the first of all paths
 pub first_there : (blocks : List (List RootPath)) (m : List RootPath) (x : RootPath) → m ≡ get_or blocks 0 m → 0 < length (all_paths blocks) → slice_get m 0 ≡ Some x

@@ -1,5 +1,5 @@
 -- Putting the paths of a file into an index, one after the other, and those of all files that edits touch.
-use Rattle.std.proofs.Common.{◌≡◌, refl, sym, ◌∙◌, ap, subst, ℕ, ◌+◌, ◌<◌, List, [], ◌∷◌, ◌++◌, length, take, drop, get_or, Bool, true, false, cond, Option, Some, None, arith, slice_get}
+use Rattle.std.proofs.Common.{◌≡◌, refl, sym, ◌∙◌, ap, subst, ℕ, ◌+◌, ◌<◌, List, [], ◌∷◌, ◌++◌, length, take, get_or, Bool, true, false, cond, Option, Some, None, arith}
 use Rattle.std.specs.Prelude.{◌||◌}
 use Rattle.std.specs.List.{filter, prefix_len, insert}
 use Rattle.std.specs.List.Sorted.{IsPermutation}
@@ -12,18 +12,15 @@ use Rattle.std.proofs.lemmas.Grind.{flat_map-append}
 use Rattle.std.proofs.lemmas.List.{append_assoc, append-nil}
 use Rattle.std.proofs.lemmas.List.Sums.{prefix_len_passes, prefix_len_stops, prefix_len-le-length}
 use Rattle.std.proofs.lemmas.List.Sorted.{IsPermutation-refl, IsPermutation-sym, IsPermutation-trans, IsPermutation-cons, IsPermutation-middle, IsPermutation-insert, IsPermutation-append_left, IsPermutation-append_right, IsPermutation-append_comm}
-use Rattle.partial_path.specs.Rules.{Rule}
 use Rattle.partial_path.specs.PathSets.{FileRules}
-use Rattle.partial_path.specs.Starts.{begins_at}
 use Rattle.partial_path.proofs.Halved.{filter_same}
 use Rattle.version_tree.specs.declared.edit.Edit.{Edit}
 use Rattle.version_tree.specs.Contents.{FileRow, file_row, path_cmp, Content, IsInOrder, edited_all}
 use Rattle.version_tree.specs.Views.{file_with}
-use Rattle.root_index.specs.Roots.{RootPath, root, root_path, rank, rank_cmp, AreByRank, roots_from, roots_of, all_roots, IsIndexOf}
+use Rattle.root_index.specs.Roots.{RootPath, rank, rank_cmp, AreByRank, roots_of, all_roots, IsIndexOf}
 use Rattle.root_index.specs.Amended.{edit_path, names, is_touched, touched_rows, other_paths, rows_at}
 use Rattle.root_index.specs.Blocks.{is_up_to}
 use Rattle.root_index.proofs.Amended.{amended_is}
-use Rattle.root_index.proofs.Gathered.{first_apart, got}
 use Rattle.root_index.proofs.KeyOrders.{rank_cmp_total}
 use Rattle.root_index.proofs.Ranked.{insert_sorted}
 use Rattle.root_index.proofs.Seen.{given_in_any_order}
@@ -49,32 +46,20 @@ order_with ps p sorted =
     (λ k d e. low_is (get_or ps k d) p (prefix_len_passes (is_up_to p) ps k d (omega (arith, e))))
     (λ d h. high_is (rank_cmp (rank (get_or ps (prefix_len (is_up_to p) ps) d)) (rank p)) (prefix_len_stops (is_up_to p) ps d h))
 
--- what is to be put in, then what is there
-module _ (path : List ℕ) (place : ℕ) (rules : List Rule) (d : Rule) (whole ps : List RootPath) (h : place < length rules)
-    (all : IsPermutation whole (roots_from path place (drop place rules) ++ ps)) where
-  -- one from the root is put in
-  pub one_in : begins_at root (get_or rules place d) ≡ true → (n : ℕ)
-      → IsPermutation whole (roots_from path (place + 1) (drop (place + 1) rules) ++ insert ps n (root_path path place (slice_get rules place)))
-  one_in from n =
-      let next : List RootPath = roots_from path (place + 1) (drop (place + 1) rules) in
-      let slot : RootPath = root_path path place (slice_get rules place) in
-      let first : roots_from path place (drop place rules) ≡ root_path path place (slice_get rules place) ∷ roots_from path (place + 1) (drop (place + 1) rules)
-      = first_apart path place rules d h
-      ∙ ap (λ b. cond b (root_path path place (Some (get_or rules place d)) ∷ []) [] ++ roots_from path (place + 1) (drop (place + 1) rules)) from
-      ∙ ap (λ o. root_path path place o ∷ roots_from path (place + 1) (drop (place + 1) rules)) (sym (got rules place d h)) in
-      IsPermutation-trans whole (slot ∷ (next ++ ps)) (next ++ insert ps n slot)
-      (subst (λ rs. IsPermutation whole (rs ++ ps)) first all)
-      (IsPermutation-trans (slot ∷ (next ++ ps)) (next ++ slot ∷ ps) (next ++ insert ps n slot)
-      (IsPermutation-sym (next ++ slot ∷ ps) (slot ∷ (next ++ ps)) (IsPermutation-middle next slot ps))
-      (IsPermutation-append_right next (slot ∷ ps) (insert ps n slot) (IsPermutation-insert ps n slot)))
+-- of what is to be put in, then what is there, the first is put in
+pub one_in : (whole next ps : List RootPath) (p : RootPath) (n : ℕ) → IsPermutation whole (p ∷ (next ++ ps)) → IsPermutation whole (next ++ insert ps n p)
+one_in whole next ps p n all =
+    IsPermutation-trans whole (p ∷ (next ++ ps)) (next ++ insert ps n p) all
+    (IsPermutation-trans (p ∷ (next ++ ps)) (next ++ p ∷ ps) (next ++ insert ps n p)
+    (IsPermutation-sym (next ++ p ∷ ps) (p ∷ (next ++ ps)) (IsPermutation-middle next p ps))
+    (IsPermutation-append_right next (p ∷ ps) (insert ps n p) (IsPermutation-insert ps n p)))
 
-  -- another is passed over
-  pub none_in : begins_at root (get_or rules place d) ≡ false → IsPermutation whole (roots_from path (place + 1) (drop (place + 1) rules) ++ ps)
-  none_in other =
-      let first : roots_from path place (drop place rules) ≡ roots_from path (place + 1) (drop (place + 1) rules)
-      = first_apart path place rules d h
-      ∙ ap (λ b. cond b (root_path path place (Some (get_or rules place d)) ∷ []) [] ++ roots_from path (place + 1) (drop (place + 1) rules)) other in
-      subst (λ rs. IsPermutation whole (rs ++ ps)) first all
+-- what is taken up by itself, and then put to what is there
+pub put_to : (touched none added before after : List RootPath) → none ≡ [] → IsPermutation (touched ++ none) added → IsPermutation (added ++ before) after → IsPermutation (touched ++ before) after
+put_to touched none added before after empty taken all =
+    IsPermutation-trans (touched ++ before) (added ++ before) after
+    (IsPermutation-append_left before touched added
+    (subst (λ ps. IsPermutation ps added) (append-nil touched) (subst (λ ps. IsPermutation (touched ++ ps) added) empty taken))) all
 
 -- those that pass one of two tests that nothing passes both of
 apart_or : {X : Type 0} (a b : X → Bool) → ((x : X) → b x ≡ true → a x ≡ false) → (xs : List X) → IsPermutation (filter (λ x. a x || b x) xs) (filter b xs ++ filter a xs)

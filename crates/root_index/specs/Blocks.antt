@@ -1,5 +1,5 @@
 -- How the paths of an index stand in blocks; no public clause cites this.
-use Rattle.std.specs.Prelude.{◌≡◌, ℕ, ◌+◌, ◌<◌, ◌≤◌, List, [], ◌∷◌, length, take, Bool, false, slice_index_or, nat_le}
+use Rattle.std.specs.Prelude.{◌≡◌, ℕ, ◌+◌, ◌<◌, ◌≤◌, List, [], ◌∷◌, length, take, Bool, false, Some, slice_get, slice_index_or, nat_le}
 use Rattle.std.specs.List.{flat_map, prefix_len, AllByRecursion}
 use Rattle.std.specs.Ordering.{is_le, is_eq}
 use Rattle.std.specs.declared.cmp.Ordering.TheVariants.{Less}
@@ -41,6 +41,18 @@ IsStrict (p ∷ ps) = AllByRecursion (λ (q : RootPath). rank_cmp (rank p) (rank
 pub record AreStarts (starts : List ℕ) (blocks : List (List RootPath)) : Type 0 where
   pub count : length starts ≡ length blocks
   pub each : (k : ℕ) (d : ℕ) → k < length blocks → slice_index_or starts k d ≡ length (all_paths (take k blocks))
+
+-- the place is one among all paths of blocks that begin there
+pub record IsAmong (starts : List ℕ) (place : ℕ) : Type 0 where
+  pub blocks : List (List RootPath)
+  pub begin : AreStarts starts blocks
+  pub inside : place < length (all_paths blocks)
+
+-- the path at a place among all paths is the one at a place of a block
+pub record IsPlaceIn (blocks : List (List RootPath)) (place block inside : ℕ) : Type 0 where
+  pub in_range : block < length blocks
+  pub there : (m : List RootPath) → m ≡ slice_index_or blocks block m → inside < length m
+  pub path : (m : List RootPath) (p : RootPath) → m ≡ slice_index_or blocks block m → p ≡ slice_index_or m inside p → slice_get (all_paths blocks) place ≡ Some p
 
 -- whether a block begins no later than at the place
 abbrev pub begins_by : ℕ → ℕ → Bool

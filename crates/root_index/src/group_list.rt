@@ -8,7 +8,7 @@ ghost use Rattle.root_index.specs.Inside.{is_before_key};
 use crate::group::Group;
 use crate::groups::Groups;
 use crate::slot::Slot;
-use crate::slot_list::{blocks_near, is_before_key};
+use crate::slot_list::{is_before_key, place_among};
 use stacks_vars::LentStack;
 use std::alloc::{AllocError, Global};
 use std::marker::Model;
@@ -99,14 +99,12 @@ impl GroupList {
         requires { place < length self.now }
         ensures { slice_get self.now place ≡ Some result.0.now }
     {
-        let group = blocks_near(self.starts.as_slice(), place, near) - 1;
-        let slots = self.groups.groups()[group].slots();
-        let slot = slots.at(place - self.starts[group]);
-        (slot, group)
+        let (group, inside) = place_among(self.starts.as_slice(), place, near);
+        (self.groups.groups()[group].slots().at(inside), group)
     }
 
-    /// How many paths seem to stand before the key with these heads, and the group of the last of them. It is found by halving over heads alone, and may be wrong where long
-    /// texts have one head.
+    /// How many paths seem to stand before the key with these heads, and the group of the last of them. It is found by
+    /// halving over heads alone, and may be wrong where long texts have one head.
     pub(crate) fn told(&self, wanted: &[u64; 6]) -> (usize, usize) {
         let groups = self.groups.groups();
         let found = groups_told(groups, wanted);

@@ -1,4 +1,4 @@
-use crate::edited_files::{FEW_EDITS, are_many};
+use crate::edited_files::are_many;
 use crate::file_numbers::number_in;
 use crate::file_roots::slots_of;
 use crate::group_list::GroupList;
@@ -6,7 +6,7 @@ use crate::groups::Groups;
 use crate::looks::{RootLook, next_looked};
 use crate::offers::{RootOffers, next_slot};
 use crate::seen_files::SeenFiles;
-use crate::with_files::{with_edited, with_many};
+use crate::with_files::with_edited;
 use crate::without_files::without_edited;
 use partial_path::StoredPath;
 use stacks_vars::{LentStack, Symbol};
@@ -86,11 +86,7 @@ impl RootIndex {
         }
         let groups = self.slots.groups().share(alloc)?;
         let groups = without_edited(alloc, groups, old, edits)?;
-        let groups = if edits.len() > FEW_EDITS {
-            with_many(alloc, groups, new, edits)?
-        } else {
-            with_edited(alloc, groups, new, edits)?
-        };
+        let groups = with_edited(alloc, groups, new, edits)?;
         Ok(RootIndex {
             slots: GroupList::of(alloc, groups)?,
         })
@@ -180,8 +176,8 @@ impl RootIndex {
     }
 
     /// The numbers of all paths' files in the view, for many look-ups by `next_offer_by`. The one error is want
-    /// of memory: it takes some fifty bytes for each path, since it notes where the paths of each key begin. Its time follows the number of paths: for each its file's
-    /// number is found as `next_offer` finds it.
+    /// of memory: it takes some fifty bytes for each path, since it notes where the paths of each key begin. Its
+    /// time follows the number of paths: for each its file's number is found as `next_offer` finds it.
     pub fn seen_files(&self, alloc: Global, view: &View) -> Result<SeenFiles, AllocError>
         ensures { IfOk result (AreSeenFiles self.now view.now) }
     {

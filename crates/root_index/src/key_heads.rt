@@ -9,7 +9,7 @@ ghost use Rattle.partial_path.specs.Heads.{IsHeadAt};
 ghost use Rattle.stacks_vars.specs.Head.{IsHead};
 ghost use Rattle.root_index.specs.Heads.{AreHeads, AreTails, IsTailAt};
 
-use partial_path::{KEY_SIZE, StoredPath};
+use partial_path::{KEY_SIZE, StoredPath, symbol_at};
 use stacks_vars::{LentStack, Symbol};
 use std::cmp::Ordering;
 
@@ -40,8 +40,8 @@ fn head_at(path: &StoredPath<'_>, i: usize) -> u64
     requires { i < key_size }
     ensures { IsHeadAt result (slice_get (key path.now) i) }
 {
-    match path.asked().get(i) {
-        Some(pat) => pat.symbol.head(),
+    match asked_at(path, i) {
+        Some(symbol) => symbol.head(),
         None => 0,
     }
 }
@@ -65,14 +65,14 @@ fn tail_at(path: &StoredPath<'_>, i: usize) -> u64
     requires { i < key_size }
     ensures { IsTailAt result (slice_get (key path.now) i) }
 {
-    match symbol_at(path, i) {
+    match asked_at(path, i) {
         Some(symbol) => tail_of(symbol),
         None => 0,
     }
 }
 
-/// The symbol that the path asks for at that place, from 0.
-fn symbol_at<'a>(path: &StoredPath<'a>, i: usize) -> Option<&'a Symbol>
+/// The symbol that the path asks for at that place, from 0; None where it asks for fewer.
+fn asked_at<'a>(path: &StoredPath<'a>, i: usize) -> Option<&'a Symbol>
     requires { i < key_size }
     ensures { option_map (λ s. s.now) result ≡ slice_get (key path.now) i }
 {
@@ -203,11 +203,9 @@ pub(crate) fn heads_order(a: &[u64; 6], b: &[u64; 6]) -> Option<Ordering>
 fn wanted_head(symbols: &LentStack<'_>, count: usize, i: usize) -> u64
     ensures { IsHeadAt result (slice_get (take count (texts symbols.now)) i) }
 {
-    let items = symbols.reversed();
-    if i < count && i < items.len() {
-        items[items.len() - 1 - i].symbol().head()
-    } else {
-        0
+    match symbol_at(symbols, count, i) {
+        Some(symbol) => symbol.head(),
+        None => 0,
     }
 }
 
@@ -215,11 +213,9 @@ fn wanted_head(symbols: &LentStack<'_>, count: usize, i: usize) -> u64
 fn wanted_tail(symbols: &LentStack<'_>, count: usize, i: usize) -> u64
     ensures { IsTailAt result (slice_get (take count (texts symbols.now)) i) }
 {
-    let items = symbols.reversed();
-    if i < count && i < items.len() {
-        tail_of(items[items.len() - 1 - i].symbol())
-    } else {
-        0
+    match symbol_at(symbols, count, i) {
+        Some(symbol) => tail_of(symbol),
+        None => 0,
     }
 }
 

@@ -1,9 +1,10 @@
-ghost use Rattle.std.specs.Prelude.{◌≡◌, ◌<◌, ◌≤◌, nat_lt, true, length, take};
+ghost use Rattle.std.specs.Prelude.{◌≡◌, ◌<◌, ◌≤◌, List, nat_lt, true, length, take};
 ghost use Rattle.std.specs.List.{prefix_len};
 ghost use Rattle.std.specs.List.Sorted.{IsPartitionedBy};
 ghost use Rattle.partial_path.specs.Keys.{key_size, texts};
-ghost use Rattle.root_index.specs.Blocks.{begins_by, first_passes};
+ghost use Rattle.root_index.specs.Blocks.{AreStarts, IsAmong, IsPlaceIn, all_paths, begins_by, first_passes};
 ghost use Rattle.root_index.specs.Inside.{is_before_key};
+ghost use Rattle.root_index.specs.Roots.{RootPath};
 
 use crate::block::{Block, MADE_PATHS};
 use crate::blocks::Blocks;
@@ -92,8 +93,8 @@ impl SlotList {
     {
         // Blocks that are made of a list have so many paths each, and the first one at most twice as many.
         let near = (place / MADE_PATHS).saturating_sub(1);
-        let block = blocks_near(self.starts.as_slice(), place, near) - 1;
-        &self.blocks.blocks()[block].slots()[place - self.starts[block]]
+        let (block, inside) = place_among(self.starts.as_slice(), place, near);
+        &self.blocks.blocks()[block].slots()[inside]
     }
 
     /// How many paths seem to stand before the key with these heads.
@@ -127,9 +128,20 @@ impl SlotList {
     }
 }
 
+/// The number of the block, or group of them, that has the path at the place, and the path's place in it: in constant
+/// time where that is the one told or the next one, else by halving.
+pub(crate) fn place_among(starts: &[usize], place: usize, near: usize) -> (usize, usize)
+    requires { IsAmong starts.now place }
+    ensures { (blocks : List (List RootPath)) → AreStarts starts.now blocks
+        → place < length (all_paths blocks) → IsPlaceIn blocks place result.0 result.1 }
+{
+    let block = blocks_near(starts, place, near) - 1;
+    (block, place - starts[block])
+}
+
 /// How many blocks, or groups of them, begin no later than at the place: in constant time where the one told, or
 /// the next one, is the last of them, else by halving.
-pub(crate) fn blocks_near(starts: &[usize], place: usize, near: usize) -> usize
+fn blocks_near(starts: &[usize], place: usize, near: usize) -> usize
     requires { IsPartitionedBy (begins_by place) starts.now }
     ensures value { result ≡ prefix_len (begins_by place) starts.now }
     ensures bound { result ≤ length starts.now }

@@ -1,19 +1,20 @@
 //! Paths with those of the files that edits put.
 
 ghost use Rattle.std.specs.Prelude.{◌++◌, IfOk, OnOk, IsPermutation};
-ghost use Rattle.root_index.specs.Roots.{AreByRank, all_roots, roots_of};
+ghost use Rattle.root_index.specs.Roots.{AreByRank, all_roots};
 ghost use Rattle.root_index.specs.Amended.{rows_at, touched_rows};
 ghost use Rattle.root_index.specs.Blocks.{all_paths};
 
-use crate::edited_files::{is_touched, path_of};
+use crate::edited_files::{FEW_EDITS, is_touched, path_of};
 use crate::file_handle::FileHandle;
-use crate::file_roots::{add_slots, is_from_root};
+use crate::file_roots::add_slots;
 use crate::groups::Groups;
 use crate::slot::Slot;
 use std::alloc::{AllocError, Global};
 use version_tree::{Edit, Version};
 
-/// These paths with those of the version's files that an edit puts. The one error is want of memory.
+/// These paths with those of the version's files that an edit puts: of a few edits each is put in at its place, else
+/// all are sorted behind these at once, where what is in order already costs one pass. The one error is want of memory.
 pub(crate) fn with_edited(
     alloc: Global,
     groups: Groups,
@@ -26,71 +27,29 @@ pub(crate) fn with_edited(
         (λ more. IsPermutation (all_roots (touched_rows edits.now new.now.content.rows)
         ++ all_paths groups) (all_paths more)) }
 {
-    let _count = new.row_count();
-    let mut more = groups;
-    for i in 0..edits.len() {
-        if let Some(path) = path_of(&edits[i]) {
-            if !is_touched(&edits[..i], path) {
-                more = with_path(alloc, more, new, path)?;
-            }
-        }
+    let mut added = Vec::new(alloc);
+    add_edited(alloc, &mut added, new, edits)?;
+    if edits.len() <= FEW_EDITS {
+        return with_slots(alloc, groups, added);
     }
-    Ok(more)
-}
-
-/// These paths with those of the version's file at that path. The one error is want of memory.
-fn with_path(alloc: Global, groups: Groups, new: &Version, path: &str) -> Result<Groups, AllocError>
-    requires { AreByRank (all_paths groups) }
-    ensures order { IfOk result (λ more. AreByRank (all_paths more)) }
-    ensures all { IfOk result
-        (λ more. IsPermutation (all_roots (rows_at path.now new.now.content.rows)
-        ++ all_paths groups) (all_paths more)) }
-{
-    let _count = new.row_count();
-    match new.paths_at(path) {
-        Some(paths) => {
-            let file = FileHandle::of(alloc, path, paths, row_with(new, path))?;
-            with_file(alloc, groups, &file)
-        }
-        None => Ok(groups),
-    }
-}
-
-/// These paths with those of the file that begin at the root. The one error is want of memory.
-fn with_file(alloc: Global, groups: Groups, file: &FileHandle) -> Result<Groups, AllocError>
-    requires { AreByRank (all_paths groups) }
-    ensures order { IfOk result (λ more. AreByRank (all_paths more)) }
-    ensures all { IfOk result (λ more. IsPermutation (roots_of file.now
-        ++ all_paths groups) (all_paths more)) }
-{
-    let mut more = groups;
-    let paths = file.paths().get().paths();
-    for place in 0..paths.len() {
-        if is_from_root(&paths.at(place)) {
-            more = more.with(alloc, Slot::of(file.share()?, place))?;
-        }
-    }
-    Ok(more)
-}
-
-/// These paths with those of the version's files that an edit puts, sorted behind them at once: what is in
-/// order already costs one pass. The one error is want of memory.
-pub(crate) fn with_many(
-    alloc: Global,
-    groups: Groups,
-    new: &Version,
-    edits: &[Edit],
-) -> Result<Groups, AllocError>
-    requires { AreByRank (all_paths groups) }
-    ensures order { IfOk result (λ more. AreByRank (all_paths more)) }
-    ensures all { IfOk result
-        (λ more. IsPermutation (all_roots (touched_rows edits.now new.now.content.rows)
-        ++ all_paths groups) (all_paths more)) }
-{
     let mut slots = groups.slots(alloc)?;
-    add_edited(alloc, &mut slots, new, edits)?;
+    slots.append(&mut added)?;
     slots.sort_by(|a, b| a.order(b))?;
     Groups::of(alloc, slots)
+}
+
+/// These paths with those, each put in at its place. The one error is want of memory.
+fn with_slots(alloc: Global, groups: Groups, slots: Vec<Slot>) -> Result<Groups, AllocError>
+    requires { AreByRank (all_paths groups) }
+    ensures order { IfOk result (λ more. AreByRank (all_paths more)) }
+    ensures all { IfOk result
+        (λ more. IsPermutation (slots.items ++ all_paths groups) (all_paths more)) }
+{
+    let mut more = groups;
+    for slot in slots {
+        more = more.with(alloc, slot)?;
+    }
+    Ok(more)
 }
 
 /// Adds the paths of the version's files that an edit puts. The one error is want of memory.

@@ -1,45 +1,39 @@
-use Rattle.std.proofs.Common.{sym, ◌∙◌, ap, subst, ◌+◌, ◌++◌, take}
+use Rattle.std.proofs.Common.{rules, sym, ◌∙◌, ap, subst, List, ◌++◌}
+use Rattle.std.specs.Ordering.{is_lt}
 use Rattle.std.specs.List.Sorted.{IsPermutation}
-use Rattle.std.proofs.lemmas.List.{take_all}
-use Rattle.std.proofs.lemmas.List.Sorted.{IsPermutation-refl}
-use Rattle.root_index.specs.Roots.{AreByRank, all_roots}
+use Rattle.std.proofs.lemmas.List.Sorted.{IsPermutation-trans, IsPermutation-append_comm, answers_always}
+use Rattle.std.proofs.lemmas.Result.{IfOk-weaker}
+use Rattle.root_index.specs.Roots.{RootPath, AreByRank, all_roots, rank, rank_cmp}
 use Rattle.root_index.specs.Amended.{touched_rows}
 use Rattle.root_index.specs.Blocks.{all_paths}
-use Rattle.root_index.proofs.WithFile.{edit_in, again_in, other_in, none_touched}
+use Rattle.root_index.proofs.KeyOrders.{order_of_ranks}
+use Rattle.root_index.proofs.WithFile.{put_to}
 use Rattle.root_index.proofs.with_files.with_edited.Goals as goal
-use Rattle.root_index.proofs.with_files.with_edited.Goals.{in-Some+then-not-is_touched+in_ok-more, in-Some+else-not-is_touched, in_default}
 
-pub loop-i-init : goal.loop-i-init
-loop-i-init c = record {
-  order = c.requires;
-  all = subst (λ rs. IsPermutation (all_roots rs ++ all_paths c.args.groups) (all_paths c.args.groups)) (sym (none_touched c.args.new.now.content.rows)) (IsPermutation-refl (all_paths c.args.groups));
-}
+pub returns-then-edits-le-FEW_EDITS-clause-all : goal.returns-then-edits-le-FEW_EDITS-clause-all
+returns-then-edits-le-FEW_EDITS-clause-all c =
+    let touched = all_roots (touched_rows c.args.edits.now c.args.new.now.content.rows) in
+    IfOk-weaker c.with_slots.result _ (λ more. IsPermutation (touched ++ all_paths c.args.groups) (all_paths more))
+    (λ more e. put_to touched c.new-added.result.items c.add_edited.new.slots.items (all_paths c.args.groups) (all_paths more) c.new-added.ensures.items c.in_ok-add_edited.ensures e)
+    c.with_slots.ensures.all
 
--- the file that the edit puts is added once
-pub loop-i-preserved : goal.loop-i-preserved
-loop-i-preserved c = elim c.match-path_of.branch [
-  | in-Some+then-not-is_touched+in_ok-more w ↦ record {
-    order = subst AreByRank (sym (ap all_paths w.more-is)) w.in_ok-more.ensures.order;
-    all = subst (IsPermutation (all_roots (touched_rows (take (c.loop-i.i + 1) c.args.edits.now) c.args.new.now.content.rows) ++ all_paths c.args.groups)) (sym (ap all_paths w.more-is))
-        (edit_in c.args.edits.now c.loop-i.i c.index-edits-i.result c.args.new.now.content.rows c.loop-i-test.true (sym c.index-edits-i.is) w.in-Some.path.now w.in-Some.ensures
-        (sym w.is_touched.ensures ∙ w.if-not-is_touched.true) (all_paths c.args.groups) (all_paths c.loop-i.more) (all_paths w.in_ok-more.more) c.loop-i.invariant.all w.in_ok-more.ensures.all);
-  }
-  | in-Some+else-not-is_touched w ↦ record {
-    order = subst AreByRank (sym (ap all_paths w.more-is)) c.loop-i.invariant.order;
-    all = subst (λ rs. IsPermutation (all_roots rs ++ all_paths c.args.groups) (all_paths c.match-path_of.more))
-        (again_in c.args.edits.now c.loop-i.i c.index-edits-i.result c.args.new.now.content.rows c.loop-i-test.true (sym c.index-edits-i.is) w.in-Some.path.now w.in-Some.ensures
-        (sym w.is_touched.ensures ∙ w.if-not-is_touched.false))
-        (subst (IsPermutation (all_roots (touched_rows (take c.loop-i.i c.args.edits.now) c.args.new.now.content.rows) ++ all_paths c.args.groups)) (sym (ap all_paths w.more-is)) c.loop-i.invariant.all);
-  }
-  | in_default w ↦ record {
-    order = subst AreByRank (sym (ap all_paths w.more-is)) c.loop-i.invariant.order;
-    all = subst (λ rs. IsPermutation (all_roots rs ++ all_paths c.args.groups) (all_paths c.match-path_of.more))
-        (other_in c.args.edits.now c.loop-i.i c.index-edits-i.result c.args.new.now.content.rows c.loop-i-test.true (sym c.index-edits-i.is) w.in_default.ensures)
-        (subst (IsPermutation (all_roots (touched_rows (take c.loop-i.i c.args.edits.now) c.args.new.now.content.rows) ++ all_paths c.args.groups)) (sym (ap all_paths w.more-is)) c.loop-i.invariant.all);
-  }
-]
+pub returns-clause-order : goal.returns-clause-order
+returns-clause-order c =
+    IfOk-weaker c.of.result _ (λ more. AreByRank (all_paths more))
+    (λ more e. subst AreByRank (sym e)
+    (c.in_ok-sort_by.ensures.sorted (λ a b. is_lt (rank_cmp (rank a) (rank b))) order_of_ranks (answers_always _ _ _ (λ f a r g h. search rules))))
+    c.of.ensures
 
+-- the sort only moves the old paths and those that were put behind them
 pub returns-clause-all : goal.returns-clause-all
 returns-clause-all c =
-    subst (λ es. IsPermutation (all_roots (touched_rows es c.args.new.now.content.rows) ++ all_paths c.args.groups) (all_paths c.loop-i.more))
-    (take_all c.loop-i.i c.args.edits.now c.loop-i-test.false) c.loop-i.invariant.all
+    let touched = all_roots (touched_rows c.args.edits.now c.args.new.now.content.rows) in
+    let added : List RootPath = c.add_edited.new.slots.items in
+    let before = all_paths c.args.groups in
+    let sorted : List RootPath = c.sort_by.new.self.items in
+    IfOk-weaker c.of.result _ (λ more. IsPermutation (touched ++ before) (all_paths more))
+    (λ more e. subst (IsPermutation (touched ++ before)) (sym e)
+    (put_to touched c.new-added.result.items added before sorted c.new-added.ensures.items c.in_ok-add_edited.ensures
+    (IsPermutation-trans (added ++ before) (before ++ added) sorted (IsPermutation-append_comm added before)
+    (subst (λ (ps : List RootPath). IsPermutation ps sorted) (c.in_ok-append.ensures.items ∙ ap (λ (ps : List RootPath). ps ++ added) c.in_ok-slots.ensures) c.in_ok-sort_by.ensures.permutation))))
+    c.of.ensures

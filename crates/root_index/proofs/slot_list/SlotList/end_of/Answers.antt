@@ -1,12 +1,11 @@
-use Rattle.std.proofs.Common.{◌<◌, ◌-◌, ap, sym, subst, ◌∙◌, arith, length, get_or, take}
+use Rattle.std.proofs.Common.{ap, sym, subst, ◌∙◌, arith, take}
 use Rattle.std.specs.List.{prefix_len}
 use Rattle.std.specs.List.Sorted.{IsPartitionedBy}
-use Rattle.std.proofs.lemmas.List.Sums.{prefix_len-le-length}
 use Rattle.partial_path.specs.Keys.{texts}
 use Rattle.root_index.specs.Blocks.{first_passes}
 use Rattle.root_index.specs.Inside.{is_before_key}
-use Rattle.root_index.proofs.InBlocks.{parted_block, parted_blocks}
-use Rattle.root_index.proofs.Sized.{blocks_filled, none_within, some_within}
+use Rattle.root_index.proofs.InBlocks.{parted_blocks}
+use Rattle.root_index.proofs.Sized.{blocks_filled, none_within, last_parted, last_end, end_bound}
 use Rattle.root_index.proofs.slot_list.SlotList.end_of.Goals as goal
 
 pub blocks_within-found-requires-clause-parted : goal.blocks_within-found-requires-clause-parted
@@ -21,36 +20,22 @@ returns-then-found-eq0-clause-value c =
 
 pub paths_within-requires-clause-parted : goal.paths_within-requires-clause-parted
 paths_within-requires-clause-parted c =
-    let here = c.index-blocks-block.is ∙ ap (λ bs. get_or bs (c.blocks_within-found.result - 1) c.index-blocks-block.result) c.blocks-blocks.ensures.blocks in
-    let bound = c.blocks_within-found.ensures.bound in
-    let count = ap length c.blocks-blocks.ensures.blocks in
-    let some = c.if-found-eq0.false in
-    let inside : c.blocks_within-found.result - 1 < length c.self.inside.blocks = omega (arith, bound, some, count) in
-    subst (IsPartitionedBy (is_before_key (take c.args.count (texts c.args.symbols.now)))) (sym (c.slots.ensures.slots ∙ here))
-    (parted_block (is_before_key (take c.args.count (texts c.args.symbols.now))) c.self.inside.blocks (c.blocks_within-found.result - 1) c.index-blocks-block.result inside
-    (subst (IsPartitionedBy (is_before_key (take c.args.count (texts c.args.symbols.now)))) (sym c.self.view_is) c.requires.parted))
+    subst (IsPartitionedBy (is_before_key (take c.args.count (texts c.args.symbols.now)))) (sym c.slots.ensures.slots)
+    (last_parted (is_before_key (take c.args.count (texts c.args.symbols.now))) c.self.inside.blocks c.blocks-blocks.result.now c.blocks_within-found.result c.index-blocks-block.result c.args.self.now
+    c.blocks-blocks.ensures.blocks c.self.view_is c.requires.parted c.blocks_within-found.ensures.bound c.if-found-eq0.false c.index-blocks-block.is)
 
 pub returns-clause-value : goal.returns-clause-value
 returns-clause-value c =
-    let here = c.index-blocks-block.is ∙ ap (λ bs. get_or bs (c.blocks_within-found.result - 1) c.index-blocks-block.result) c.blocks-blocks.ensures.blocks in
-    let bound = c.blocks_within-found.ensures.bound in
-    let count = ap length c.blocks-blocks.ensures.blocks in
-    let some = c.if-found-eq0.false in
-    let inside : c.blocks_within-found.result - 1 < length c.self.inside.blocks = omega (arith, bound, some, count) in
-    some_within (is_before_key (take c.args.count (texts c.args.symbols.now))) c.self.inside.blocks c.blocks_within-found.result c.index.result.now c.paths_within.result c.index-blocks-block.result c.args.self.now
-    (blocks_filled c.self.inside.blocks c.blocks-blocks.ensures.sizes) c.self.view_is c.requires.parted (c.blocks_within-found.ensures.value ∙ ap (prefix_len (first_passes (is_before_key (take c.args.count (texts c.args.symbols.now))))) c.blocks-blocks.ensures.blocks) some here
-    (c.index.ensures ∙ c.self.invariant.0.each (c.blocks_within-found.result - 1) c.index.result.now inside)
+    last_end (is_before_key (take c.args.count (texts c.args.symbols.now))) c.self.inside.blocks c.blocks-blocks.result.now c.blocks_within-found.result c.index-blocks-block.result c.args.self.now
+    c.blocks-blocks.ensures.blocks c.self.view_is c.requires.parted c.blocks_within-found.ensures.bound c.if-found-eq0.false c.index-blocks-block.is
+    c.self.inside.starts.items c.index.result.now c.paths_within.result (blocks_filled c.self.inside.blocks c.blocks-blocks.ensures.sizes) c.self.invariant.0 c.blocks_within-found.ensures.value c.index.ensures
     (c.paths_within.ensures.value ∙ ap (prefix_len (is_before_key (take c.args.count (texts c.args.symbols.now)))) c.slots.ensures.slots)
 
 pub returns-clause-bound : goal.returns-clause-bound
-returns-clause-bound c =
-    let value = returns-clause-value c in
-    let within = prefix_len-le-length (is_before_key (take c.args.count (texts c.args.symbols.now))) c.args.self.now in
-    omega (arith, value, within)
+returns-clause-bound c = end_bound (is_before_key (take c.args.count (texts c.args.symbols.now))) c.args.self.now _ (returns-clause-value c)
 
 pub overflow_add-result : goal.overflow_add-result
 overflow_add-result c =
-    let value = returns-clause-value c in
-    let within = prefix_len-le-length (is_before_key (take c.args.count (texts c.args.symbols.now))) c.args.self.now in
+    let bound = returns-clause-bound c in
     let fits = (rw c.self.view_is at c.self.invariant).2 in
-    omega (arith, value, within, fits)
+    omega (arith, bound, fits)
