@@ -23,8 +23,9 @@ use Rattle.back_stitch.specs.Sources.{is_exported_spot, rules_to, agrees, AreEnd
 use Rattle.end_index.specs.declared.place.EndPlace.{EndPlace}
 use Rattle.end_index.specs.declared.runs.EndRuns.{EndRuns}
 use Rattle.end_index.specs.Runs.{runs, shares_left}
+use Rattle.partial_path.specs.declared.end_table.EndMark.{EndMark}
 use Rattle.partial_path.specs.Ends.{end_mark, ends_at_root, ends_by_stack}
-use Rattle.end_index.specs.Ends.{all_of, end_place, ends_after, AreEndsOf}
+use Rattle.end_index.specs.Ends.{SideView, AreListed, IsSideOf, AreEndsOf, all_of, end_place, ends_after}
 use Rattle.end_index.specs.Looks.{ends_inside, inside_in, inside_left, rule_in, rules_of, AreThere, outside_left}
 use Rattle.end_index.proofs.Places.{place_of, at_place, one_place, kept_from, kept_into, kept_apart}
 use Rattle.end_index.proofs.Marked.{all_among, all_apart, all_hold}
@@ -295,3 +296,10 @@ module _ (files : List FileRules) (sources : All IsSourceFile files) (symbols : 
             let parts = and_parts (ends_by_stack p.1) (is_exported_spot (graphs_of files) (spot.At node)) ends in
             IsIn-append_right p (inside_left files node 0) (Given files ends_by_stack shares of.all symbols)
             (given_into files ends_by_stack shares of.all symbols p (record { file = g.file; found = g.found; stored = g.stored; passing = parts.0 }) e)
+
+-- what a side of the index has is there
+pub side_there : (files : List FileRules) (passes : Rule → Bool) (side : SideView) (read : List (List EndPlace)) → IsSideOf passes files side → AreListed side.marks side.shares → read ≡ side.shares
+    → AreThere files (all_of read)
+side_there files passes side read of listed is =
+    let ends : AreEndsOf passes files side.shares = subst (λ (ms : List (List EndMark)). AreListed ms side.shares) of listed in
+    subst (λ (shares : List (List EndPlace)). AreThere files (all_of shares)) (sym is) (are_there files passes side.shares ends.all)

@@ -156,35 +156,17 @@ fn next_end<'a>(
             Some((file, path, behind)) => Some((file, path, EndLook::Inside(node, behind, stack))),
             None => next_by_stack(view, ends, symbols, stack),
         },
-        EndLook::Root(at) => next_at_root(view, ends, symbols, at),
+        EndLook::Root(at) => {
+            let (file, path, after) = next_outside(view, ends.root(), symbols, at)?;
+            Some((file, path, EndLook::Root(after)))
+        }
         EndLook::Stack(at) => next_by_stack(view, ends, symbols, at),
     }
 }
 
 ghost use Rattle.end_index.specs.Looks.{outside_left};
 
-/// The same among the paths that end at the root.
-fn next_at_root<'a>(
-    view: &'a View,
-    ends: &EndIndex,
-    symbols: &[SymPat],
-    at: EndRuns,
-) -> Option<(u32, StoredPath<'a>, EndLook)>
-    requires index { IsEndIndexOf view.now ends.now }
-    requires few { length symbols.now ≤ key_size }
-    ensures { MatchOption result
-        (outside_left (files_of view.now) (asked_texts symbols.now) ends.now.root.shares at ≡ [])
-        (λ found. outside_left (files_of view.now) (asked_texts symbols.now) ends.now.root.shares at
-        ≡ (found.0, found.1)
-        ∷ ends_left (files_of view.now) (asked_texts symbols.now) ends.now found.2) }
-{
-    match next_outside(view, ends.root(), symbols, at) {
-        Some((file, path, after)) => Some((file, path, EndLook::Root(after))),
-        None => None,
-    }
-}
-
-/// The same among the paths that end by the stack and make no scope.
+/// The same among the paths that end by the stack and make no scope alone.
 fn next_by_stack<'a>(
     view: &'a View,
     ends: &EndIndex,
@@ -199,8 +181,6 @@ fn next_by_stack<'a>(
         ≡ (found.0, found.1)
         ∷ ends_left (files_of view.now) (asked_texts symbols.now) ends.now found.2) }
 {
-    match next_outside(view, ends.stack(), symbols, at) {
-        Some((file, path, after)) => Some((file, path, EndLook::Stack(after))),
-        None => None,
-    }
+    let (file, path, after) = next_outside(view, ends.stack(), symbols, at)?;
+    Some((file, path, EndLook::Stack(after)))
 }

@@ -1,19 +1,13 @@
-use Rattle.std.proofs.Common.{sym, subst, List, All}
+use Rattle.std.proofs.Common.{sym, subst, All}
 use Rattle.root_index.specs.Offers.{files_of}
-use Rattle.end_index.specs.declared.place.EndPlace.{EndPlace}
 use Rattle.partial_path.specs.Ends.{ends_by_stack}
-use Rattle.partial_path.specs.declared.end_table.EndMark.{EndMark}
-use Rattle.end_index.specs.Ends.{AreListed, all_of}
 use Rattle.end_index.specs.Runs.{AreByRank}
-use Rattle.end_index.specs.Looks.{AreThere}
-use Rattle.end_index.proofs.Given.{are_there}
+use Rattle.end_index.proofs.Given.{side_there}
 use Rattle.end_index.proofs.source.next_by_stack.Goals as goal
 
 pub next_outside-requires-clause-there : goal.next_outside-requires-clause-there
 next_outside-requires-clause-there c =
-    let of = subst (λ (ms : List (List EndMark)). AreListed ms c.args.ends.now.stack.shares) c.requires.index.stack c.stack.ensures.listed in
-    subst (λ (shares : List (List EndPlace)). AreThere (files_of c.args.view.now) (all_of shares)) (sym c.stack.ensures.value)
-    (are_there (files_of c.args.view.now) ends_by_stack c.args.ends.now.stack.shares of.all)
+    side_there (files_of c.args.view.now) ends_by_stack c.args.ends.now.stack c.stack.result.now c.requires.index.stack c.stack.ensures.listed c.stack.ensures.value
 
 pub next_outside-requires-clause-order : goal.next_outside-requires-clause-order
 next_outside-requires-clause-order c = subst (All AreByRank) (sym c.stack.ensures.value) c.stack.ensures.listed.order
