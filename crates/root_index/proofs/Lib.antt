@@ -3,7 +3,7 @@
 -- `next_offer` on Meeting and PassedOver, and on Seen for a file's number. `rows_have_one_index` on Unique.
 -- How paths stand in blocks, and blocks in groups: InBlocks, Sized and Starts find the place of a path, Placed and
 -- Grouped put one in or take one out. KeyOrders serves most of these. HeadOrders is for `key_heads`. WithFile is also
--- for `version_board`.
+-- for `version_board`, Seen for `nav_answers`.
 mod Amended
 mod Gathered
 mod Grouped
@@ -16,7 +16,7 @@ mod PassedOver
 mod Placed
 mod Ranked
 mod RootRuns
-mod Seen
+pub mod Seen
 mod Sized
 mod Starts
 mod Unique
