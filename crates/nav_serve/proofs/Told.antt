@@ -18,9 +18,10 @@ use Rattle.nav_serve.specs.declared.file.Refused.{Refused}
 use Rattle.nav_serve.specs.Files.{or_refusal}
 use Rattle.nav_serve.specs.Refused.{AnswersAs, parts}
 use Rattle.nav_serve.specs.Ended.{or_status, status_after}
-use Rattle.nav_serve.specs.Outside.{HasCause, HasNoFault, seen}
+use Rattle.nav_serve.specs.Outside.{EndsSo, HasCause, HasNoFault, Outside}
 use Rattle.nav_serve.specs.Performed.{DoesTask, EndsTask, task_ends}
 use Rattle.nav_serve.specs.Serving.{Serves}
+use Rattle.nav_serve.specs.Taken.{WritesBeginning}
 use Rattle.nav_serve.proofs.CallerLemmas.{append_known-nil, nothing_begins}
 use Rattle.nav_serve.proofs.Writing.{beginning-whole}
 
@@ -62,54 +63,53 @@ refuses_file path told fault error defined r is same h a =
     subst (λ (d : Result Graph FileFault). AnswersAs parts r (or_refusal path d)) (sym (tells_fault told fault defined is h))
     (subst (λ (e : FileError). AnswersAs parts r (Err (BadFile path e))) same a)
 
+-- with a status that tells no more, a beginning was written
+does_part : (task : Task) (before after : Outside) (status : ℕ) → WritesBeginning task before.left before.held after.held
+    → (status ≡ 0 → ⊥) → (status ≡ 3 → ⊥) → (status ≡ 6 → ⊥) → DoesTask task before after status
+does_part task before after status begun not_done no_source not_long = record {
+  answered = λ e. absurd (not_done e);
+  not_long = λ e. absurd (not_done e);
+  begun = begun;
+  short = λ e. absurd (no_source e);
+  silent = λ e. absurd (no_source e);
+  long = λ e. absurd (not_long e);
+  silent_long = λ e. absurd (not_long e);
+}
+
 -- a task did as much as its status tells
-pub does_task : (task : Task) (left left' held held' : Option (List ℕ)) (f f' k k' : ℕ) (r : Result (Unit {0}) Halt)
-    → Serves task left left' held held' r → DoesTask task (seen left f held k) (seen left' f' held' k') (status_after r)
-does_task task left left' held held' f f' k k' (Ok work) s = record {
+pub does_task : (task : Task) (before after : Outside) (r : Result (Unit {0}) Halt)
+    → Serves task before.left after.left before.held after.held r → DoesTask task before after (status_after r)
+does_task task before after (Ok work) s = record {
   answered = λ e. s.written;
   not_long = λ e. s.not_long;
-  begun = beginning-whole task left held held' s.written;
+  begun = beginning-whole task before.left before.held after.held s.written;
   short = λ e. absurd (omega (arith, e));
   silent = λ e. absurd (omega (arith, e));
   long = λ e. absurd (omega (arith, e));
   silent_long = λ e. absurd (omega (arith, e));
 }
-does_task task left left' held held' f f' k k' (Err SourceFailed) s = record {
+does_task task before after (Err SourceFailed) s = record {
   answered = λ e. absurd (omega (arith, e));
   not_long = λ e. absurd (omega (arith, e));
-  begun = ([], s.silent ∙ append_known-nil held, nothing_begins task left);
+  begun = ([], s.silent ∙ append_known-nil before.held, nothing_begins task before.left);
   short = λ e. s.reading;
   silent = λ e. s.silent;
   long = λ e. absurd (omega (arith, e));
   silent_long = λ e. absurd (omega (arith, e));
 }
-does_task task left left' held held' f f' k k' (Err LongLine) s = record {
+does_task task before after (Err LongLine) s = record {
   answered = λ e. absurd (omega (arith, e));
   not_long = λ e. absurd (omega (arith, e));
-  begun = ([], s.silent ∙ append_known-nil held, nothing_begins task left);
+  begun = ([], s.silent ∙ append_known-nil before.held, nothing_begins task before.left);
   short = λ e. absurd (omega (arith, e));
   silent = λ e. absurd (omega (arith, e));
   long = λ e. s.reading;
   silent_long = λ e. s.silent;
 }
-does_task task left left' held held' f f' k k' (Err SinkFailed) s = record {
-  answered = λ e. absurd (omega (arith, e));
-  not_long = λ e. absurd (omega (arith, e));
-  begun = s;
-  short = λ e. absurd (omega (arith, e));
-  silent = λ e. absurd (omega (arith, e));
-  long = λ e. absurd (omega (arith, e));
-  silent_long = λ e. absurd (omega (arith, e));
-}
-does_task task left left' held held' f f' k k' (Err NoMemory) s = record {
-  answered = λ e. absurd (omega (arith, e));
-  not_long = λ e. absurd (omega (arith, e));
-  begun = s;
-  short = λ e. absurd (omega (arith, e));
-  silent = λ e. absurd (omega (arith, e));
-  long = λ e. absurd (omega (arith, e));
-  silent_long = λ e. absurd (omega (arith, e));
-}
+does_task task before after (Err SinkFailed) s =
+    does_part task before after 4 s (λ e. omega (arith, e)) (λ e. omega (arith, e)) (λ e. omega (arith, e))
+does_task task before after (Err NoMemory) s =
+    does_part task before after 5 s (λ e. omega (arith, e)) (λ e. omega (arith, e)) (λ e. omega (arith, e))
 
 source_by : (A : Type 0) (r : Result (Unit {0}) Halt) → (r ≡ Err SourceFailed → A) → status_after r ≡ 3 → A
 source_by A (Ok work) h e = absurd (omega (arith, e))
@@ -126,29 +126,40 @@ sink_by A (Err NoMemory) h e = absurd (omega (arith, e))
 sink_by A (Err LongLine) h e = absurd (omega (arith, e))
 
 -- a status that blames a side has its cause there
-pub has_cause : (left left' held held' : Option (List ℕ)) (f f' k k' : ℕ) (r : Result (Unit {0}) Halt)
-    → (r ≡ Err SourceFailed → HasRisen f f') → (r ≡ Err SinkFailed → HasRisen k k') → f ≤ f' → k ≤ k'
-    → HasCause (seen left f held k) (seen left' f' held' k') (status_after r)
-has_cause left left' held held' f f' k k' r source sink source_count sink_count = record {
-  source_failed = source_by (HasRisen f f') r source;
-  sink_failed = sink_by (HasRisen k k') r sink;
+has_cause : (before after : Outside) (r : Result (Unit {0}) Halt)
+    → (r ≡ Err SourceFailed → HasRisen before.source_faults after.source_faults) → (r ≡ Err SinkFailed → HasRisen before.sink_faults after.sink_faults)
+    → before.source_faults ≤ after.source_faults → before.sink_faults ≤ after.sink_faults → HasCause before after (status_after r)
+has_cause before after r source sink source_count sink_count = record {
+  source_failed = source_by (HasRisen before.source_faults after.source_faults) r source;
+  sink_failed = sink_by (HasRisen before.sink_faults after.sink_faults) r sink;
   source_count = source_count;
   sink_count = sink_count;
 }
 
 -- where neither side failed, it was done, or memory was refused, or a line is too long
-pub ends_task : (task : Task) (left left' held held' : Option (List ℕ)) (f f' k k' : ℕ) (r : Result (Unit {0}) Halt)
-    → Serves task left left' held held' r → (r ≡ Err SourceFailed → HasRisen f f') → (r ≡ Err SinkFailed → HasRisen k k')
-    → HasNoFault (seen left f held k) (seen left' f' held' k') → EndsTask task left (status_after r)
-ends_task task left left' held held' f f' k k' (Ok work) s source sink none = inl refl
-ends_task task left left' held held' f f' k k' (Err SourceFailed) s source sink none = absurd (none.source (source refl))
-ends_task task left left' held held' f f' k k' (Err SinkFailed) s source sink none = absurd (none.sink (sink refl))
-ends_task task left left' held held' f f' k k' (Err NoMemory) s source sink none = inr (inl refl)
-ends_task task left left' held held' f f' k k' (Err LongLine) s source sink none = inr (inr (refl, s.reading))
+ends_task : (task : Task) (before after : Outside) (r : Result (Unit {0}) Halt) → Serves task before.left after.left before.held after.held r
+    → (r ≡ Err SourceFailed → HasRisen before.source_faults after.source_faults) → (r ≡ Err SinkFailed → HasRisen before.sink_faults after.sink_faults)
+    → HasNoFault before after → EndsTask task before.left (status_after r)
+ends_task task before after (Ok work) s source sink none = inl refl
+ends_task task before after (Err SourceFailed) s source sink none = absurd (none.source (source refl))
+ends_task task before after (Err SinkFailed) s source sink none = absurd (none.sink (sink refl))
+ends_task task before after (Err NoMemory) s source sink none = inr (inl refl)
+ends_task task before after (Err LongLine) s source sink none = inr (inr (refl, s.reading))
 
-pub ends_so : (r : Result (Unit {0}) Halt) → IsTrue (task_ends (status_after r))
-ends_so (Ok work) = refl
-ends_so (Err SourceFailed) = refl
-ends_so (Err SinkFailed) = refl
-ends_so (Err NoMemory) = refl
-ends_so (Err LongLine) = refl
+may_end : (r : Result (Unit {0}) Halt) → IsTrue (task_ends (status_after r))
+may_end (Ok work) = refl
+may_end (Err SourceFailed) = refl
+may_end (Err SinkFailed) = refl
+may_end (Err NoMemory) = refl
+may_end (Err LongLine) = refl
+
+-- how it ended
+pub ends_so : (task : Task) (before after : Outside) (r : Result (Unit {0}) Halt) → Serves task before.left after.left before.held after.held r
+    → (r ≡ Err SourceFailed → HasRisen before.source_faults after.source_faults) → (r ≡ Err SinkFailed → HasRisen before.sink_faults after.sink_faults)
+    → before.source_faults ≤ after.source_faults → before.sink_faults ≤ after.sink_faults
+    → EndsSo task_ends (EndsTask task before.left) before after (status_after r)
+ends_so task before after r s source sink source_count sink_count = record {
+  may_end = may_end r;
+  causes = has_cause before after r source sink source_count sink_count;
+  complete = ends_task task before after r s source sink;
+}

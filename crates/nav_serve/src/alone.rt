@@ -3,7 +3,7 @@ ghost use Rattle.std.specs.Prelude.{◌≡◌, ◌<◌, false, IsTrue};
 ghost use Rattle.nav_doors.specs.Connections.{outside};
 ghost use Rattle.nav_doors.specs.Houses.{house_with};
 ghost use Rattle.nav_serve.specs.Words.{command_in};
-ghost use Rattle.nav_serve.specs.Outside.{seen};
+ghost use Rattle.nav_serve.specs.Outside.{seen_at};
 ghost use Rattle.nav_serve.specs.Headline.{KeepsAlone, refuses, used_by};
 
 use crate::running::run;
@@ -48,8 +48,7 @@ where
     ensures keeps { KeepsAlone
         (outside H.D.gave H.D.got_back H.D.faults H.D.S.left H.D.S.faults H.D.K.held H.D.K.faults)
         (command_in words.now)
-        (seen (S.left source.old) (S.faults source.old) (K.held sink.old) (K.faults sink.old))
-        (seen (S.left source.new) (S.faults source.new) (K.held sink.new) (K.faults sink.new))
+        (seen_at S.Source K.Sink source.old sink.old) (seen_at S.Source K.Sink source.new sink.new)
         (house_with (H.gave house.old) (H.got_back house.old) (H.faults house.old))
         (house_with (H.gave house.new) (H.got_back house.new) (H.faults house.new)) result }
 

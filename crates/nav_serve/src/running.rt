@@ -3,7 +3,7 @@ ghost use Rattle.std.specs.Prelude.{◌≡◌, false};
 ghost use Rattle.nav_doors.specs.Connections.{outside};
 ghost use Rattle.nav_doors.specs.Houses.{house_with};
 ghost use Rattle.nav_serve.specs.Words.{command_of, texts};
-ghost use Rattle.nav_serve.specs.Outside.{seen, scene};
+ghost use Rattle.nav_serve.specs.Outside.{seen_at, scene};
 ghost use Rattle.nav_serve.specs.Headline.{Keeps, used_by};
 
 use crate::session::{run_demo, run_editor, run_session};
@@ -42,12 +42,10 @@ where
     <H::D as Door>::S: Send,
     <H::D as Door>::K: Send,
     // What its user relies on, command by command: specs/Headline.antt.
-    ensures keeps { let before = scene
-        (seen (S.left source.old) (S.faults source.old) (K.held sink.old) (K.faults sink.old))
+    ensures keeps { let before = scene (seen_at S.Source K.Sink source.old sink.old)
         (house_with (H.gave house.old) (H.got_back house.old) (H.faults house.old))
         (B.seat board.old) (B.log board.old) in
-        let after = scene
-        (seen (S.left source.new) (S.faults source.new) (K.held sink.new) (K.faults sink.new))
+        let after = scene (seen_at S.Source K.Sink source.new sink.new)
         (house_with (H.gave house.new) (H.got_back house.new) (H.faults house.new))
         (B.seat board.new) (B.log board.new) in
         Keeps

@@ -4,7 +4,7 @@ ghost use Rattle.nav_session.specs.Serving.{Serves, ends_session, ends_unhindere
 ghost use Rattle.lsp_messages.specs.Ends.{ends_session as ends_editor, ends_unhindered as ends_editor_unhindered};
 ghost use Rattle.nav_lsp.specs.Serving.{ServesEditor};
 ghost use Rattle.nav_demo.specs.Summary.{Demonstrates, ends_demo, ends_demo_unhindered};
-ghost use Rattle.nav_serve.specs.Outside.{HasCause, HasNoFault, seen};
+ghost use Rattle.nav_serve.specs.Outside.{EndsSo, seen, seen_at};
 
 use graph_nodes::Steps;
 use nav_demo::demo;
@@ -28,15 +28,9 @@ pub fn run_session<R: Threads + Sync, S: Source, K: Sink, B: Commits<R>, L: Ledg
     ensures serves { Serves (B.seat board.old) (B.log board.old) (B.log board.new)
         (S.left source.old) (S.left source.new) (K.held sink.old) (K.held sink.new) result }
     ensures seat { B.seat board.new ≡ B.seat board.old }
-    ensures statuses { IsTrue (ends_session result) }
-    ensures causes { HasCause
-        (seen (S.left source.old) (S.faults source.old) (K.held sink.old) (K.faults sink.old))
-        (seen (S.left source.new) (S.faults source.new) (K.held sink.new) (K.faults sink.new))
+    ensures ends { EndsSo ends_session (λ status. IsTrue (ends_unhindered status))
+        (seen_at S.Source K.Sink source.old sink.old) (seen_at S.Source K.Sink source.new sink.new)
         result }
-    ensures complete { HasNoFault
-        (seen (S.left source.old) (S.faults source.old) (K.held sink.old) (K.faults sink.old))
-        (seen (S.left source.new) (S.faults source.new) (K.held sink.new) (K.faults sink.new))
-        → IsTrue (ends_unhindered result) }
 {
     let mut desk = Desk::new(means.alloc);
     serve_session(means, &mut desk, board, source, sink, steps)
@@ -54,15 +48,9 @@ pub fn run_editor<R: Threads + Sync, S: Source, K: Sink, B: Commits<R>, L: Ledge
     ensures serves { ServesEditor (B.seat board.old) (B.log board.old) (B.log board.new)
         (S.left source.old) (S.left source.new) (K.held sink.old) (K.held sink.new) result }
     ensures seat { B.seat board.new ≡ B.seat board.old }
-    ensures statuses { IsTrue (ends_editor result) }
-    ensures causes { HasCause
-        (seen (S.left source.old) (S.faults source.old) (K.held sink.old) (K.faults sink.old))
-        (seen (S.left source.new) (S.faults source.new) (K.held sink.new) (K.faults sink.new))
+    ensures ends { EndsSo ends_editor (λ status. IsTrue (ends_editor_unhindered status))
+        (seen_at S.Source K.Sink source.old sink.old) (seen_at S.Source K.Sink source.new sink.new)
         result }
-    ensures complete { HasNoFault
-        (seen (S.left source.old) (S.faults source.old) (K.held sink.old) (K.faults sink.old))
-        (seen (S.left source.new) (S.faults source.new) (K.held sink.new) (K.faults sink.new))
-        → IsTrue (ends_editor_unhindered result) }
 {
     serve_lsp(means, board, source, sink, steps)
 }
@@ -81,14 +69,10 @@ pub fn run_demo<R: Threads + Sync, K: Sink, B: Commits<R>, L: Ledger>(
     ensures demonstrates { Demonstrates (B.seat board.old) (B.log board.old) (B.log board.new)
         (K.held sink.old) (K.held sink.new) files start result }
     ensures seat { B.seat board.new ≡ B.seat board.old }
-    ensures statuses { IsTrue (ends_demo result) }
-    ensures causes { (left : Option (List ℕ)) → (faults : ℕ) → HasCause
+    ensures ends { (left : Option (List ℕ)) → (faults : ℕ) → EndsSo ends_demo
+        (λ status. IsTrue (ends_demo_unhindered status))
         (seen left faults (K.held sink.old) (K.faults sink.old))
         (seen left faults (K.held sink.new) (K.faults sink.new)) result }
-    ensures complete { (left : Option (List ℕ)) → (faults : ℕ) → HasNoFault
-        (seen left faults (K.held sink.old) (K.faults sink.old))
-        (seen left faults (K.held sink.new) (K.faults sink.new))
-        → IsTrue (ends_demo_unhindered result) }
 {
     demo(rt, alloc, files, start, sink, board, steps)
 }

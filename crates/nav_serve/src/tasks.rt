@@ -1,9 +1,9 @@
 //! The one body of the commands that read their input, answer it by one line, and end.
-ghost use Rattle.std.specs.Prelude.{◌≡◌, ◌≤◌, ℕ, IsTrue, Err};
+ghost use Rattle.std.specs.Prelude.{◌≡◌, ◌≤◌, Err};
 ghost use Rattle.nav_io.specs.Faults.{HasRisen};
 ghost use Rattle.nav_session.specs.declared.halt.Halt.TheVariants as halt;
 ghost use Rattle.nav_serve.specs.Ended.{status_after};
-ghost use Rattle.nav_serve.specs.Outside.{HasCause, HasNoFault, seen};
+ghost use Rattle.nav_serve.specs.Outside.{EndsSo, seen_at};
 ghost use Rattle.nav_serve.specs.Performed.{DoesTask, EndsTask, task_ends};
 ghost use Rattle.nav_serve.specs.Serving.{AnswersText, Serves};
 
@@ -28,19 +28,11 @@ pub enum Task {
 /// failed. 5: memory was refused. 6: a line that has to be read has more than 8,388,608 bytes, and
 /// nothing was written.
 pub fn perform<S: Source, K: Sink>(task: Task, alloc: Global, source: &mut S, sink: &mut K) -> u8
-    ensures does { DoesTask task
-        (seen (S.left source.old) (S.faults source.old) (K.held sink.old) (K.faults sink.old))
-        (seen (S.left source.new) (S.faults source.new) (K.held sink.new) (K.faults sink.new))
+    ensures does { DoesTask task (seen_at S.Source K.Sink source.old sink.old)
+        (seen_at S.Source K.Sink source.new sink.new) result }
+    ensures ends { EndsSo task_ends (EndsTask task (S.left source.old))
+        (seen_at S.Source K.Sink source.old sink.old) (seen_at S.Source K.Sink source.new sink.new)
         result }
-    ensures causes { HasCause
-        (seen (S.left source.old) (S.faults source.old) (K.held sink.old) (K.faults sink.old))
-        (seen (S.left source.new) (S.faults source.new) (K.held sink.new) (K.faults sink.new))
-        result }
-    ensures complete { HasNoFault
-        (seen (S.left source.old) (S.faults source.old) (K.held sink.old) (K.faults sink.old))
-        (seen (S.left source.new) (S.faults source.new) (K.held sink.new) (K.faults sink.new))
-        → EndsTask task (S.left source.old) result }
-    ensures statuses { IsTrue (task_ends result) }
 {
     status_of(serve(task, alloc, source, sink))
 }
