@@ -1,9 +1,11 @@
 -- What callers of the program as a function need beside its contract.
-use Rattle.std.proofs.Common.{◌≡◌, ◌⊎◌, ℕ, List, [], inl, inr, refl, sym, ap, subst, append-nil, le_refl, Option, Some, None, IfSome, IsTrue}
+use Rattle.std.proofs.Common.{◌≡◌, ◌⊎◌, ◌≤◌, ℕ, List, [], inl, inr, refl, sym, ap, subst, append-nil, le_refl, true≢false, Option, Some, None, IfSome, IsTrue}
 use Rattle.std.specs.Io.KnownBytes.{append_known}
 use Rattle.version_tree.specs.declared.entry.Entry.{Entry}
 use Rattle.nav_session.proofs.CallerLemmas.{served_nothing}
+use Rattle.nav_io.specs.Faults.{HasRisen}
 use Rattle.nav_lsp.proofs.CallerLemmas.{edited_nothing}
+use Rattle.nav_demo.specs.Summary.{ends_demo}
 use Rattle.nav_demo.proofs.Shown.{shown_nothing}
 use Rattle.nav_doors.specs.Connections.{Outside as Doors}
 use Rattle.nav_doors.specs.Houses.{House}
@@ -73,15 +75,24 @@ ends_unread (Some Lsp) left = refl
 ends_unread (Some (Demo files start)) left = refl
 ends_unread (Some (Serve port doors connections)) left = refl
 
+-- the source stays as it was, and the status doesn't blame it
+pub blames_sink : (left held held' : Option (List ℕ)) (f k k' status : ℕ) → (status ≡ 3 → ⊥) → (status ≡ 4 → HasRisen k k') → k ≤ k'
+    → HasCause (seen left f held k) (seen left f held' k') status
+blames_sink left held held' f k k' status no_source sink_failed sink_count = record {
+  source_failed = λ e. absurd (no_source e);
+  sink_failed = sink_failed;
+  source_count = le_refl f;
+  sink_count = sink_count;
+}
+
+pub no_source_in_demo : (status : ℕ) → IsTrue (ends_demo status) → status ≡ 3 → ⊥
+no_source_in_demo status ends e = true≢false (sym (subst (λ (s : ℕ). IsTrue (ends_demo s)) e ends))
+
 -- nothing outside changed, and the status blames nothing of it
 pub blames_none : (left held : Option (List ℕ)) (f k status : ℕ) → (status ≡ 3 → ⊥) → (status ≡ 4 → ⊥)
     → HasCause (seen left f held k) (seen left f held k) status
-blames_none left held f k status no_source no_sink = record {
-  source_failed = λ e. absurd (no_source e);
-  sink_failed = λ e. absurd (no_sink e);
-  source_count = le_refl f;
-  sink_count = le_refl k;
-}
+blames_none left held f k status no_source no_sink =
+    blames_sink left held held f k k status no_source (λ e. absurd (no_sink e)) (le_refl k)
 
 keeps_at_five : {D S K : Type 0} (o : Doors D S K) (command : Option Command) (left held : Option (List ℕ)) (f k : ℕ) (house : House D) (seat : ℕ) (log : List Entry)
     → Keeps o command (scene (seen left f held k) house seat log) (scene (seen left f held k) house seat log) 5

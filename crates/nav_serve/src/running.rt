@@ -6,10 +6,11 @@ ghost use Rattle.nav_serve.specs.Words.{command_of, texts};
 ghost use Rattle.nav_serve.specs.Outside.{seen_at, scene};
 ghost use Rattle.nav_serve.specs.Headline.{Keeps, used_by};
 
-use crate::session::{run_demo, run_editor, run_session};
+use crate::session::{run_editor, run_session};
 use crate::tasks::{Task, perform};
 use crate::words::{Command, command_or_status};
 use graph_nodes::Steps;
+use nav_demo::demo;
 use nav_doors::serve_house;
 use nav_io::{Door, House, Sink, Source, Unguarded};
 use nav_session::Means;
@@ -70,7 +71,7 @@ where
         Ok(Command::Upgrade) => perform(Task::Upgrade, alloc, source, sink),
         Ok(Command::Run) => run_session(means, source, sink, board, steps),
         Ok(Command::Lsp) => run_editor(means, source, sink, board, steps),
-        Ok(Command::Demo { files, start }) => run_demo(rt, alloc, files, start, sink, board, steps),
+        Ok(Command::Demo { files, start }) => demo(rt, alloc, files, start, sink, board, steps),
         Ok(
             Command::Serve {
                 port,

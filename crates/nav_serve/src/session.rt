@@ -1,17 +1,14 @@
-//! The commands that use a board.
-ghost use Rattle.std.specs.Prelude.{◌≡◌, ℕ, List, Option, IsTrue};
+//! The commands that serve a session on a board.
+ghost use Rattle.std.specs.Prelude.{◌≡◌, IsTrue};
 ghost use Rattle.nav_session.specs.Serving.{Serves, ends_session, ends_unhindered};
 ghost use Rattle.lsp_messages.specs.Ends.{ends_session as ends_editor, ends_unhindered as ends_editor_unhindered};
 ghost use Rattle.nav_lsp.specs.Serving.{ServesEditor};
-ghost use Rattle.nav_demo.specs.Summary.{Demonstrates, ends_demo, ends_demo_unhindered};
-ghost use Rattle.nav_serve.specs.Outside.{EndsSo, seen, seen_at};
+ghost use Rattle.nav_serve.specs.Outside.{EndsSo, seen_at};
 
 use graph_nodes::Steps;
-use nav_demo::demo;
 use nav_io::{Sink, Source, Unguarded};
 use nav_lsp::serve_lsp;
 use nav_session::{Desk, Means, serve_session};
-use std::alloc::Global;
 use std::sync::ledger::Ledger;
 use std::thread::Threads;
 use version_board::Commits;
@@ -53,26 +50,4 @@ pub fn run_editor<R: Threads + Sync, S: Source, K: Sink, B: Commits<R>, L: Ledge
         result }
 {
     serve_lsp(means, board, source, sink, steps)
-}
-
-/// Commits and queries the made tree of so many files that is drawn from this start, on this
-/// board, writes the summary, and gives the status: one of those of `demo`.
-pub fn run_demo<R: Threads + Sync, K: Sink, B: Commits<R>, L: Ledger>(
-    rt: &R,
-    alloc: Global,
-    files: u32,
-    start: u32,
-    sink: &mut K,
-    board: &mut B,
-    steps: &mut Steps<L>,
-) -> u8
-    ensures demonstrates { Demonstrates (B.seat board.old) (B.log board.old) (B.log board.new)
-        (K.held sink.old) (K.held sink.new) files start result }
-    ensures seat { B.seat board.new ≡ B.seat board.old }
-    ensures ends { (left : Option (List ℕ)) → (faults : ℕ) → EndsSo ends_demo
-        (λ status. IsTrue (ends_demo_unhindered status))
-        (seen left faults (K.held sink.old) (K.faults sink.old))
-        (seen left faults (K.held sink.new) (K.faults sink.new)) result }
-{
-    demo(rt, alloc, files, start, sink, board, steps)
 }

@@ -5,7 +5,7 @@ use Rattle.nav_doors.specs.Houses.{house_with}
 use Rattle.nav_serve.specs.declared.words.Command.TheVariants.{Demo, Serve}
 use Rattle.nav_serve.specs.Words.{command_of, texts}
 use Rattle.nav_serve.specs.Outside.{scene, seen_at}
-use Rattle.nav_serve.proofs.CallerLemmas.{keeps_one, keeps_without}
+use Rattle.nav_serve.proofs.CallerLemmas.{blames_sink, keeps_one, keeps_without, no_source_in_demo}
 use Rattle.nav_serve.proofs.Spelled.{serves_by_few}
 use Rattle.nav_serve.proofs.running.run.Goals as goal
 
@@ -22,12 +22,15 @@ returns-in-Ok-Demo-clause-keeps g c =
     let o = outside g.H.D.Door.gave g.H.D.Door.got_back g.H.D.Door.faults g.H.D.S.Source.left g.H.D.S.Source.faults g.H.D.K.Sink.held g.H.D.K.Sink.faults in
     let house = house_with (g.H.House.gave c.args.house.now) (g.H.House.got_back c.args.house.now) (g.H.House.faults c.args.house.now) in
     let before = scene (seen_at g.S.Source g.K.Sink c.args.source.now c.args.sink.now) house (g.B.Pins.seat c.args.board.now) (g.B.Pins.log c.args.board.now) in
-    let after = scene (seen_at g.S.Source g.K.Sink c.args.source.now c.run_demo.new.sink) house (g.B.Pins.seat c.run_demo.new.board) (g.B.Pins.log c.run_demo.new.board) in
+    let after = scene (seen_at g.S.Source g.K.Sink c.args.source.now c.demo.new.sink) house (g.B.Pins.seat c.demo.new.board) (g.B.Pins.log c.demo.new.board) in
     let is : command_of (texts c.args.words.now) ≡ Some (Demo c.in-Ok-Demo.files c.in-Ok-Demo.start) = cc (c.in-Ok-Demo.ensures.command, c.in-Ok-Demo.field-0-is) in
-    let ended = c.run_demo.ensures.ends (g.S.Source.left c.args.source.now) (g.S.Source.faults c.args.source.now) in
-    keeps_one o (command_of (texts c.args.words.now)) (Demo c.in-Ok-Demo.files c.in-Ok-Demo.start) before after c.run_demo.result
-    is ended.may_end ended.causes ended.complete
-    c.run_demo.ensures.demonstrates c.run_demo.ensures.seat
+    keeps_one o (command_of (texts c.args.words.now)) (Demo c.in-Ok-Demo.files c.in-Ok-Demo.start) before after c.demo.result
+    is c.demo.ensures.statuses
+    (blames_sink (g.S.Source.left c.args.source.now) (g.K.Sink.held c.args.sink.now) (g.K.Sink.held c.demo.new.sink) (g.S.Source.faults c.args.source.now)
+    (g.K.Sink.faults c.args.sink.now) (g.K.Sink.faults c.demo.new.sink) c.demo.result
+    (no_source_in_demo c.demo.result c.demo.ensures.statuses) c.demo.ensures.sink_failed c.demo.ensures.sink_count)
+    (λ none. c.demo.ensures.unhindered none.sink)
+    c.demo.ensures.demonstrates c.demo.ensures.seat
 
 pub serve_house-requires-clause-some : goal.serve_house-requires-clause-some
 serve_house-requires-clause-some g c = λ κs lives.
