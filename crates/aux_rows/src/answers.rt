@@ -1,15 +1,12 @@
 //! What the search of the whole graph and stitching answer to a reference, as texts.
-ghost use Rattle.std.specs.Prelude.{◌≡◌, ◌<◌};
 
 use aux_graph_text::{TextFault, files_of};
-use file_paths::{PathsFault, enumerate};
-use graph_nodes::{FileGraph, Place, Steps};
+use file_paths::{PathsFault, find_paths};
+use graph_nodes::{FileGraph, Place};
 use partial_path::{Bounds, EdgeAt, FileList, FilePaths, PathSource, edge_at};
 use shadowing::{EdgeList, EdgeNo, EdgeStep, unshadowed};
 use stacks_vars::NodeAt;
 use std::alloc::{AllocError, Global};
-use std::marker::Brand;
-use std::sync::ledger::{Blank, Ledger};
 use stitcher::{CompleteRun, Room, StitchFault, Stitched, stitch};
 use whole_search::{Hit, SearchFault, is_reference, search};
 
@@ -40,23 +37,10 @@ pub fn searched(
     }
 }
 
-/// All paths of a graph, counted on a ledger of its own.
-fn paths_on<L: Ledger>(
-    alloc: Global,
-    graph: FileGraph,
-    blank: Blank,
-) -> Result<FilePaths, PathsFault>
-    requires name { blank.name ≡ L.name }
-    requires parts { blank.parts ≡ L.parts }
-    requires some { 0 < blank.parts }
-{
-    let mut steps = Steps::<L>::new(blank);
-    enumerate(alloc, graph, &mut steps)
-}
-
 /// All paths of a graph.
 fn paths_in(alloc: Global, graph: FileGraph) -> Result<FilePaths, TextFault> {
-    match paths_on::<Brand>(alloc, graph, Blank::new(1)) {
+    let mut walks = 0;
+    match find_paths(alloc, graph, &mut walks) {
         Ok(paths) => Ok(paths),
         Err(PathsFault::NoMemory) => Err(TextFault::NoMemory),
         Err(_) => Err(TextFault::Long),

@@ -1,5 +1,6 @@
 //! Lines that state what one request is replied, or what it is read as.
 use crate::counts::Tally;
+use crate::row::sides;
 use crate::sessions::written;
 use aux_graph_text::TextFault;
 use nav_proto::{ProtoFault, read_request};
@@ -15,9 +16,7 @@ pub fn ask_line<R: Threads + Wait + Sync>(
     text: &str,
     tally: &mut Tally,
 ) -> Result<(), TextFault> {
-    let Some((line, reply)) = text.split_once(" => ") else {
-        return Err(TextFault::Word);
-    };
+    let (line, reply) = sides(text)?;
     let input = format!(in alloc; "{line}\n")?;
     let came = written(rt, alloc, "run", input.as_bytes())?;
     let wanted = format!(in alloc; "0 {reply}\n")?;
@@ -41,9 +40,7 @@ pub fn request_line(
     text: &str,
     tally: &mut Tally,
 ) -> Result<(), TextFault> {
-    let Some((line, wanted)) = text.split_once(" => ") else {
-        return Err(TextFault::Word);
-    };
+    let (line, wanted) = sides(text)?;
     let came = request_of(alloc, line)?;
     tally.compare(alloc, name, line, wanted.as_bytes(), came.as_bytes())?;
     Ok(())

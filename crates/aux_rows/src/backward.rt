@@ -3,7 +3,7 @@
 use crate::answers::list_of;
 use crate::counts::Tally;
 use crate::orders::{in_order, order_count};
-use crate::row::number;
+use crate::row::{number, sides};
 use aux_graph_text::{TextFault, files_of};
 use back_stitch::{BackFault, back, is_definition_in};
 use partial_path::{Bounds, FileList, PathSource};
@@ -124,9 +124,7 @@ pub fn back_line(
     text: &str,
     tally: &mut Tally,
 ) -> Result<(), TextFault> {
-    let Some((asked, wanted)) = text.split_once(" => ") else {
-        return Err(TextFault::Word);
-    };
+    let (asked, wanted) = sides(text)?;
     let Some((graphs, to)) = asked.split_once(" to ") else {
         return Err(TextFault::Word);
     };

@@ -1,5 +1,6 @@
 //! Lines that state what a commit of one document replies, or the graph of a document.
 use crate::counts::Tally;
+use crate::row::sides;
 use crate::sessions::written;
 use crate::texts::{escaped, push_quoted};
 use aux_graph_text::TextFault;
@@ -22,9 +23,7 @@ struct Stated<'a> {
 
 /// What a line says; its text has escapes where the word in front of it ends with a backslash.
 fn stated_by<'a>(alloc: Global, word: &str, line: &'a str) -> Result<Stated<'a>, TextFault> {
-    let Some((given, wanted)) = line.split_once(" => ") else {
-        return Err(TextFault::Word);
-    };
+    let (given, wanted) = sides(line)?;
     let Some((path, text)) = given.split_once(' ') else {
         return Err(TextFault::Word);
     };

@@ -1,7 +1,7 @@
 //! Lines that ask the graphs of short texts, and words with the command that they are.
 use crate::answers::{list_of, searched, stitched};
 use crate::counts::Tally;
-use crate::row::{number, words_of};
+use crate::row::{number, sides, words_of};
 use crate::sessions::written;
 use crate::texts::quoted_graph;
 use aux_graph_text::{TextFault, files_of};
@@ -196,9 +196,7 @@ pub fn graph_line<R: Threads + Wait + Sync>(
     stored: Stored,
     tally: &mut Tally,
 ) -> Result<(), TextFault> {
-    let Some((asked, wanted)) = text.split_once(" => ") else {
-        return Err(TextFault::Word);
-    };
+    let (asked, wanted) = sides(text)?;
     let question = question_of(alloc, asked)?;
     let case = format!(in alloc; "{name}, {asked}")?;
     ask_each(rt, alloc, case.as_str(), &question, wanted, stored, tally)

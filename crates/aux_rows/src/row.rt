@@ -83,6 +83,14 @@ pub fn words_of(alloc: Global, text: &str) -> Result<Vec<String>, AllocError> {
     Ok(words)
 }
 
+/// What a text such as `LEFT => RIGHT` has on its sides.
+pub fn sides(text: &str) -> Result<(&str, &str), TextFault> {
+    match text.split_once(" => ") {
+        Some(sides) => Ok(sides),
+        None => Err(TextFault::Word),
+    }
+}
+
 /// The number that a text is.
 pub fn number(text: &str) -> Result<u32, TextFault> {
     match text.parse::<u32>() {
