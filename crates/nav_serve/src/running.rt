@@ -6,13 +6,14 @@ ghost use Rattle.nav_serve.specs.Words.{command_of, texts};
 ghost use Rattle.nav_serve.specs.Outside.{seen_at, scene};
 ghost use Rattle.nav_serve.specs.Headline.{Keeps, used_by};
 
-use crate::session::{run_editor, run_session};
+use crate::session::run_session;
 use crate::tasks::{Task, perform};
 use crate::words::{Command, command_or_status};
 use graph_nodes::Steps;
 use nav_demo::demo;
 use nav_doors::serve_house;
 use nav_io::{Door, House, Sink, Source, Unguarded};
+use nav_lsp::serve_lsp;
 use nav_session::Means;
 use std::sync::Wait;
 use std::sync::ledger::Ledger;
@@ -70,7 +71,7 @@ where
         Ok(Command::Once) => perform(Task::Once, alloc, source, sink),
         Ok(Command::Upgrade) => perform(Task::Upgrade, alloc, source, sink),
         Ok(Command::Run) => run_session(means, source, sink, board, steps),
-        Ok(Command::Lsp) => run_editor(means, source, sink, board, steps),
+        Ok(Command::Lsp) => serve_lsp(means, board, source, sink, steps),
         Ok(Command::Demo { files, start }) => demo(rt, alloc, files, start, sink, board, steps),
         Ok(
             Command::Serve {

@@ -1,13 +1,10 @@
-//! The commands that serve a session on a board.
+//! The command that serves a session on a board.
 ghost use Rattle.std.specs.Prelude.{◌≡◌, IsTrue};
 ghost use Rattle.nav_session.specs.Serving.{Serves, ends_session, ends_unhindered};
-ghost use Rattle.lsp_messages.specs.Ends.{ends_session as ends_editor, ends_unhindered as ends_editor_unhindered};
-ghost use Rattle.nav_lsp.specs.Serving.{ServesEditor};
 ghost use Rattle.nav_serve.specs.Outside.{EndsSo, seen_at};
 
 use graph_nodes::Steps;
 use nav_io::{Sink, Source, Unguarded};
-use nav_lsp::serve_lsp;
 use nav_session::{Desk, Means, serve_session};
 use std::sync::ledger::Ledger;
 use std::thread::Threads;
@@ -31,23 +28,4 @@ pub fn run_session<R: Threads + Sync, S: Source, K: Sink, B: Commits<R>, L: Ledg
 {
     let mut desk = Desk::new(means.alloc);
     serve_session(means, &mut desk, board, source, sink, steps)
-}
-
-/// Serves one editor on this board by the Language Server Protocol, and gives its status: one of
-/// those of `serve_lsp`.
-pub fn run_editor<R: Threads + Sync, S: Source, K: Sink, B: Commits<R>, L: Ledger>(
-    means: &Means<'_, R, Unguarded>,
-    source: &mut S,
-    sink: &mut K,
-    board: &mut B,
-    steps: &mut Steps<L>,
-) -> u8
-    ensures serves { ServesEditor (B.seat board.old) (B.log board.old) (B.log board.new)
-        (S.left source.old) (S.left source.new) (K.held sink.old) (K.held sink.new) result }
-    ensures seat { B.seat board.new ≡ B.seat board.old }
-    ensures ends { EndsSo ends_editor (λ status. IsTrue (ends_editor_unhindered status))
-        (seen_at S.Source K.Sink source.old sink.old) (seen_at S.Source K.Sink source.new sink.new)
-        result }
-{
-    serve_lsp(means, board, source, sink, steps)
 }
