@@ -98,7 +98,7 @@ fn paths_for<G: Gate, L: Ledger>(
     ensures fault { IfErr result (Refuses doc.now) }
     ensures same { has_doc (docs_of store.now ++ docs_of fresh.old) doc.now ≡ true
         → steps.new ≡ steps.old }
-    ensures fewer { (weight : ℕ) → IsDocWeight doc.now weight → steps.new ≤ steps.old + weight }
+    ensures fewer { (w : ℕ) → IsDocWeight doc.now w → steps.new ≤ steps.old + w }
 {
     match means.jobs.find(place, doc) {
         Some(worked) => paths_by(means, worked.doc(), worked.done(), store, fresh, steps),
@@ -126,7 +126,7 @@ fn paths_by<G: Gate, L: Ledger>(
     ensures fault { IfErr result (Refuses doc.now) }
     ensures same { has_doc (docs_of store.now ++ docs_of fresh.old) doc.now ≡ true
         → steps.new ≡ steps.old }
-    ensures fewer { (weight : ℕ) → IsDocWeight doc.now weight → steps.new ≤ steps.old + weight }
+    ensures fewer { (w : ℕ) → IsDocWeight doc.now w → steps.new ≤ steps.old + w }
 {
     if let Some(paths) = find_shared(store, doc)? {
         return Ok(paths);
@@ -163,7 +163,7 @@ fn index_new<G: Gate, L: Ledger>(
     ensures file { IfOk result (λ file. IsIndexed (kept_of doc.now file)) }
     ensures steps { IfOk result (λ file. CountsWalks file steps.old steps.new) }
     ensures fault { IfErr result (Refuses doc.now) }
-    ensures fewer { (weight : ℕ) → IsDocWeight doc.now weight → steps.new ≤ steps.old + weight }
+    ensures fewer { (w : ℕ) → IsDocWeight doc.now w → steps.new ≤ steps.old + w }
 {
     let Means { alloc, jobs, gate } = *means;
     match ahead {
@@ -183,7 +183,7 @@ fn take_up<L: Ledger>(
     ensures file { IfOk result (λ file. IsIndexed (kept_of doc.now file)) }
     ensures steps { IfOk result (λ file. CountsWalks file steps.old steps.new) }
     ensures fault { IfErr result (Refuses doc.now) }
-    ensures fewer { (weight : ℕ) → IsDocWeight doc.now weight → steps.new ≤ steps.old + weight }
+    ensures fewer { (w : ℕ) → IsDocWeight doc.now w → steps.new ≤ steps.old + w }
 {
     steps.add(done.walks);
     match &done.found {

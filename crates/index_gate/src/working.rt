@@ -41,7 +41,7 @@ fn paths_of(alloc: Global, doc: &Document, walks: &mut u64) -> Result<SharedPath
     ensures file { IfOk result (λ file. IsIndexed (kept_of doc.now file)) }
     ensures walks { IfOk result (λ file. AddsWalks file.graph 0 walks.new) }
     ensures fault { IfErr result (HasNone doc.now) }
-    ensures few { (weight : ℕ) → IsDocWeight doc.now weight → walks.new ≤ weight }
+    ensures few { (w : ℕ) → IsDocWeight doc.now w → walks.new ≤ w }
 {
     let graph = graph_of(alloc, doc)?;
     match find_paths(alloc, graph, walks) {

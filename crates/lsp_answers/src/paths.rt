@@ -33,7 +33,7 @@ fn module_path(alloc: Global, path: &[u8]) -> Result<Option<PathText>, AllocErro
 
 /// The text as a path, where it names a module: it is copied then alone.
 fn if_module(alloc: Global, text: &str) -> Result<Option<PathText>, AllocError>
-    ensures { IfOk result (λ found. found ≡ if names_module text.now then Some text.now else None) }
+    ensures { IfOk result (λ o. o ≡ if names_module text.now then Some text.now else None) }
 {
     if names_module(text) {
         Ok(Some(PathText::of(alloc, text)?))

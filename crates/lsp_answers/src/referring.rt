@@ -198,7 +198,7 @@ fn tell_all(
 /// The references, and behind them the targets where the declaration is asked for. A target may be a reference too, so the
 /// rows have to be put in order.
 fn with_targets(found: Rows, targets: Rows, declaration: bool) -> Result<Vec<Row>, AllocError>
-    ensures { IfOk result (λ rows. rows.items ≡ if declaration then found ++ targets else found) }
+    ensures { IfOk result (λ r. r.items ≡ if declaration then found ++ targets else found) }
 {
     let mut rows = found.into_items();
     if declaration {

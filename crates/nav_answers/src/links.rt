@@ -115,7 +115,7 @@ fn add_links(list: &mut Vec<Link>, reference: Hit, definitions: &[Hit]) -> Resul
 /// Puts the links by the definitions and then by the references, each pair once.
 fn sort(list: &mut Vec<Link>)
     ensures order { IsStrictlySortedBy by_link list.new.items }
-    ensures exact { (link : Link) → Contains list.new.items link ↔ Contains list.old.items link }
+    ensures exact { (l : Link) → Contains list.new.items l ↔ Contains list.old.items l }
 {
     put_in_order(list);
     list.dedup();
