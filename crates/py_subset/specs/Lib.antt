@@ -1,4 +1,3 @@
-pub mod formers
 pub mod Pieces
 pub mod Layout
 pub mod Marks

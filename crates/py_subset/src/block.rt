@@ -4,9 +4,9 @@ ghost use Rattle.std.specs.Prelude.{◌≡◌};
 ghost use Rattle.py_subset.specs.Parsers.{Gives, ◌▹◌};
 ghost use Rattle.py_subset.specs.Statements as spec;
 
+use crate::Items;
 use crate::compound::{class_stmt, def_stmt, for_stmt, if_stmt, while_stmt};
 use crate::header::begins_stmt;
-use crate::items::Items;
 use crate::simple::simple_line;
 use crate::token::Mark;
 use crate::token_list::{Stop, Tokens};

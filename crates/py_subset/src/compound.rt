@@ -4,10 +4,10 @@ ghost use Rattle.std.specs.Prelude.{◌≡◌};
 ghost use Rattle.py_subset.specs.Parsers.{Gives, ◌▹◌};
 ghost use Rattle.py_subset.specs.Statements as spec;
 
+use crate::Items;
 use crate::block::{colon_suite, otherwise};
 use crate::expr::{expr, exprs};
 use crate::header::{bases, parameters};
-use crate::items::Items;
 use crate::token::Mark;
 use crate::token_list::{Stop, Tokens};
 use crate::tree::{Arm, Stmt};

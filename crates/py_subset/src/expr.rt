@@ -5,7 +5,7 @@ ghost use Rattle.std.specs.Prelude.{◌≡◌};
 ghost use Rattle.py_subset.specs.Parsers.{Gives, star, several};
 ghost use Rattle.py_subset.specs.Parsing as spec;
 
-use crate::items::Items;
+use crate::Items;
 use crate::primaries::primary;
 use crate::symbols::{begins_expr, begins_joined, operator, signs};
 use crate::token::Mark;

@@ -4,7 +4,7 @@ ghost use Rattle.std.specs.Prelude.{◌≡◌};
 ghost use Rattle.py_subset.specs.Parsers.{Gives};
 ghost use Rattle.py_subset.specs.Statements as spec;
 
-use crate::items::Items;
+use crate::Items;
 use crate::lists::named_parts;
 use crate::primaries::in_round;
 use crate::symbols::{arguments, begins_expr};

@@ -4,7 +4,7 @@ ghost use Rattle.std.specs.Prelude.{◌≡◌};
 ghost use Rattle.py_subset.specs.Parsers.{Gives};
 ghost use Rattle.py_subset.specs.Statements as spec;
 
-use crate::items::Items;
+use crate::Items;
 use crate::lists::{Part, named_parts, parts};
 use crate::token::Mark;
 use crate::token_list::{Stop, Tokens};

@@ -4,7 +4,7 @@ ghost use Rattle.std.specs.Prelude.{◌≡◌, ◌+◌, ◌^◌, ◌<◌, ◌≤
 ghost use Rattle.py_subset.specs.Pieces as pieces;
 ghost use Rattle.py_subset.specs.Layout as spec;
 
-use crate::items::Items;
+use crate::Items;
 use crate::piece::{Piece, PieceKind, piece_at};
 use crate::reading::{Place, Reading};
 use crate::token::PyFault;

@@ -8,7 +8,6 @@ mod compound;
 mod expr;
 mod header;
 mod imports;
-mod items;
 mod keywords;
 mod laws;
 mod layout;
@@ -28,7 +27,7 @@ mod tree;
 mod whole;
 
 pub use bytes::{begins_name, is_in_name};
-pub use items::Items;
+pub use item_list::Listed as Items;
 pub use laws::{lookahead_reads_texts, texts_are_read_once};
 pub use piece::{Bracket, Flaw, Piece, PieceKind};
 pub use reading::{Place, Reading};

@@ -5,7 +5,7 @@ ghost use Rattle.py_subset.specs.Parsers.{Gives, both, star, several, ◌▹◌}
 ghost use Rattle.py_subset.specs.Parsing.{is};
 ghost use Rattle.py_subset.specs.Trees.{cons};
 
-use crate::items::Items;
+use crate::Items;
 use crate::token::Mark;
 use crate::token_list::{Stop, Tokens};
 use crate::tree::Word;

@@ -4,7 +4,7 @@ ghost use Rattle.std.specs.Prelude.{◌≡◌, ◌+◌, ◌^◌, ◌<◌, ◌++�
 ghost use Rattle.std.specs.Str.{IsAscii};
 ghost use Rattle.py_subset.specs.Layout as spec;
 
-use crate::items::Items;
+use crate::Items;
 use crate::reading::Place;
 use crate::token::{Mark, Token};
 use crate::tree::{PyText, Word};

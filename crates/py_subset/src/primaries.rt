@@ -4,8 +4,8 @@ ghost use Rattle.std.specs.Prelude.{◌≡◌};
 ghost use Rattle.py_subset.specs.Parsers.{Gives, star};
 ghost use Rattle.py_subset.specs.Parsing as spec;
 
+use crate::Items;
 use crate::expr::exprs;
-use crate::items::Items;
 use crate::symbols::{arguments, begins_expr, begins_postfix, constant};
 use crate::token::Mark;
 use crate::token_list::{Stop, Tokens};

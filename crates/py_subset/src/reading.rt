@@ -3,7 +3,7 @@
 ghost use Rattle.std.specs.Prelude.{◌≡◌, ◌+◌, ◌-◌, ◌^◌, ◌<◌, ◌≤◌, ◌++◌, length, take, replicate, OnOk};
 ghost use Rattle.py_subset.specs.Layout as spec;
 
-use crate::items::Items;
+use crate::Items;
 use crate::piece::Bracket;
 use crate::token::{Mark, PyFault, Token};
 use crate::tree::{PyText, Word};

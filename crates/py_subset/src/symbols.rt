@@ -5,7 +5,7 @@ ghost use Rattle.py_subset.specs.Trees as tree;
 ghost use Rattle.py_subset.specs.Parsers.{Gives, marked, star};
 ghost use Rattle.py_subset.specs.Parsing as spec;
 
-use crate::items::Items;
+use crate::Items;
 use crate::mark::same;
 use crate::token::Mark;
 use crate::token_list::{Stop, Tokens};

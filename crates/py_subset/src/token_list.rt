@@ -1,6 +1,6 @@
 //! The tokens that are left to read.
 
-use crate::items::Items;
+use crate::Items;
 use crate::mark::same;
 use crate::token::{Mark, Token};
 use crate::tree::Word;

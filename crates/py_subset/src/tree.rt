@@ -5,7 +5,7 @@
 
 ghost use Rattle.std.specs.Prelude.{◌≡◌};
 
-use crate::items::Items;
+use crate::Items;
 use std::marker::Model;
 
 /// The text of a name, seen as its bytes. It stands in the text that was read.

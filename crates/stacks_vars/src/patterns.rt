@@ -1,7 +1,7 @@
 use crate::held::Held;
-use crate::listed::Listed;
 use crate::scopes::NodeAt;
 use crate::symbol::Symbol;
+use item_list::Listed;
 
 /// What a rule asks of a stack of scopes: that it begins with these, the front first. What follows them
 /// is a variable of the rule, named by its place.

@@ -1,4 +1,4 @@
--- `Items` as a type that may hold the type that holds it.
+-- `Listed` as a type that may hold the type that holds it.
 use mathlib.Core.Path.{◌≡◌, refl, sym}
 use mathlib.Core.List.{List, []}
 use mathlib.Core.Former.{Former, this, list, via, children}
@@ -14,10 +14,10 @@ use Rattle.std.specs.formers.vec.Vec as vec
 use Rattle.std.specs.declared.alloc.Global.{Global}
 use Rattle.std.specs.contracts.alloc.Global as heap
 use Rattle.std.specs.contracts.impls.GlobalAllocator.TheImpl.{ghosts}
-use Rattle.py_subset.specs.declared.items.Items.TheInside.{Inside}
-use Rattle.py_subset.specs.declared.items.Items.TheView.{view, invariant}
-use Rattle.py_subset.specs.contracts.items.Items as C
-use Rattle.py_subset.specs.contracts.items.Items.TheInside as I
+use Rattle.item_list.specs.declared.listed.Listed.TheInside.{Inside}
+use Rattle.item_list.specs.declared.listed.Listed.TheView.{view, invariant}
+use Rattle.item_list.specs.contracts.listed.Listed as C
+use Rattle.item_list.specs.contracts.listed.Listed.TheInside as I
 
 -- a type of lists of what the type holds
 abbrev pub the_former : Former {0} → Former {0}

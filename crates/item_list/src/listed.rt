@@ -1,7 +1,7 @@
 use std::alloc::{AllocError, Global};
 use std::marker::Model;
 
-/// Things in a fixed order, the first first. A contract sees them as their list.
+/// Things in a fixed order, the first first. A contract sees them as their list, so a tree of them is plain data.
 #[derive(Debug, Drop)]
 pub struct Listed<T> {
     items: Vec<T>,
@@ -19,7 +19,7 @@ impl<T> Model for Listed<T> {
 }
 
 impl<T> Listed<T> {
-    ghost use Rattle.std.specs.Prelude.{◌≡◌, ◌↔◌, [], length, IsTrue};
+    ghost use Rattle.std.specs.Prelude.{◌≡◌, ◌↔◌, [], length, IsTrue, IfOk};
 
     /// Nothing. It takes no memory.
     pub fn new(alloc: Global) -> Listed<T>
@@ -28,6 +28,14 @@ impl<T> Listed<T> {
         Listed {
             items: Vec::new(alloc),
         }
+    }
+
+    /// Nothing, with room for this many; the one error is want of memory.
+    pub fn with_capacity(alloc: Global, capacity: usize) -> Result<Listed<T>, AllocError>
+        ensures { IfOk result (λ listed. listed ≡ []) }
+    {
+        let items = Vec::with_capacity(alloc, capacity)?;
+        Ok(Listed { items })
     }
 
     /// The things of this vector, in its order. It takes no memory.
@@ -67,7 +75,7 @@ impl<T> Listed<T> {
 }
 
 impl<T: Drop> Listed<T> {
-    ghost use Rattle.std.specs.Prelude.{◌≡◌, ◌++◌, [], ◌∷◌, OnOk, OnErr};
+    ghost use Rattle.std.specs.Prelude.{◌≡◌, ◌++◌, ◌-◌, [], ◌∷◌, length, take, slice_get, OnOk, OnErr};
 
     /// Puts the thing behind the others; the one error is want of memory, and changes nothing.
     pub fn push(&mut self, item: T) -> Result<(), AllocError>
@@ -76,5 +84,20 @@ impl<T: Drop> Listed<T> {
     {
         self.items.push(item)?;
         Ok(())
+    }
+
+    /// Takes the last thing off; None where there are none.
+    pub fn pop(&mut self) -> Option<T>
+        ensures value { result ≡ slice_get self.old (length self.old - 1) }
+        ensures rest { self.new ≡ take (length self.old - 1) self.old }
+    {
+        self.items.pop()
+    }
+
+    /// Keeps the first things, this many.
+    pub fn truncate(&mut self, len: usize)
+        ensures { self.new ≡ take len self.old }
+    {
+        self.items.truncate(len);
     }
 }
