@@ -5,6 +5,7 @@ use Rattle.path_store.specs.Documents.{Doc}
 use Rattle.path_store.specs.Store.{Kept, swept}
 use Rattle.version_tree.specs.declared.entry.Entry.{Entry}
 use Rattle.version_tree.specs.Contents.{FileRow, replay, granted_rows}
+use Rattle.version_board.specs.declared.board.Pins as boards
 use Rattle.version_board.specs.Logs.{Begins, own}
 use Rattle.index_gate.specs.Indexed.{AddsMissing}
 use Rattle.nav_proto.specs.declared.proto_fault.ProtoFault.{ProtoFault}
@@ -143,6 +144,10 @@ pub record Moment : Type 0 where
 -- the moment of these parts
 abbrev pub moment : ℕ → List Entry → ℕ → OnDesk → Moment
 moment seat log pin desk = record { seat = seat; log = log; pin = pin; desk = desk }
+
+-- the moment of a board, which tells its parts so, and a desk
+abbrev pub moment_at : {B : Type 0} → boards.Ghosts B → B → OnDesk → Moment
+moment_at tells board desk = moment (tells.seat board) (tells.log board) (tells.pin_at board) desk
 
 -- the session as a transcript sees it
 abbrev pub session_of : Moment → Session

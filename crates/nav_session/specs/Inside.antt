@@ -1,7 +1,8 @@
 -- What the parts of an answer do; no public clause cites this.
-use Rattle.std.specs.Prelude.{◌≡◌, ◌⊎◌, ℕ, List, [], ◌∷◌, length, true, false, if◌then◌else◌, Option, Some, None, MatchBool}
+use Rattle.std.specs.Prelude.{◌≡◌, ◌≤◌, ◌+◌, ◌⊎◌, ℕ, List, [], ◌∷◌, length, true, false, if◌then◌else◌, Option, Some, None, MatchBool, Result, IfOk, OnOk, OnErr}
 use Rattle.partial_path.specs.PathSets.{FileRules}
 use Rattle.version_tree.specs.declared.edit.Edit.{Edit}
+use Rattle.version_tree.specs.declared.entry.Entry.{Entry}
 use Rattle.version_tree.specs.declared.edit.Edit.TheVariants as edit
 use Rattle.nav_proto.specs.declared.request.FileEdit.{FileEdit}
 use Rattle.nav_proto.specs.declared.request.FileEdit.TheVariants as asked
@@ -10,15 +11,35 @@ use Rattle.nav_proto.specs.declared.reply.PlainError.TheVariants.{NoUser, Forbid
 use Rattle.nav_session.specs.declared.drafts.Draft.{Draft}
 use Rattle.nav_session.specs.declared.drafts.Draft.TheVariants.{Put, Remove}
 use Rattle.path_store.specs.Store.{Kept, swept}
-use Rattle.index_gate.specs.Indexed.{AreFilesOf}
+use Rattle.path_store.specs.Documents.{Doc}
+use Rattle.index_gate.specs.Indexed.{AreDocWeights, AreFilesOf, docs_of, missing}
 use Rattle.version_board.specs.Logs.{own}
 use Rattle.nav_proto.specs.declared.request.Request.{Request}
 use Rattle.nav_proto.specs.declared.reply.Reply.{Reply}
 use Rattle.nav_proto.specs.Replies.{reply_text}
 use Rattle.nav_session.specs.Requests.{docs_in, is_operator}
-use Rattle.nav_session.specs.Sessions.{asker_of, IsJudged, IsCommitted, IsAnswered}
+use Rattle.nav_session.specs.Sessions.{Session, Asker, asker_of, IfNamed, IsJudged, IsCommitted, IsAnswered}
 use Rattle.nav_session.specs.Transcripts.{with_newline}
-use Rattle.nav_session.specs.Desks.{Moment, session_of, HasItsView, AddsDocs, KeepsDocs, Replies, is_accepted, is_indexed}
+use Rattle.nav_session.specs.Desks.{Moment, session_of, GoesOn, HasItsView, IsLeftOff, AddsDocs, KeepsDocs, Replies, is_accepted, is_indexed}
+
+-- What comes of a request: the session goes on. With a result, what is told of that holds, and without one, for want of
+-- memory, the session is left off.
+pub record ComesOf {A E : Type 0} (result : Result A E) (Told : Moment → Moment → A → Type 0) (old new : Moment) : Type 0 where
+  pub goes_on : GoesOn old new
+  pub told : IfOk result (λ found. Told old new found)
+  pub none : OnErr result (IsLeftOff old new)
+
+-- Steps were counted for documents beside a store: at most what those weigh that the store lacks. Where there is no
+-- document, and memory wasn't wanting, none was.
+pub record Counts {A E : Type 0} (result : Result A E) (docs : List Doc) (store : List Kept) (old new : ℕ) : Type 0 where
+  pub few : (total : ℕ) → AreDocWeights (missing (docs_of store) docs) total → new ≤ old + total
+  pub none : OnOk result (docs ≡ [] → new ≡ old)
+
+-- What comes of a query: where a user is named what is told of the reply holds for that one, and the desk's documents stay.
+pub record Asks {E : Type 0} (result : Result Reply E) (Found : List Entry → Session → Asker → Reply → Session → Type 0) (old new : Moment) : Type 0 where
+  pub reply : IfOk result (Replies (λ log before reply after. IfNamed before reply after (λ asker. Found log before asker reply after)) old new)
+  pub store : new.desk.store ≡ old.desk.store
+  pub keeps : new.desk.keeps ≡ old.desk.keeps
 
 -- why the user may change nothing
 abbrev pub change_refusal : Option (List ℕ) → Option PlainError

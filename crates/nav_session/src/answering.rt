@@ -4,8 +4,8 @@ ghost use Rattle.nav_proto.specs.Replies.{reply_text};
 ghost use Rattle.nav_session.specs.Requests.{docs_of_line, docs_of_request, quits, is_quit};
 ghost use Rattle.nav_session.specs.Sessions.{IsAnswered};
 ghost use Rattle.nav_session.specs.Transcripts.{with_newline};
-ghost use Rattle.nav_session.specs.Desks.{HasItsView, KeepsDocs, Answers, Replies, GoesOn, IsLeftOff, moment};
-ghost use Rattle.nav_session.specs.Inside.{AnswersWith};
+ghost use Rattle.nav_session.specs.Desks.{HasItsView, KeepsDocs, Answers, Replies, GoesOn, IsLeftOff, moment_at};
+ghost use Rattle.nav_session.specs.Inside.{AnswersWith, ComesOf, Counts};
 
 use crate::asking::{at_of, callers, define, references};
 use crate::committing::commit;
@@ -53,16 +53,13 @@ pub fn answer_line<R: Threads + Sync, B: Commits<R>, G: Gate + Sync, L: Ledger>(
     requires view { HasItsView desk.old (B.log board.old) (B.pin_at board.old) }
 
     // The reply, and the log.
-    ensures goes_on { GoesOn (moment (B.seat board.old) (B.log board.old)
-        (B.pin_at board.old) desk.old)
-        (moment (B.seat board.new) (B.log board.new) (B.pin_at board.new) desk.new) }
-    ensures reply { IfOk result (λ step. Answers line.now
-        (moment (B.seat board.old) (B.log board.old) (B.pin_at board.old) desk.old)
-        (moment (B.seat board.new) (B.log board.new) (B.pin_at board.new) desk.new) step.reply) }
+    ensures goes_on { GoesOn (moment_at B.Pins board.old desk.old)
+        (moment_at B.Pins board.new desk.new) }
+    ensures reply { IfOk result (λ step. Answers line.now (moment_at B.Pins board.old desk.old)
+        (moment_at B.Pins board.new desk.new) step.reply) }
     ensures quit { IfOk result (λ step. step.quit ≡ is_quit line.now) }
-    ensures none { OnErr result (IsLeftOff (moment (B.seat board.old) (B.log board.old)
-        (B.pin_at board.old) desk.old)
-        (moment (B.seat board.new) (B.log board.new) (B.pin_at board.new) desk.new)) }
+    ensures none { OnErr result (IsLeftOff (moment_at B.Pins board.old desk.old)
+        (moment_at B.Pins board.new desk.new)) }
 
     // The steps.
     ensures steps { (total : ℕ)
@@ -99,20 +96,10 @@ fn answer_request<R: Threads + Sync, B: Commits<R>, G: Gate + Sync, L: Ledger>(
     steps: &mut Steps<L>,
 ) -> Result<Step, AllocError>
     requires view { HasItsView desk.old (B.log board.old) (B.pin_at board.old) }
-    ensures goes_on { GoesOn (moment (B.seat board.old) (B.log board.old)
-        (B.pin_at board.old) desk.old)
-        (moment (B.seat board.new) (B.log board.new) (B.pin_at board.new) desk.new) }
-    ensures reply { IfOk result (λ step. AnswersWith request
-        (moment (B.seat board.old) (B.log board.old) (B.pin_at board.old) desk.old)
-        (moment (B.seat board.new) (B.log board.new) (B.pin_at board.new) desk.new) step.reply) }
+    ensures answers { ComesOf result (λ old new step. AnswersWith request old new step.reply)
+        (moment_at B.Pins board.old desk.old) (moment_at B.Pins board.new desk.new) }
     ensures quit { IfOk result (λ step. step.quit ≡ quits request) }
-    ensures none { OnErr result (IsLeftOff (moment (B.seat board.old) (B.log board.old)
-        (B.pin_at board.old) desk.old)
-        (moment (B.seat board.new) (B.log board.new) (B.pin_at board.new) desk.new)) }
-    ensures steps { (total : ℕ)
-        → AreDocWeights (missing (docs_of desk.old.store) (docs_of_request request)) total
-        → steps.new ≤ steps.old + total }
-    ensures no_steps { OnOk result (docs_of_request request ≡ [] → steps.new ≡ steps.old) }
+    ensures steps { Counts result (docs_of_request request) desk.old.store steps.old steps.new }
 {
     let quit = quits(&request);
     let reply = reply_to(means, desk, board, request, steps)?;
@@ -141,16 +128,13 @@ pub fn reply_to<R: Threads + Sync, B: Commits<R>, G: Gate + Sync, L: Ledger>(
     steps: &mut Steps<L>,
 ) -> Result<Reply, AllocError>
     requires view { HasItsView desk.old (B.log board.old) (B.pin_at board.old) }
-    ensures goes_on { GoesOn (moment (B.seat board.old) (B.log board.old)
-        (B.pin_at board.old) desk.old)
-        (moment (B.seat board.new) (B.log board.new) (B.pin_at board.new) desk.new) }
+    ensures goes_on { GoesOn (moment_at B.Pins board.old desk.old)
+        (moment_at B.Pins board.new desk.new) }
     ensures reply { IfOk result (Replies
         (λ log before reply after. IsAnswered (B.seat board.old) log before request reply after)
-        (moment (B.seat board.old) (B.log board.old) (B.pin_at board.old) desk.old)
-        (moment (B.seat board.new) (B.log board.new) (B.pin_at board.new) desk.new)) }
-    ensures none { OnErr result (IsLeftOff (moment (B.seat board.old) (B.log board.old)
-        (B.pin_at board.old) desk.old)
-        (moment (B.seat board.new) (B.log board.new) (B.pin_at board.new) desk.new)) }
+        (moment_at B.Pins board.old desk.old) (moment_at B.Pins board.new desk.new)) }
+    ensures none { OnErr result (IsLeftOff (moment_at B.Pins board.old desk.old)
+        (moment_at B.Pins board.new desk.new)) }
     ensures store { IfOk result (λ reply. KeepsDocs desk.old.keeps request reply
         desk.old.store desk.new.store) }
     ensures steps { (total : ℕ)

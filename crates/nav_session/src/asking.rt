@@ -1,9 +1,10 @@
-ghost use Rattle.std.specs.Prelude.{◌≡◌, IfOk};
+ghost use Rattle.std.specs.Prelude.{◌≡◌};
 ghost use Rattle.nav_answers.specs.Replies.{IsDefineReply, IsReferencesReply};
 ghost use Rattle.partial_path.specs.Limits.{IsInRange};
 ghost use Rattle.nav_session.specs.Requests.{at_of};
-ghost use Rattle.nav_session.specs.Sessions.{IfNamed, Finds, FindsCallers};
-ghost use Rattle.nav_session.specs.Desks.{Replies, HasItsView, moment};
+ghost use Rattle.nav_session.specs.Sessions.{Finds, FindsCallers};
+ghost use Rattle.nav_session.specs.Desks.{HasItsView, moment_at};
+ghost use Rattle.nav_session.specs.Inside.{Asks};
 
 use crate::desk::Desk;
 use crate::means::Means;
@@ -36,12 +37,10 @@ pub fn define<B: Pins>(
     bounds: Bounds,
 ) -> Result<Reply, AllocError>
     requires view { HasItsView desk.old (B.log board.now) (B.pin_at board.now) }
-    ensures reply { IfOk result (Replies (λ log before reply after. IfNamed before reply after
-        (λ asker. Finds IsDefineReply log before asker path.now at bounds reply after))
-        (moment (B.seat board.now) (B.log board.now) (B.pin_at board.now) desk.old)
-        (moment (B.seat board.now) (B.log board.now) (B.pin_at board.now) desk.new)) }
-    ensures store { desk.new.store ≡ desk.old.store }
-    ensures keeps { desk.new.keeps ≡ desk.old.keeps }
+    ensures asks { Asks result
+        (λ log before asker reply after.
+        Finds IsDefineReply log before asker path.now at bounds reply after)
+        (moment_at B.Pins board.now desk.old) (moment_at B.Pins board.now desk.new) }
 {
     if !desk.has_user() {
         return Ok(Reply::Plain(PlainError::NoUser));
@@ -64,12 +63,10 @@ pub fn references<R: Threads + Sync, B: Pins, G: Gate + Sync>(
     bounds: Bounds,
 ) -> Result<Reply, AllocError>
     requires view { HasItsView desk.old (B.log board.now) (B.pin_at board.now) }
-    ensures reply { IfOk result (Replies (λ log before reply after. IfNamed before reply after
-        (λ asker. Finds IsReferencesReply log before asker path.now at bounds reply after))
-        (moment (B.seat board.now) (B.log board.now) (B.pin_at board.now) desk.old)
-        (moment (B.seat board.now) (B.log board.now) (B.pin_at board.now) desk.new)) }
-    ensures store { desk.new.store ≡ desk.old.store }
-    ensures keeps { desk.new.keeps ≡ desk.old.keeps }
+    ensures asks { Asks result
+        (λ log before asker reply after.
+        Finds IsReferencesReply log before asker path.now at bounds reply after)
+        (moment_at B.Pins board.now desk.old) (moment_at B.Pins board.now desk.new) }
 {
     if !desk.has_user() {
         return Ok(Reply::Plain(PlainError::NoUser));
@@ -99,12 +96,9 @@ pub fn callers<R: Threads + Sync, B: Pins, G: Gate + Sync>(
     at: At,
 ) -> Result<Reply, AllocError>
     requires view { HasItsView desk.old (B.log board.now) (B.pin_at board.now) }
-    ensures reply { IfOk result (Replies (λ log before reply after. IfNamed before reply after
-        (λ asker. FindsCallers log before asker path.now at reply after))
-        (moment (B.seat board.now) (B.log board.now) (B.pin_at board.now) desk.old)
-        (moment (B.seat board.now) (B.log board.now) (B.pin_at board.now) desk.new)) }
-    ensures store { desk.new.store ≡ desk.old.store }
-    ensures keeps { desk.new.keeps ≡ desk.old.keeps }
+    ensures asks { Asks result
+        (λ log before asker reply after. FindsCallers log before asker path.now at reply after)
+        (moment_at B.Pins board.now desk.old) (moment_at B.Pins board.now desk.new) }
 {
     if !desk.has_user() {
         return Ok(Reply::Plain(PlainError::NoUser));

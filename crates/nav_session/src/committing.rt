@@ -1,13 +1,12 @@
-ghost use Rattle.std.specs.Prelude.{◌≡◌, ◌≢◌, ◌≤◌, ◌+◌, ℕ, [], IfOk, OnOk, OnErr, MatchBool};
-ghost use Rattle.index_gate.specs.Indexed.{AreDocWeights, docs_of, missing};
+ghost use Rattle.std.specs.Prelude.{◌≡◌, ◌≢◌, IfOk, OnErr, MatchBool};
 ghost use Rattle.version_board.specs.Logs.{own};
 ghost use Rattle.index_gate.specs.declared.fault.IndexFault.TheVariants as why;
 ghost use Rattle.nav_proto.specs.declared.reply.Reply.TheVariants.{BadFile};
 ghost use Rattle.nav_session.specs.BadFiles.{file_error};
 ghost use Rattle.nav_session.specs.Requests.{docs_in};
 ghost use Rattle.nav_session.specs.Sessions.{IfOperator, IsCommitted};
-ghost use Rattle.nav_session.specs.Desks.{Replies, GoesOn, IsLeftOff, HasItsView, AddsDocs, AddsOnly, is_indexed, moment};
-ghost use Rattle.nav_session.specs.Inside.{CommitsAs, PutsIn, filled};
+ghost use Rattle.nav_session.specs.Desks.{Replies, GoesOn, HasItsView, AddsDocs, AddsOnly, is_indexed, moment_at};
+ghost use Rattle.nav_session.specs.Inside.{ComesOf, CommitsAs, Counts, PutsIn, filled};
 
 use crate::bad_file::file_error;
 use crate::desk::Desk;
@@ -37,23 +36,13 @@ pub fn commit<R: Threads + Sync, B: Commits<R>, G: Gate + Sync, L: Ledger>(
     steps: &mut Steps<L>,
 ) -> Result<Reply, AllocError>
     requires view { HasItsView desk.old (B.log board.old) (B.pin_at board.old) }
-    ensures goes_on { GoesOn (moment (B.seat board.old) (B.log board.old)
-        (B.pin_at board.old) desk.old)
-        (moment (B.seat board.new) (B.log board.new) (B.pin_at board.new) desk.new) }
-    ensures reply { IfOk result (Replies (λ log before reply after. IfOperator before reply after
-        (λ asker. IsCommitted (B.seat board.old) log before asker base edits reply after))
-        (moment (B.seat board.old) (B.log board.old) (B.pin_at board.old) desk.old)
-        (moment (B.seat board.new) (B.log board.new) (B.pin_at board.new) desk.new)) }
-    ensures none { OnErr result (IsLeftOff (moment (B.seat board.old) (B.log board.old)
-        (B.pin_at board.old) desk.old)
-        (moment (B.seat board.new) (B.log board.new) (B.pin_at board.new) desk.new)) }
+    ensures commits { ComesOf result (Replies (λ log before reply after. IfOperator before reply after
+        (λ asker. IsCommitted (B.seat board.old) log before asker base edits reply after)))
+        (moment_at B.Pins board.old desk.old) (moment_at B.Pins board.new desk.new) }
     ensures store { IfOk result (λ reply. MatchBool (is_indexed reply)
         (AddsDocs desk.old.keeps (docs_in edits) reply desk.old.store desk.new.store)
         (desk.new.store ≡ desk.old.store)) }
-    ensures steps { (total : ℕ)
-        → AreDocWeights (missing (docs_of desk.old.store) (docs_in edits)) total
-        → steps.new ≤ steps.old + total }
-    ensures no_steps { OnOk result (docs_in edits ≡ [] → steps.new ≡ steps.old) }
+    ensures steps { Counts result (docs_in edits) desk.old.store steps.old steps.new }
 {
     match desk.change_refusal() {
         Some(error) => Ok(Reply::Plain(error)),
@@ -71,19 +60,14 @@ fn commit_allowed<R: Threads + Sync, B: Commits<R>, G: Gate + Sync, L: Ledger>(
     edits: Edits,
     steps: &mut Steps<L>,
 ) -> Result<Reply, AllocError>
-    ensures goes_on { GoesOn (moment (B.seat board.old) (B.log board.old)
-        (B.pin_at board.old) desk.old)
-        (moment (B.seat board.new) (B.log board.new) (B.pin_at board.new) desk.new) }
-    ensures committed { IfOk result (CommitsAs base edits
-        (moment (B.seat board.old) (B.log board.old) (B.pin_at board.old) desk.old)
-        (moment (B.seat board.new) (B.log board.new) (B.pin_at board.new) desk.new)) }
+    ensures goes_on { GoesOn (moment_at B.Pins board.old desk.old)
+        (moment_at B.Pins board.new desk.new) }
+    ensures committed { IfOk result (CommitsAs base edits (moment_at B.Pins board.old desk.old)
+        (moment_at B.Pins board.new desk.new)) }
     ensures none { OnErr result (own (B.seat board.old) (B.log board.new)
         ≡ own (B.seat board.old) (B.log board.old)) }
     ensures no_less { OnErr result (AddsOnly desk.old.store desk.new.store) }
-    ensures steps { (total : ℕ)
-        → AreDocWeights (missing (docs_of desk.old.store) (docs_in edits)) total
-        → steps.new ≤ steps.old + total }
-    ensures no_steps { OnOk result (docs_in edits ≡ [] → steps.new ≡ steps.old) }
+    ensures steps { Counts result (docs_in edits) desk.old.store steps.old steps.new }
 {
     let Means { rt, alloc, gate } = *means;
     let drafts = drafts_of(alloc, edits)?;
@@ -128,12 +112,10 @@ fn put_in<R: Threads + Sync, B: Commits<R>>(
     drafts: Vec<Draft>,
     files: Vec<SharedPaths>,
 ) -> Result<Reply, AllocError>
-    ensures goes_on { GoesOn (moment (B.seat board.old) (B.log board.old)
-        (B.pin_at board.old) desk.old)
-        (moment (B.seat board.new) (B.log board.new) (B.pin_at board.new) desk.new) }
+    ensures goes_on { GoesOn (moment_at B.Pins board.old desk.old)
+        (moment_at B.Pins board.new desk.new) }
     ensures put { IfOk result (PutsIn base (filled drafts.items files.items)
-        (moment (B.seat board.old) (B.log board.old) (B.pin_at board.old) desk.old)
-        (moment (B.seat board.new) (B.log board.new) (B.pin_at board.new) desk.new)) }
+        (moment_at B.Pins board.old desk.old) (moment_at B.Pins board.new desk.new)) }
     ensures none { OnErr result (own (B.seat board.old) (B.log board.new)
         ≡ own (B.seat board.old) (B.log board.old)) }
     ensures same { OnErr result (desk.new.store ≡ desk.old.store) }

@@ -1,7 +1,8 @@
 ghost use Rattle.std.specs.Prelude.{◌≡◌, ℕ, List, length, Some, None, true, false, IfOk, OnErr};
 ghost use Rattle.version_board.specs.Logs.{own};
 ghost use Rattle.nav_session.specs.Sessions.{IsJudged, IsRuled, asker_of};
-ghost use Rattle.nav_session.specs.Desks.{Replies, GoesOn, IsLeftOff, HasItsView, is_accepted, is_indexed, moment, session_at};
+ghost use Rattle.nav_session.specs.Desks.{Replies, GoesOn, HasItsView, is_accepted, is_indexed, moment_at, session_at};
+ghost use Rattle.nav_session.specs.Inside.{ComesOf};
 
 use crate::desk::Desk;
 use crate::means::Means;
@@ -20,16 +21,9 @@ pub fn rule<R, B: Commits<R>, G>(
     edit: Edit,
 ) -> Result<Reply, AllocError>
     requires view { HasItsView desk.old (B.log board.old) (B.pin_at board.old) }
-    ensures goes_on { GoesOn (moment (B.seat board.old) (B.log board.old)
-        (B.pin_at board.old) desk.old)
-        (moment (B.seat board.new) (B.log board.new) (B.pin_at board.new) desk.new) }
-    ensures reply { IfOk result (Replies
-        (λ log before reply after. IsRuled (B.seat board.old) log before edit reply after)
-        (moment (B.seat board.old) (B.log board.old) (B.pin_at board.old) desk.old)
-        (moment (B.seat board.new) (B.log board.new) (B.pin_at board.new) desk.new)) }
-    ensures none { OnErr result (IsLeftOff (moment (B.seat board.old) (B.log board.old)
-        (B.pin_at board.old) desk.old)
-        (moment (B.seat board.new) (B.log board.new) (B.pin_at board.new) desk.new)) }
+    ensures rules { ComesOf result (Replies
+        (λ log before reply after. IsRuled (B.seat board.old) log before edit reply after))
+        (moment_at B.Pins board.old desk.old) (moment_at B.Pins board.new desk.new) }
     ensures store { desk.new.store ≡ desk.old.store }
 {
     match desk.change_refusal() {
@@ -49,9 +43,8 @@ pub fn judge<R, B: Commits<R>>(
     base: Option<u32>,
     edits: &[Edit],
 ) -> Result<Reply, AllocError>
-    ensures goes_on { GoesOn (moment (B.seat board.old) (B.log board.old)
-        (B.pin_at board.old) desk.old)
-        (moment (B.seat board.new) (B.log board.new) (B.pin_at board.new) desk.new) }
+    ensures goes_on { GoesOn (moment_at B.Pins board.old desk.old)
+        (moment_at B.Pins board.new desk.new) }
     ensures judged { IfOk result (λ reply. (user : List ℕ) → desk.old.user ≡ Some user
         → IsJudged (B.seat board.old) (B.log board.new) (length (B.log board.old))
         (asker_of (B.pin_at board.old) user)

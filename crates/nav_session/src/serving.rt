@@ -3,7 +3,7 @@ ghost use Rattle.std.specs.Prelude.{◌≡◌, ◌≤◌, ℕ, None, Err, IsTrue
 ghost use Rattle.std.specs.Option.{option_copied};
 ghost use Rattle.nav_io.specs.Faults.{HasRisen};
 ghost use Rattle.nav_session.specs.declared.halt.Halt.TheVariants as halt;
-ghost use Rattle.nav_session.specs.Desks.{HasItsView, moment};
+ghost use Rattle.nav_session.specs.Desks.{HasItsView, moment_at};
 ghost use Rattle.nav_session.specs.Serving.{ServesAtDesk, standing, ends_session, ends_unhindered};
 ghost use Rattle.nav_session.specs.Turns.{TakesTurn, LeavesStore, LooksOn, end_before, spot, status_at_end, status_of_end};
 
@@ -148,11 +148,8 @@ fn answer_next<R: Threads + Sync, B: Commits<R>, S: Source, G: Gate + Sync, L: L
 ) -> Result<Option<Step>, Halt>
     requires view { HasItsView desk.old (B.log board.old) (B.pin_at board.old) }
     ensures turn { TakesTurn
-        (spot (moment (B.seat board.old) (B.log board.old)
-        (B.pin_at board.old) desk.old) reader.old (S.left source.old))
-        (spot (moment (B.seat board.new) (B.log board.new)
-        (B.pin_at board.new) desk.new) reader.new (S.left source.new))
-        result }
+        (spot (moment_at B.Pins board.old desk.old) reader.old (S.left source.old))
+        (spot (moment_at B.Pins board.new desk.new) reader.new (S.left source.new)) result }
     ensures store { LeavesStore result desk.old.store desk.new.store }
     ensures count { S.faults source.old ≤ S.faults source.new }
     ensures cause { result ≡ Err halt.SourceFailed
