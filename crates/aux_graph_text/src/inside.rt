@@ -1,7 +1,5 @@
 ghost use Rattle.std.specs.Prelude.{◌≡◌, IfOk};
-ghost use Rattle.partial_path.specs.Apply.{apply};
-ghost use Rattle.partial_path.specs.FileNumbers.{IsOfFileZero};
-ghost use Rattle.partial_path.specs.Moved.{moved};
+ghost use Rattle.partial_path.specs.{Apply.{apply}, FileNumbers.{IsOfFileZero}, Moved.{moved}};
 
 use partial_path::{LentConfig, StoredPath, file_zero_moves};
 use std::alloc::{AllocError, Global};

@@ -1,12 +1,9 @@
 //! Where the paths of a list of files may end, and what its nodes are.
 ghost use Rattle.std.specs.Prelude.{◌≡◌};
 ghost use Rattle.graph_nodes.specs.Whole.{is_definition_of};
+ghost use Rattle.partial_path.specs.{Same.{spot_eq}, Moved.{moved, moved_node, moved_spot}, Sources.{graphs_of}};
 ghost use Rattle.partial_path.specs.declared.config.Spot.TheVariants as spots;
-ghost use Rattle.partial_path.specs.Same.{spot_eq};
-ghost use Rattle.partial_path.specs.Moved.{moved, moved_node, moved_spot};
-ghost use Rattle.partial_path.specs.Sources.{graphs_of};
-ghost use Rattle.back_stitch.specs.Cuts.{is_exported_of};
-ghost use Rattle.back_stitch.specs.Sources.{is_exported_spot, may_end_at};
+ghost use Rattle.back_stitch.specs.{Cuts.{is_exported_of}, Sources.{is_exported_spot, may_end_at}};
 
 use partial_path::{End, FilePaths, Spot, StoredPath};
 use stacks_vars::NodeAt;

@@ -2,14 +2,8 @@
 ghost use Rattle.std.specs.Prelude.{◌≡◌, ◌≤◌, ◌∷◌, ◌++◌, [], ℕ, List, filter, All, Err, IfOk, IfSome, OnOk, IsTrue, option_copied, true};
 ghost use Rattle.graph_nodes.specs.Whole.{is_definition_of};
 ghost use Rattle.stacks_vars.specs.declared.scopes.NodeAt.{NodeAt};
-ghost use Rattle.partial_path.specs.declared.config.Spot.{Spot};
-ghost use Rattle.partial_path.specs.Rules.{Rule};
-ghost use Rattle.partial_path.specs.Moved.{moved};
-ghost use Rattle.partial_path.specs.Cutting.{IsStoredIn};
-ghost use Rattle.partial_path.specs.Sources.{IsSourceFile, graphs_of};
-ghost use Rattle.back_stitch.specs.Lists.{most_lists};
-ghost use Rattle.back_stitch.specs.Sources.{may_end_at};
-ghost use Rattle.back_stitch.specs.Held.{IsBack, IsBehind, IsOutcome, IsOpen, HasExtended, HasTried, IsTriedPast, asked_behind, goes_on};
+ghost use Rattle.partial_path.specs.{declared.config.Spot.{Spot}, Rules.{Rule}, Moved.{moved}, Cutting.{IsStoredIn}, Sources.{IsSourceFile, graphs_of}};
+ghost use Rattle.back_stitch.specs.{Lists.{most_lists}, Sources.{may_end_at}, Held.{IsBack, IsBehind, IsOutcome, IsOpen, HasExtended, HasTried, IsTriedPast, asked_behind, goes_on}};
 
 use crate::fault::BackFault;
 use crate::join::{first_of, join_left};

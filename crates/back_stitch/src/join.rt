@@ -2,15 +2,8 @@
 ghost use Rattle.std.specs.Prelude.{◌≡◌, ◌≤◌, ◌<◌, ◌+◌, ◌∷◌, [], ℕ, List, All, IfOk, IsTrue, Some, None, length, true, ◌⊎◌};
 ghost use Rattle.graph_nodes.specs.Whole.{is_definition_of};
 ghost use Rattle.stacks_vars.specs.declared.scopes.NodeAt.{NodeAt};
-ghost use Rattle.partial_path.specs.declared.config.Spot.TheVariants.{At};
-ghost use Rattle.partial_path.specs.Rules.{Rule, IsRule};
-ghost use Rattle.partial_path.specs.Moved.{moved};
-ghost use Rattle.partial_path.specs.Cutting.{IsStoredIn};
-ghost use Rattle.partial_path.specs.Sources.{IsSourceFile, graphs_of};
-ghost use Rattle.back_stitch.specs.Lists.{most_edges, most_depth};
-ghost use Rattle.back_stitch.specs.Sources.{may_end_at};
-ghost use Rattle.back_stitch.specs.Joined.{is_after, is_kept};
-ghost use Rattle.back_stitch.specs.Held.{IsHeld, IsOutcome};
+ghost use Rattle.partial_path.specs.{declared.config.Spot.TheVariants.{At}, Rules.{Rule, IsRule}, Moved.{moved}, Cutting.{IsStoredIn}, Sources.{IsSourceFile, graphs_of}};
+ghost use Rattle.back_stitch.specs.{Lists.{most_edges, most_depth}, Sources.{may_end_at}, Joined.{is_after, is_kept}, Held.{IsHeld, IsOutcome}};
 
 use crate::kept::{MAX_DEPTH, MAX_EDGES, is_kept};
 use crate::source::BackSource;

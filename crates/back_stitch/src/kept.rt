@@ -1,8 +1,6 @@
 //! Which joined paths stand for back lists.
-ghost use Rattle.std.specs.Prelude.{◌≡◌, IsTrue};
-ghost use Rattle.std.specs.List.{list_all};
-ghost use Rattle.partial_path.specs.Rules.{IsRule};
-ghost use Rattle.partial_path.specs.Sources.{graphs_of};
+ghost use Rattle.std.specs.{Prelude.{◌≡◌, IsTrue}, List.{list_all}};
+ghost use Rattle.partial_path.specs.{Rules.{IsRule}, Sources.{graphs_of}};
 ghost use Rattle.back_stitch.specs.Joined.{is_kept, all_exported, asks_exported, is_exported_node, is_certain};
 
 use crate::source::BackSource;

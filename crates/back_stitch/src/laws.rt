@@ -1,5 +1,4 @@
-ghost use Rattle.back_stitch.specs.Cuts.{CutsFromAreUnique, ExportedScopesStay, LandingRunsAreCut, LeadingPathsAreRuns, MovedByNothingStays};
-ghost use Rattle.back_stitch.specs.Laws.{RoundsCanBeCut};
+ghost use Rattle.back_stitch.specs.{Cuts.{CutsFromAreUnique, ExportedScopesStay, LandingRunsAreCut, LeadingPathsAreRuns, MovedByNothingStays}, Laws.{RoundsCanBeCut}};
 
 /// A law: a reference begins a back list of a definition, on empty stacks, exactly where some bounded complete run
 /// leads from it to the definition, since a round between equal configurations can be cut out.

@@ -1,8 +1,7 @@
 //! A list of files as a source that goes over all paths at each look-up.
 ghost use Rattle.std.specs.Prelude.{◌≡◌, ◌≤◌, ◌^◌, [], ◌∷◌, List, length, slice_get, filter, drop, MatchOption};
 ghost use Rattle.partial_path.specs.PathSets.{FileRules};
-ghost use Rattle.back_stitch.specs.Sources.{agrees, rules_to};
-ghost use Rattle.back_stitch.specs.Plain.{ends_in, ends_left, agreed_left};
+ghost use Rattle.back_stitch.specs.{Sources.{agrees, rules_to}, Plain.{ends_in, ends_left, agreed_left}};
 
 use crate::ending::{is_exported_in, may_end};
 use crate::source::BackSource;
@@ -22,8 +21,7 @@ pub struct PlainEnds {
 
 /// Each look-up goes over all paths of all files: it serves tests, and few files.
 impl BackSource for FileList {
-    ghost use Rattle.back_stitch.specs.Sources.{rules_to};
-    ghost use Rattle.back_stitch.specs.Plain.{agreed_left};
+    ghost use Rattle.back_stitch.specs.{Sources.{rules_to}, Plain.{agreed_left}};
 
     ghost files = { λ l. l };
 

@@ -3,10 +3,8 @@ ghost use Rattle.std.specs.Prelude.{◌≡◌, ◌≤◌, ◌↔◌, ℕ, List, 
 ghost use Rattle.graph_nodes.specs.Whole.{is_definition_of};
 ghost use Rattle.stacks_vars.specs.declared.scopes.NodeAt.{NodeAt};
 ghost use Rattle.list_facts.specs.Apart.{Pairs};
-ghost use Rattle.partial_path.specs.Spots.{node_at};
-ghost use Rattle.partial_path.specs.Sources.{IsSourceFile, graphs_of};
-ghost use Rattle.back_stitch.specs.Lists.{most_lists, most_edges, most_depth, HasMany, BeginsList, ComesBefore, AreThoseThatReach};
-ghost use Rattle.back_stitch.specs.Held.{HasGoneOn, IsGonePast};
+ghost use Rattle.partial_path.specs.{Spots.{node_at}, Sources.{IsSourceFile, graphs_of}};
+ghost use Rattle.back_stitch.specs.{Lists.{most_lists, most_edges, most_depth, HasMany, BeginsList, ComesBefore, AreThoseThatReach}, Held.{HasGoneOn, IsGonePast}};
 
 use crate::extend::extend;
 use crate::fault::BackFault;

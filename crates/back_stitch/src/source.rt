@@ -1,12 +1,8 @@
 //! Where a backward search takes its partial paths from.
 ghost use Rattle.std.specs.Prelude.{◌≡◌, [], ◌∷◌, ℕ, List, MatchOption, All, IsPermutation, slice_get};
 ghost use Rattle.stacks_vars.specs.declared.patterns.SymPat.{SymPat};
-ghost use Rattle.partial_path.specs.declared.config.Spot.{Spot};
-ghost use Rattle.partial_path.specs.Rules.{Rule};
-ghost use Rattle.partial_path.specs.PathSets.{FileRules};
-ghost use Rattle.partial_path.specs.Sources.{IsSourceFile, graphs_of};
-ghost use Rattle.back_stitch.specs.Cuts.{is_exported_of};
-ghost use Rattle.back_stitch.specs.Sources.{AreEnds, rules_to};
+ghost use Rattle.partial_path.specs.{declared.config.Spot.{Spot}, Rules.{Rule}, PathSets.{FileRules}, Sources.{IsSourceFile, graphs_of}};
+ghost use Rattle.back_stitch.specs.{Cuts.{is_exported_of}, Sources.{AreEnds, rules_to}};
 
 use partial_path::{Spot, StoredPath};
 use stacks_vars::{NodeAt, SymPat};

@@ -1,9 +1,7 @@
 //! What a backward search has found.
 ghost use Rattle.std.specs.Prelude.{◌≡◌, ◌≤◌, ◌+◌, ◌++◌, ◌&&◌, [], ◌∷◌, Err, IfOk, OnOk};
 ghost use Rattle.partial_path.specs.declared.rule.Start.{Start};
-ghost use Rattle.back_stitch.specs.Lists.{most_lists};
-ghost use Rattle.back_stitch.specs.Joined.{is_none};
-ghost use Rattle.back_stitch.specs.Held.{begun};
+ghost use Rattle.back_stitch.specs.{Lists.{most_lists}, Joined.{is_none}, Held.{begun}};
 
 use crate::fault::BackFault;
 use crate::kept::MAX_LISTS;

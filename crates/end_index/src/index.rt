@@ -32,8 +32,7 @@ impl EndIndex {
     ghost use Rattle.std.specs.Prelude.{◌≡◌, ◌<◌, ◌++◌, [], length, set, slice_get, true, Some, Ok, IsTrue, OnOk};
     ghost use Rattle.partial_path.specs.Ends.{end_marks, ends_at_root, ends_by_stack};
     ghost use Rattle.root_index.specs.Offers.{files_of};
-    ghost use Rattle.end_index.specs.Ends.{AreListed, IsEndIndexOf, IsPartAt, ends_of, marks_in, side_of};
-    ghost use Rattle.end_index.specs.Shares.{HasFirst};
+    ghost use Rattle.end_index.specs.{Ends.{AreListed, IsEndIndexOf, IsPartAt, ends_of, marks_in, side_of}, Shares.{HasFirst}};
 
     /// The index of no file. It takes no memory.
     pub fn new(alloc: Global) -> EndIndex

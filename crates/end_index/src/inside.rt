@@ -1,8 +1,7 @@
 //! The paths of a file that end at one of its nodes, whatever the stack.
 ghost use Rattle.std.specs.Prelude.{◌≡◌, [], ◌∷◌, drop, filter, MatchOption};
+ghost use Rattle.partial_path.specs.{Same.{spot_eq}, Moved.{moved_node, moved_spot}};
 ghost use Rattle.partial_path.specs.declared.config.Spot.TheVariants as spots;
-ghost use Rattle.partial_path.specs.Same.{spot_eq};
-ghost use Rattle.partial_path.specs.Moved.{moved_node, moved_spot};
 ghost use Rattle.root_index.specs.Offers.{files_of};
 ghost use Rattle.end_index.specs.Looks.{ends_inside, inside_left};
 

@@ -1,7 +1,6 @@
 //! All paths that may end at a spot, one by one.
 ghost use Rattle.std.specs.Prelude.{◌≡◌, ◌+◌, length, filter, slice_get, IfNone};
-ghost use Rattle.partial_path.specs.Moved.{moved};
-ghost use Rattle.partial_path.specs.Sources.{graphs_of};
+ghost use Rattle.partial_path.specs.{Moved.{moved}, Sources.{graphs_of}};
 ghost use Rattle.root_index.specs.Offers.{files_of};
 ghost use Rattle.back_stitch.specs.Sources.{may_end_at, rules_to};
 

@@ -2,8 +2,7 @@
 ghost use Rattle.std.specs.Prelude.{◌≡◌, ◌<◌, ◌^◌, slice_get, option_copied, IfSome};
 ghost use Rattle.partial_path.specs.Sources.{graphs_of};
 ghost use Rattle.root_index.specs.Offers.{files_of};
-ghost use Rattle.back_stitch.specs.Cuts.{is_exported_of};
-ghost use Rattle.back_stitch.specs.Sources.{is_exported_spot};
+ghost use Rattle.back_stitch.specs.{Cuts.{is_exported_of}, Sources.{is_exported_spot}};
 
 use partial_path::{FilePaths, Spot};
 use stacks_vars::NodeAt;

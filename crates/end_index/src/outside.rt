@@ -2,9 +2,7 @@
 ghost use Rattle.std.specs.Prelude.{◌≡◌, ◌≤◌, [], ◌∷◌, length, All, MatchOption};
 ghost use Rattle.partial_path.specs.Keys.{asked_texts, key_size};
 ghost use Rattle.root_index.specs.Offers.{files_of};
-ghost use Rattle.end_index.specs.Ends.{all_of};
-ghost use Rattle.end_index.specs.Runs.{AreByRank};
-ghost use Rattle.end_index.specs.Looks.{AreThere, outside_left, rule_in};
+ghost use Rattle.end_index.specs.{Ends.{all_of}, Runs.{AreByRank}, Looks.{AreThere, outside_left, rule_in}};
 
 use crate::nodes::file_in;
 use crate::place::EndPlace;

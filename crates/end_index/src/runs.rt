@@ -1,11 +1,7 @@
 //! Taking from sorted paths those whose keys agree with what is asked for, run by run, and share by share.
-ghost use Rattle.std.specs.Prelude.{◌≡◌, ℕ, ◌+◌, ◌<◌, ◌≤◌, List, [], ◌∷◌, ◌^◌, length, take, drop, All, MatchOption, IfSome};
-ghost use Rattle.std.specs.List.{prefix_len};
-ghost use Rattle.std.specs.List.Sorted.{IsPartitionedBy};
-ghost use Rattle.partial_path.specs.Keys.{asked_texts, key_size};
-ghost use Rattle.end_index.specs.declared.place.EndPlace.{EndPlace};
-ghost use Rattle.end_index.specs.Runs.{AreByRank, first_at, here, is_before_run, run, runs_behind, runs_left, shares_left};
-ghost use Rattle.partial_path.specs.Marks.{end_key};
+ghost use Rattle.std.specs.{Prelude.{◌≡◌, ℕ, ◌+◌, ◌<◌, ◌≤◌, List, [], ◌∷◌, ◌^◌, length, take, drop, All, MatchOption, IfSome}, List.{prefix_len}, List.Sorted.{IsPartitionedBy}};
+ghost use Rattle.partial_path.specs.{Keys.{asked_texts, key_size}, Marks.{end_key}};
+ghost use Rattle.end_index.specs.{declared.place.EndPlace.{EndPlace}, Runs.{AreByRank, first_at, here, is_before_run, run, runs_behind, runs_left, shares_left}};
 
 use crate::place::EndPlace;
 use partial_path::{KEY_SIZE, end_key, with_symbol};

@@ -1,7 +1,6 @@
 //! The index of a view made on several threads.
 ghost use Rattle.std.specs.Prelude.{◌≡◌, ℕ, ◌+◌, ◌*◌, ◌^◌, ◌<◌, ◌≤◌, length, min, IfOk, OnOk, slice_index_or, vec_len};
-ghost use Rattle.end_index.specs.Ends.{IsEndIndexOf};
-ghost use Rattle.end_index.specs.Shares.{IsIndexOfFirst, IsShareOf, first_of};
+ghost use Rattle.end_index.specs.{Ends.{IsEndIndexOf}, Shares.{IsIndexOfFirst, IsShareOf, first_of}};
 
 use crate::index::EndIndex;
 use crate::side::Part;

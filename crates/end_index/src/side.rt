@@ -121,8 +121,7 @@ impl Model for Part {
 
 impl Part {
     ghost use Rattle.std.specs.Prelude.{◌≡◌, ◌++◌, [], ◌∷◌, map, IsPermutation, OnOk};
-    ghost use Rattle.end_index.specs.Ends.{end_place, part_of};
-    ghost use Rattle.end_index.specs.Runs.{AreByRank};
+    ghost use Rattle.end_index.specs.{Ends.{end_place, part_of}, Runs.{AreByRank}};
 
     /// No file. It takes no memory.
     pub(crate) fn new(alloc: Global) -> Part
@@ -161,8 +160,7 @@ impl Part {
 }
 
 ghost use Rattle.std.specs.Prelude.{◌≡◌, ◌++◌, [], ◌∷◌, map, filter, All, IsPermutation, IsTrue, IfOk, OnOk};
-ghost use Rattle.end_index.specs.Ends.{all_of, end_place, is_of_other};
-ghost use Rattle.end_index.specs.Runs.{AreByRank};
+ghost use Rattle.end_index.specs.{Ends.{all_of, end_place, is_of_other}, Runs.{AreByRank}};
 
 /// Whether the marks are the same.
 fn are_same(one: &[EndMark], other: &[EndMark]) -> bool

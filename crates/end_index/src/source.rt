@@ -1,11 +1,9 @@
 ghost use Rattle.std.specs.Prelude.{◌≡◌, ◌≤◌, [], ◌∷◌, length, take, All, MatchOption};
+ghost use Rattle.partial_path.specs.{Keys.{asked_texts, key_size}, Sources.{IsSourceFile}};
 ghost use Rattle.partial_path.specs.declared.config.Spot.TheVariants as spots;
-ghost use Rattle.partial_path.specs.Keys.{asked_texts, key_size};
-ghost use Rattle.partial_path.specs.Sources.{IsSourceFile};
 ghost use Rattle.root_index.specs.Offers.{files_of};
 ghost use Rattle.back_stitch.specs.Sources.{AreEnds};
-ghost use Rattle.end_index.specs.Ends.{AreListed, IsEndIndexOf};
-ghost use Rattle.end_index.specs.Looks.{ends_left};
+ghost use Rattle.end_index.specs.{Ends.{AreListed, IsEndIndexOf}, Looks.{ends_left}};
 
 use crate::index::EndIndex;
 use crate::inside::next_inside;
@@ -40,8 +38,7 @@ pub struct EndSource<'a> {
 }
 
 impl<'a> Model for EndSource<'a> {
-    ghost use Rattle.end_index.specs.Ends.{IsEndIndexOf};
-    ghost use Rattle.end_index.specs.Looks.{Seen, seen_of};
+    ghost use Rattle.end_index.specs.{Ends.{IsEndIndexOf}, Looks.{Seen, seen_of}};
 
     ghost Value = { Seen };
 
@@ -52,8 +49,7 @@ impl<'a> Model for EndSource<'a> {
 
 impl<'a> EndSource<'a> {
     ghost use Rattle.std.specs.Prelude.{◌≡◌};
-    ghost use Rattle.end_index.specs.Ends.{IsEndIndexOf};
-    ghost use Rattle.end_index.specs.Looks.{seen_of};
+    ghost use Rattle.end_index.specs.{Ends.{IsEndIndexOf}, Looks.{seen_of}};
 
     /// What is seen, with its index.
     pub fn of(view: &'a View, ends: &'a EndIndex) -> EndSource<'a>

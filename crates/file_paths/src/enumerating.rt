@@ -1,13 +1,7 @@
-ghost use Rattle.std.specs.Prelude.{◌≡◌, ◌≤◌, ◌<◌, ◌+◌, ◌||◌, [], ◌∷◌, length, ◌++◌, IfOk, IfErr, IfSome, OnOk, IsTrue, ℕ};
-ghost use Rattle.std.specs.List.{AllByRecursion};
-ghost use Rattle.graph_nodes.specs.Graph.{has_place};
-ghost use Rattle.graph_nodes.specs.Cut.{is_cut};
-ghost use Rattle.graph_nodes.specs.Out.{edges_from};
-ghost use Rattle.partial_path.specs.Walks.{alone, is_definition_place, ends_landing, IsWalk, IsWeight, IsHeavier};
-ghost use Rattle.partial_path.specs.PathSets.{IsRuleOf, IsPathSet, AreFileRules, walk_of_rule};
-ghost use Rattle.file_paths.specs.declared.fault.TheConstants.{MAX_WEIGHT};
-ghost use Rattle.file_paths.specs.Finding.{IsShort, AddsLonger, EndsWith, LeadsTo, IsFinding};
-ghost use Rattle.file_paths.specs.Finds.{max_weight, AddsWalks, HasCause};
+ghost use Rattle.std.specs.{Prelude.{◌≡◌, ◌≤◌, ◌<◌, ◌+◌, ◌||◌, [], ◌∷◌, length, ◌++◌, IfOk, IfErr, IfSome, OnOk, IsTrue, ℕ}, List.{AllByRecursion}};
+ghost use Rattle.graph_nodes.specs.{Graph.{has_place}, Cut.{is_cut}, Out.{edges_from}};
+ghost use Rattle.partial_path.specs.{Walks.{alone, is_definition_place, ends_landing, IsWalk, IsWeight, IsHeavier}, PathSets.{IsRuleOf, IsPathSet, AreFileRules, walk_of_rule}};
+ghost use Rattle.file_paths.specs.{declared.fault.TheConstants.{MAX_WEIGHT}, Finding.{IsShort, AddsLonger, EndsWith, LeadsTo, IsFinding}, Finds.{max_weight, AddsWalks, HasCause}};
 
 use crate::fault::{MAX_WEIGHT, PathsFault};
 use crate::growing::{begin_longer, grow, put};

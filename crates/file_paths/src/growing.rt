@@ -1,9 +1,7 @@
-ghost use Rattle.std.specs.Prelude.{◌≡◌, ◌<◌, ◌+◌, [], ◌∷◌, ◌++◌, length, OnOk, IsTrue};
-ghost use Rattle.std.specs.List.{AllByRecursion};
+ghost use Rattle.std.specs.{Prelude.{◌≡◌, ◌<◌, ◌+◌, [], ◌∷◌, ◌++◌, length, OnOk, IsTrue}, List.{AllByRecursion}};
 ghost use Rattle.graph_nodes.specs.Graph.{has_place};
 ghost use Rattle.partial_path.specs.PathSets.{walk_of_rule};
-ghost use Rattle.file_paths.specs.declared.fault.TheConstants.{MAX_WEIGHT};
-ghost use Rattle.file_paths.specs.Finding.{IsShort, MayGoOn, GoesOnFrom, AddsFound, AddsLonger};
+ghost use Rattle.file_paths.specs.{declared.fault.TheConstants.{MAX_WEIGHT}, Finding.{IsShort, MayGoOn, GoesOnFrom, AddsFound, AddsLonger}};
 
 use graph_nodes::{FileGraph, Place};
 use partial_path::PartialPath;

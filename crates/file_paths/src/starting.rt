@@ -1,14 +1,9 @@
-ghost use Rattle.std.specs.Prelude.{◌≡◌, ◌<◌, ◌+◌, [], length, IfOk, IfSome, OnOk, IsTrue, true, false};
-ghost use Rattle.std.specs.List.{AllByRecursion};
-ghost use Rattle.graph_nodes.specs.Graph.{has_place, is_reference};
-ghost use Rattle.graph_nodes.specs.Checked.{is_jump};
-ghost use Rattle.graph_nodes.specs.Cut.{is_cut};
+ghost use Rattle.std.specs.{Prelude.{◌≡◌, ◌<◌, ◌+◌, [], length, IfOk, IfSome, OnOk, IsTrue, true, false}, List.{AllByRecursion}};
+ghost use Rattle.graph_nodes.specs.{Graph.{has_place, is_reference}, Checked.{is_jump}, Cut.{is_cut}};
 ghost use Rattle.graph_nodes.specs.declared.node.Place.TheVariants as place;
 ghost use Rattle.partial_path.specs.declared.rule.Start.TheVariants.{After};
 ghost use Rattle.path_join.specs.Units.{place_spot};
-ghost use Rattle.file_paths.specs.declared.fault.TheConstants.{MAX_WEIGHT};
-ghost use Rattle.file_paths.specs.Walking.{no_edges};
-ghost use Rattle.file_paths.specs.Finding.{IsShort, AddsLonger, AddsFirst, AreFirstRules, before_node, after_node, starts_after, starts_rooted, all_starts};
+ghost use Rattle.file_paths.specs.{declared.fault.TheConstants.{MAX_WEIGHT}, Walking.{no_edges}, Finding.{IsShort, AddsLonger, AddsFirst, AreFirstRules, before_node, after_node, starts_after, starts_rooted, all_starts}};
 
 use crate::growing::{grow, put};
 use graph_nodes::{FileGraph, Place};

@@ -1,6 +1,5 @@
 ghost use Rattle.std.specs.Prelude.{◌≡◌, ◌≤◌, length};
-ghost use Rattle.grants.specs.Covers.{is_granted};
-ghost use Rattle.grants.specs.Steps.{is_cut, verdict_at};
+ghost use Rattle.grants.specs.{Covers.{is_granted}, Steps.{is_cut, verdict_at}};
 
 use crate::rule_set::RuleSet;
 use std::alloc::{AllocError, Global};
@@ -46,8 +45,7 @@ impl Model for Grants {
 
 impl Grants {
     ghost use Rattle.std.specs.Prelude.{◌≡◌, [], true, false, IfOk, OnOk, OnErr, MatchResult};
-    ghost use Rattle.grants.specs.Pairs.{pair, has_pair};
-    ghost use Rattle.grants.specs.Covers.{covers, with_grant, without_grant, with_deny, without_deny};
+    ghost use Rattle.grants.specs.{Pairs.{pair, has_pair}, Covers.{covers, with_grant, without_grant, with_deny, without_deny}};
 
     /// No grants and no denies. It takes no memory.
     pub fn new(alloc: Global) -> Grants

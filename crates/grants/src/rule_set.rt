@@ -21,8 +21,7 @@ impl Model for RuleSet {
 
 impl RuleSet {
     ghost use Rattle.std.specs.Prelude.{◌≡◌, [], false, IfOk, IfErr, OnOk, OnErr};
-    ghost use Rattle.grants.specs.Pairs.{pair, has_pair, with_pair, without_pair};
-    ghost use Rattle.grants.specs.Places.{beside};
+    ghost use Rattle.grants.specs.{Pairs.{pair, has_pair, with_pair, without_pair}, Places.{beside}};
     ghost use Rattle.list_facts.specs.Places.{IsAt, IsGapFor};
 
     /// The empty set. It takes no memory.

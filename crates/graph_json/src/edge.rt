@@ -1,9 +1,6 @@
-ghost use Rattle.std.specs.Prelude.{◌≡◌, codes};
-ghost use Rattle.std.specs.Option.{option_copied};
-ghost use Rattle.serde_json.specs.Find.{at, get};
-ghost use Rattle.serde_json.specs.View.{view};
-ghost use Rattle.graph_json.specs.Edges.{edge_in};
-ghost use Rattle.graph_json.specs.Plain.{shared_place, place_of, edge_of, place_at};
+ghost use Rattle.std.specs.{Prelude.{◌≡◌, codes}, Option.{option_copied}};
+ghost use Rattle.serde_json.specs.{Find.{at, get}, View.{view}};
+ghost use Rattle.graph_json.specs.{Edges.{edge_in}, Plain.{shared_place, place_of, edge_of, place_at}};
 
 use crate::pieces::is_array_of;
 use graph_nodes::{Edge, Place};

@@ -1,5 +1,4 @@
-ghost use Rattle.std.specs.Prelude.{◌≡◌, codes};
-ghost use Rattle.std.specs.Option.{option_copied};
+ghost use Rattle.std.specs.{Prelude.{◌≡◌, codes}, Option.{option_copied}};
 ghost use Rattle.graph_json.specs.Printed.{kind_text, symbol_of};
 
 use graph_nodes::NodeKind;

@@ -1,5 +1,4 @@
-ghost use Rattle.std.specs.Prelude.{◌≡◌, ◌^◌, ◌<◌, length, map, position, codes, IfSome};
-ghost use Rattle.std.specs.List.{enumerate_from};
+ghost use Rattle.std.specs.{Prelude.{◌≡◌, ◌^◌, ◌<◌, length, map, position, codes, IfSome}, List.{enumerate_from}};
 ghost use Rattle.serde_json.specs.View.{view};
 ghost use Rattle.graph_json.specs.Named as named;
 

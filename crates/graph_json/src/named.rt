@@ -1,12 +1,7 @@
-ghost use Rattle.std.specs.Prelude.{◌≡◌, ◌^◌, ◌<◌, length, vec_len, map, option_map, option_and_then, position, codes, IfOk, IfSome};
-ghost use Rattle.std.specs.List.{enumerate_from};
-ghost use Rattle.serde_json.specs.Find.{get};
-ghost use Rattle.serde_json.specs.View.{view};
+ghost use Rattle.std.specs.{Prelude.{◌≡◌, ◌^◌, ◌<◌, length, vec_len, map, option_map, option_and_then, position, codes, IfOk, IfSome}, List.{enumerate_from}};
+ghost use Rattle.serde_json.specs.{Find.{get}, View.{view}};
 ghost use Rattle.json_values.specs.Numbers.{u32_of};
-ghost use Rattle.graph_json.specs.Pieces.{HasShortLists};
-ghost use Rattle.graph_json.specs.Collect.{TextGives, collected};
-ghost use Rattle.graph_json.specs.Plain.{bad_node, bad_edge};
-ghost use Rattle.graph_json.specs.Named.{name_in, number_of, named_node, place_called, named_place_at, named_edge, has_format_2, named_lists, named_parts};
+ghost use Rattle.graph_json.specs.{Pieces.{HasShortLists}, Collect.{TextGives, collected}, Plain.{bad_node, bad_edge}, Named.{name_in, number_of, named_node, place_called, named_place_at, named_edge, has_format_2, named_lists, named_parts}};
 
 use crate::edge::{edge_between, shared};
 use crate::fault::{GraphTextFault, Part};

@@ -1,8 +1,6 @@
-ghost use Rattle.std.specs.Prelude.{◌≡◌, ◌^◌, ◌<◌, length, map, option_map, IfOk, IfErr, codes};
-ghost use Rattle.std.specs.Option.{option_copied};
+ghost use Rattle.std.specs.{Prelude.{◌≡◌, ◌^◌, ◌<◌, length, map, option_map, IfOk, IfErr, codes}, Option.{option_copied}};
 ghost use Rattle.serde_json.specs.View.{view};
-ghost use Rattle.graph_json.specs.Named.{is_name, name_of, name_in, name_at, names_of, first_called, number_of, is_unknown, is_repeat};
-ghost use Rattle.graph_json.specs.Numbering.{IsNumbering};
+ghost use Rattle.graph_json.specs.{Named.{is_name, name_of, name_in, name_at, names_of, first_called, number_of, is_unknown, is_repeat}, Numbering.{IsNumbering}};
 
 use crate::fault::GraphTextFault;
 use indexmap::IndexMap;
@@ -54,8 +52,7 @@ pub(crate) struct Names<'a> {
 impl<'a> Model for Names<'a> {
     ghost use Rattle.std.specs.Prelude.{ℕ, List, Option, map};
     ghost use Rattle.serde_json.specs.View.{view as data_of};
-    ghost use Rattle.graph_json.specs.Named.{names_of};
-    ghost use Rattle.graph_json.specs.Numbering.{IsNumbering};
+    ghost use Rattle.graph_json.specs.{Named.{names_of}, Numbering.{IsNumbering}};
 
     ghost Value = { List (Option (List ℕ)) };
 

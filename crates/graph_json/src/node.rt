@@ -1,10 +1,7 @@
 ghost use Rattle.std.specs.Prelude.{◌≡◌, codes, IfOk};
-ghost use Rattle.serde_json.specs.Find.{get};
-ghost use Rattle.serde_json.specs.View.{view};
+ghost use Rattle.serde_json.specs.{Find.{get}, View.{view}};
 ghost use Rattle.json_values.specs.Members.{has_only};
-ghost use Rattle.graph_json.specs.Pieces.{text_in};
-ghost use Rattle.graph_json.specs.Nodes.{scope_in, push_in, push_scoped_in, pop_in, pop_scoped_in, kind_in, takes, may_have, node_in};
-ghost use Rattle.graph_json.specs.Plain.{node_of, scope_at};
+ghost use Rattle.graph_json.specs.{Pieces.{text_in}, Nodes.{scope_in, push_in, push_scoped_in, pop_in, pop_scoped_in, kind_in, takes, may_have, node_in}, Plain.{node_of, scope_at}};
 
 use crate::pieces::{flag, node_span};
 use graph_nodes::{Name, Node, NodeKind};

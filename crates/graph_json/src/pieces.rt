@@ -1,6 +1,5 @@
 ghost use Rattle.std.specs.Prelude.{◌≡◌, codes};
-ghost use Rattle.serde_json.specs.Find.{at, get};
-ghost use Rattle.serde_json.specs.View.{view};
+ghost use Rattle.serde_json.specs.{Find.{at, get}, View.{view}};
 ghost use Rattle.graph_json.specs.Pieces.{flag_in, text_in, u32_at, has_items, is_forward, span_of, optional_span};
 
 use graph_nodes::Span;

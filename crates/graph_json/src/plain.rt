@@ -1,8 +1,6 @@
 ghost use Rattle.std.specs.Prelude.{◌≡◌, ◌^◌, ◌<◌, length, vec_len, map, IfOk};
-ghost use Rattle.graph_json.specs.Pieces.{HasShortLists};
+ghost use Rattle.graph_json.specs.{Pieces.{HasShortLists}, Collect.{TextGives, collected}, Plain.{node_of, edge_of, bad_node, bad_edge, plain_parts}};
 ghost use Rattle.serde_json.specs.View.{view};
-ghost use Rattle.graph_json.specs.Collect.{TextGives, collected};
-ghost use Rattle.graph_json.specs.Plain.{node_of, edge_of, bad_node, bad_edge, plain_parts};
 
 use crate::edge::plain_edge;
 use crate::fault::{GraphTextFault, Part};

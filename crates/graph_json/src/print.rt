@@ -1,11 +1,9 @@
-ghost use Rattle.std.specs.Prelude.{◌≡◌, ◌++◌, ◌∷◌, [], codes, option_map, decimal, IfOk, IfSome, OnOk, length, ◌<◌, ◌^◌};
-ghost use Rattle.std.specs.Option.{option_copied};
+ghost use Rattle.std.specs.{Prelude.{◌≡◌, ◌++◌, ◌∷◌, [], codes, option_map, decimal, IfOk, IfSome, OnOk, length, ◌<◌, ◌^◌}, Option.{option_copied}};
+ghost use Rattle.json.specs.Tree.{json_tokens, items_tokens};
 ghost use Rattle.json.specs.Json as json;
 ghost use Rattle.json.specs.Token as token;
-ghost use Rattle.json.specs.Tree.{json_tokens, items_tokens};
 ghost use Rattle.json_values.specs.Numbers.{only_if};
-ghost use Rattle.graph_json.specs.Printed.{number_json, name_text, position_json, place_json, span_json, kind_text, symbol_of, scope_of, node_json, nodes_json, edge_json, edges_json, graph_json};
-ghost use Rattle.graph_json.specs.PrintSteps.{Adds, SpanFits, NodeFits, PlaceFits, EdgeFits, node_with, front_tokens, flag_tokens, value_tokens};
+ghost use Rattle.graph_json.specs.{Printed.{number_json, name_text, position_json, place_json, span_json, kind_text, symbol_of, scope_of, node_json, nodes_json, edge_json, edges_json, graph_json}, PrintSteps.{Adds, SpanFits, NodeFits, PlaceFits, EdgeFits, node_with, front_tokens, flag_tokens, value_tokens}};
 
 use crate::kind::{symbol, word};
 use graph_nodes::{Edge, NodeKind, Place, Span};

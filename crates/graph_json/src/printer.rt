@@ -1,12 +1,7 @@
-ghost use Rattle.std.specs.Prelude.{◌≡◌, OnOk, IfOk, Ok, codes};
-ghost use Rattle.std.specs.Str.{IsUtf8};
-ghost use Rattle.json.specs.Lex.{tokens};
+ghost use Rattle.std.specs.{Prelude.{◌≡◌, OnOk, IfOk, Ok, codes}, Str.{IsUtf8}, List.{AllByRecursion}};
+ghost use Rattle.json.specs.{Lex.{tokens}, Tree.{json_tokens, items_tokens}};
 ghost use Rattle.graph_nodes.specs.Checked.{IsChecked};
-ghost use Rattle.graph_json.specs.Reading.{graph_from};
-ghost use Rattle.std.specs.List.{AllByRecursion};
-ghost use Rattle.json.specs.Tree.{json_tokens, items_tokens};
-ghost use Rattle.graph_json.specs.Printed.{nodes_json, edges_json, graph_json, text_of, graph_text, named_text, HasForwardSpans, number_json};
-ghost use Rattle.graph_json.specs.PrintSteps.{Adds, NodeFits, EdgeFits, value_tokens};
+ghost use Rattle.graph_json.specs.{Reading.{graph_from}, Printed.{nodes_json, edges_json, graph_json, text_of, graph_text, named_text, HasForwardSpans, number_json}, PrintSteps.{Adds, NodeFits, EdgeFits, value_tokens}};
 ghost use Rattle.json_values.specs.Numbers.{only_if};
 
 use crate::print::{put_edge, put_node};

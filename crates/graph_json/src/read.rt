@@ -1,10 +1,7 @@
 ghost use Rattle.std.specs.Prelude.{◌≡◌, ◌≢◌, ◌↔◌, ◌^◌, ◌<◌, length, vec_len, IfOk, IfErr, Ok, Err, ok_or};
 ghost use Rattle.serde_json.specs.View.{view};
 ghost use Rattle.json_values.specs.Text.{json_of};
-ghost use Rattle.graph_json.specs.Pieces.{HasShortLists};
-ghost use Rattle.graph_json.specs.Collect.{TextGives};
-ghost use Rattle.graph_json.specs.Reading.{parts_of, graph_from};
-ghost use Rattle.graph_json.specs.Top.{checked};
+ghost use Rattle.graph_json.specs.{Pieces.{HasShortLists}, Collect.{TextGives}, Reading.{parts_of, graph_from}, Top.{checked}};
 
 use crate::fault::GraphTextFault;
 use crate::named::named_graph;

@@ -1,7 +1,6 @@
 ghost use Rattle.std.specs.Prelude.{◌≡◌, ◌^◌, ◌<◌, length, map, option_map, IfSome};
 ghost use Rattle.serde_json.specs.View.{view};
-ghost use Rattle.graph_json.specs.Pieces.{list_in, HasShortLists};
-ghost use Rattle.graph_json.specs.Top.{lists_in};
+ghost use Rattle.graph_json.specs.{Pieces.{list_in, HasShortLists}, Top.{lists_in}};
 
 use json_values::{Form, has_only, items};
 use serde_json::Value;

@@ -1,8 +1,5 @@
 ghost use Rattle.std.specs.Prelude.{◌≡◌, ℕ, ◌<◌, ◌≤◌, ◌^◌, length, not, position, slice_get, nat_lt, IfSome, IsSomeAnd, OnSome};
-ghost use Rattle.graph_nodes.specs.declared.node.Node.{Node};
-ghost use Rattle.graph_nodes.specs.declared.node.Edge.{Edge};
-ghost use Rattle.graph_nodes.specs.Graph.{has_place, is_exported};
-ghost use Rattle.graph_nodes.specs.Checked.{has_ends, is_jump, has_scope, graph_fault};
+ghost use Rattle.graph_nodes.specs.{declared.node.Node.{Node}, declared.node.Edge.{Edge}, Graph.{has_place, is_exported}, Checked.{has_ends, is_jump, has_scope, graph_fault}};
 
 use crate::fault::GraphFault;
 use crate::graph::{MAX_EDGES, MAX_NODES};

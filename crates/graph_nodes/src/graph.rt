@@ -30,10 +30,7 @@ pub struct FileGraph {
 
 impl Model for FileGraph {
     ghost use Rattle.std.specs.Prelude.{◌≡◌, map};
-    ghost use Rattle.graph_nodes.specs.Graph.{Graph};
-    ghost use Rattle.graph_nodes.specs.Inside.{IsIndexed};
-    ghost use Rattle.graph_nodes.specs.Packed.{edge_in};
-    ghost use Rattle.graph_nodes.specs.Spans.{nodes_from, spans_from};
+    ghost use Rattle.graph_nodes.specs.{Graph.{Graph}, Inside.{IsIndexed}, Packed.{edge_in}, Spans.{nodes_from, spans_from}};
 
     ghost Value = { Graph };
 
@@ -49,14 +46,8 @@ impl Model for FileGraph {
 }
 
 impl FileGraph {
-    ghost use Rattle.std.specs.Prelude.{◌≡◌, ◌≢◌, ℕ, ◌<◌, ◌≤◌, ◌^◌, length, vec_len, slice_get, IfOk, IfErr, OnOk, Some, None, IsTrue};
-    ghost use Rattle.std.specs.Option.{option_map, option_and_then};
-    ghost use Rattle.graph_nodes.specs.declared.node.Node.{Node};
-    ghost use Rattle.graph_nodes.specs.Graph.{Graph, has_place, is_exported, is_reference, is_definition};
-    ghost use Rattle.graph_nodes.specs.Checked.{graph_fault, IsChecked};
-    ghost use Rattle.graph_nodes.specs.Cut.{is_cut};
-    ghost use Rattle.graph_nodes.specs.Out.{edges_from};
-    ghost use Rattle.graph_nodes.specs.Spans.{spans_from};
+    ghost use Rattle.std.specs.{Prelude.{◌≡◌, ◌≢◌, ℕ, ◌<◌, ◌≤◌, ◌^◌, length, vec_len, slice_get, IfOk, IfErr, OnOk, Some, None, IsTrue}, Option.{option_map, option_and_then}};
+    ghost use Rattle.graph_nodes.specs.{declared.node.Node.{Node}, Graph.{Graph, has_place, is_exported, is_reference, is_definition}, Checked.{graph_fault, IsChecked}, Cut.{is_cut}, Out.{edges_from}, Spans.{spans_from}};
 
     /// The graph of these nodes and edges, or the first fault, in the order of the variants of
     /// `GraphFault`. It takes time and memory that follow the number of nodes and edges.

@@ -1,9 +1,5 @@
-ghost use Rattle.std.specs.Prelude.{◌≡◌, ◌||◌, false, length, slice_get, All, IfOk, IsTrue};
-ghost use Rattle.std.specs.Option.{option_map_or};
-ghost use Rattle.graph_nodes.specs.declared.node.Edge.{Edge};
-ghost use Rattle.graph_nodes.specs.Checked.{has_ends};
-ghost use Rattle.graph_nodes.specs.Inside.{AreTurns};
-ghost use Rattle.graph_nodes.specs.Marks.{is_exported_mark, is_reference_mark, is_definition_mark, Marks, IsMarkOf, AreMarked};
+ghost use Rattle.std.specs.{Prelude.{◌≡◌, ◌||◌, false, length, slice_get, All, IfOk, IsTrue}, Option.{option_map_or}};
+ghost use Rattle.graph_nodes.specs.{declared.node.Edge.{Edge}, Checked.{has_ends}, Inside.{AreTurns}, Marks.{is_exported_mark, is_reference_mark, is_definition_mark, Marks, IsMarkOf, AreMarked}};
 
 use crate::index::turns_of;
 use crate::node::{Edge, Node, NodeKind};

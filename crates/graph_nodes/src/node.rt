@@ -37,9 +37,7 @@ pub struct Name {
 }
 
 impl Model for Name {
-    ghost use Rattle.std.specs.Prelude.{ℕ, List};
-    ghost use Rattle.std.specs.Arc.{arc_value};
-    ghost use Rattle.std.specs.Str.{IsUtf8};
+    ghost use Rattle.std.specs.{Prelude.{ℕ, List}, Arc.{arc_value}, Str.{IsUtf8}};
 
     ghost Value = { List ℕ };
 
@@ -49,9 +47,7 @@ impl Model for Name {
 }
 
 impl Name {
-    ghost use Rattle.std.specs.Prelude.{◌≡◌, IfOk};
-    ghost use Rattle.std.specs.Arc.{arc_value};
-    ghost use Rattle.std.specs.Str.{IsUtf8};
+    ghost use Rattle.std.specs.{Prelude.{◌≡◌, IfOk}, Arc.{arc_value}, Str.{IsUtf8}};
 
     /// A name of this text, which is copied; the one error is want of memory.
     pub fn of(alloc: Global, text: &str) -> Result<Name, AllocError>

@@ -1,9 +1,5 @@
 ghost use Rattle.std.specs.Prelude.{◌≡◌, map, All, IfOk, IsTrue};
-ghost use Rattle.graph_nodes.specs.declared.node.Edge.{Edge};
-ghost use Rattle.graph_nodes.specs.Limits.{max_nodes};
-ghost use Rattle.graph_nodes.specs.Graph.{has_place};
-ghost use Rattle.graph_nodes.specs.Checked.{has_ends};
-ghost use Rattle.graph_nodes.specs.Packed.{place_in, edge_in};
+ghost use Rattle.graph_nodes.specs.{declared.node.Edge.{Edge}, Limits.{max_nodes}, Graph.{has_place}, Checked.{has_ends}, Packed.{place_in, edge_in}};
 
 use crate::node::{Edge, Place};
 use std::alloc::{AllocError, Global};

@@ -1,6 +1,5 @@
 ghost use Rattle.std.specs.Prelude.{◌≡◌, ◌≤◌, ◌^◌, length, map, IfOk};
-ghost use Rattle.graph_nodes.specs.declared.node.Node.{Node};
-ghost use Rattle.graph_nodes.specs.Spans.{spans_from, span_of, IsFirstFrom, AreRising};
+ghost use Rattle.graph_nodes.specs.{declared.node.Node.{Node}, Spans.{spans_from, span_of, IsFirstFrom, AreRising}};
 
 use crate::node::{Node, NodeKind, Span};
 use std::alloc::{AllocError, Global};

@@ -3,10 +3,7 @@ ghost use Rattle.graph_json.specs.Reading.{graph_from};
 ghost use Rattle.py_subset.specs.Whole.{parse_of};
 ghost use Rattle.py_graph.specs.Modules.{graph_of};
 ghost use Rattle.path_store.specs.Documents.{doc_of};
-ghost use Rattle.index_gate.specs.Limits.{max_bytes};
-ghost use Rattle.index_gate.specs.Graphs.{from_text, from_table, from_module, graph_of_kind, graph_of_doc};
-ghost use Rattle.index_gate.specs.Indexed.{is_text_memory, is_python_memory, is_table_memory};
-ghost use Rattle.index_gate.specs.Reading.{IsReading, text_fault, module_fault, table_fault};
+ghost use Rattle.index_gate.specs.{Limits.{max_bytes}, Graphs.{from_text, from_table, from_module, graph_of_kind, graph_of_doc}, Indexed.{is_text_memory, is_python_memory, is_table_memory}, Reading.{IsReading, text_fault, module_fault, table_fault}};
 
 use crate::fault::{FileFault, MAX_BYTES, ReadFault};
 use crate::kind::{DocumentKind, kind_of};

@@ -1,10 +1,7 @@
 ghost use Rattle.std.specs.Prelude.{◌≡◌, ◌≢◌, ◌≤◌, ◌+◌, ◌++◌, ℕ, true, length, drop, IfOk, IfErr, IfSome, OnOk, OnErr};
 ghost use Rattle.partial_path.specs.PathSets.{FileRules};
 ghost use Rattle.path_store.specs.Store.{kept_of, with_doc};
-ghost use Rattle.index_gate.specs.declared.fault.IndexFault.TheVariants.{NoMemory};
-ghost use Rattle.index_gate.specs.Indexed.{IsIndexed, AreIndexed, AreFilesOf, HasCause, AddsMissing, AddsSome, CountsWalks, CountsAllWalks, IsDocWeight, AreDocWeights, docs_of, has_doc, missing};
-ghost use Rattle.index_gate.specs.Reading.{HasNone, Refuses, Finds, Adds};
-ghost use Rattle.index_gate.specs.Ahead.{IsDone};
+ghost use Rattle.index_gate.specs.{declared.fault.IndexFault.TheVariants.{NoMemory}, Indexed.{IsIndexed, AreIndexed, AreFilesOf, HasCause, AddsMissing, AddsSome, CountsWalks, CountsAllWalks, IsDocWeight, AreDocWeights, docs_of, has_doc, missing}, Reading.{HasNone, Refuses, Finds, Adds}, Ahead.{IsDone}};
 
 use crate::ahead::Ahead;
 use crate::fault::{IndexFault, ReadFault};

@@ -1,8 +1,6 @@
 ghost use Rattle.std.specs.Prelude.{◌≡◌, ◌++◌, List, []};
 ghost use Rattle.path_store.specs.Documents.{Doc};
-ghost use Rattle.index_gate.specs.declared.fault.FileFault.{FileFault};
-ghost use Rattle.index_gate.specs.Graphs.{DocumentsHaveOneGraph};
-ghost use Rattle.index_gate.specs.Indexed.{HasFault, HasNoFault, missing};
+ghost use Rattle.index_gate.specs.{declared.fault.FileFault.{FileFault}, Graphs.{DocumentsHaveOneGraph}, Indexed.{HasFault, HasNoFault, missing}};
 
 use py_subset::lookahead_reads_texts;
 

@@ -2,10 +2,7 @@
 ghost use Rattle.std.specs.Prelude.{◌≡◌, ◌≤◌, ℕ, IfOk, IfErr};
 ghost use Rattle.file_paths.specs.Finds.{AddsWalks};
 ghost use Rattle.path_store.specs.Store.{kept_of};
-ghost use Rattle.index_gate.specs.Graphs.{graph_of_doc};
-ghost use Rattle.index_gate.specs.Indexed.{IsIndexed, IsDocWeight};
-ghost use Rattle.index_gate.specs.Reading.{IsReading, HasNone};
-ghost use Rattle.index_gate.specs.Ahead.{IsDone};
+ghost use Rattle.index_gate.specs.{Graphs.{graph_of_doc}, Indexed.{IsIndexed, IsDocWeight}, Reading.{IsReading, HasNone}, Ahead.{IsDone}};
 
 use crate::documents::read_document;
 use crate::fault::{FileFault, ReadFault};

@@ -8,8 +8,7 @@ pub struct Listed<T> {
 }
 
 impl<T> Model for Listed<T> {
-    ghost use Rattle.std.specs.Prelude.{List};
-    ghost use Rattle.std.specs.Coded.{coded_list};
+    ghost use Rattle.std.specs.{Prelude.{List}, Coded.{coded_list}};
 
     ghost Value = { List T };
 

@@ -1,10 +1,7 @@
-ghost use Rattle.std.specs.Prelude.{◌≡◌, ◌<◌, length, is_some, IfOk, OnErr};
-ghost use Rattle.std.specs.List.{list_all};
-ghost use Rattle.json.specs.Lex.{tokens};
-ghost use Rattle.json.specs.Reads.{token_of};
+ghost use Rattle.std.specs.{Prelude.{◌≡◌, ◌<◌, length, is_some, IfOk, OnErr}, List.{list_all}};
+ghost use Rattle.json.specs.{Lex.{tokens}, Reads.{token_of}};
 ghost use Rattle.serde_json.specs.Read.{read};
-ghost use Rattle.json_values.specs.Text.{json_of};
-ghost use Rattle.json_values.specs.Checks.{Tells, opens_object, one_value, token_fits};
+ghost use Rattle.json_values.specs.{Text.{json_of}, Checks.{Tells, opens_object, one_value, token_fits}};
 
 use crate::ranges::number_fits;
 use json::{Reader, Scratch, Token};

@@ -8,8 +8,7 @@ pub struct Text {
 }
 
 impl Model for Text {
-    ghost use Rattle.std.specs.Prelude.{ℕ, List};
-    ghost use Rattle.std.specs.String.{string_bytes};
+    ghost use Rattle.std.specs.{Prelude.{ℕ, List}, String.{string_bytes}};
 
     ghost Value = { List ℕ };
 
@@ -17,9 +16,7 @@ impl Model for Text {
 }
 
 impl Text {
-    ghost use Rattle.std.specs.Prelude.{◌≡◌, IfOk};
-    ghost use Rattle.std.specs.Str.{IsUtf8};
-    ghost use Rattle.std.specs.String.{string_bytes};
+    ghost use Rattle.std.specs.{Prelude.{◌≡◌, IfOk}, Str.{IsUtf8}, String.{string_bytes}};
 
     /// A text with these characters; the one error is want of memory.
     pub fn of(alloc: Global, text: &str) -> Result<Text, AllocError>

@@ -1,6 +1,5 @@
 ghost use Rattle.std.specs.Prelude.{◌≡◌, map, option_map};
-ghost use Rattle.serde_json.specs.Find.{as_array};
-ghost use Rattle.serde_json.specs.View.{view, items_view};
+ghost use Rattle.serde_json.specs.{Find.{as_array}, View.{view, items_view}};
 ghost use Rattle.json_values.specs.Lists.{list_of};
 
 use serde_json::Value;

@@ -1,6 +1,5 @@
 ghost use Rattle.std.specs.Prelude.{◌≡◌, ◌<◌, length, IfOk, IfSome, IfNone, IsSome, Some, None, Err};
-ghost use Rattle.serde_json.specs.Find.{as_object};
-ghost use Rattle.serde_json.specs.View.{view};
+ghost use Rattle.serde_json.specs.{Find.{as_object}, View.{view}};
 ghost use Rattle.json_values.specs.Text.{json_of, IsNoObject};
 
 use crate::checking::{Shape, shape_of};

@@ -1,6 +1,5 @@
 ghost use Rattle.std.specs.Prelude.{◌≡◌, ◌↔◌, ◌<◌, length, IfOk, Some, None, Err};
-ghost use Rattle.serde_json.specs.Errors.{IsMemory};
-ghost use Rattle.serde_json.specs.View.{view};
+ghost use Rattle.serde_json.specs.{Errors.{IsMemory}, View.{view}};
 ghost use Rattle.json_values.specs.Text.{json_of};
 
 use serde_json::{Category, Error, Value};

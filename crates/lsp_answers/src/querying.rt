@@ -1,13 +1,12 @@
 //! What an editor is told of the definitions of what stands at a place.
 ghost use Rattle.std.specs.Prelude.{◌≡◌, ◌≢◌, Err, IfOk, IfSome};
 ghost use Rattle.lsp_texts.specs.Texts.{texts_in};
+ghost use Rattle.nav_answers.specs.Replies.{IsDefineReply};
 ghost use Rattle.nav_answers.specs.declared.found.AskFault.TheVariants as ask;
 ghost use Rattle.nav_answers.specs.declared.found.At.TheVariants as at;
-ghost use Rattle.nav_answers.specs.Replies.{IsDefineReply};
 ghost use Rattle.root_index.specs.Roots.{IsIndexOfView};
 ghost use Rattle.version_tree.specs.Graphs.{graph_rows};
-ghost use Rattle.lsp_answers.specs.Placing.{IsPlace};
-ghost use Rattle.lsp_answers.specs.Queries.{AreDefinitions, TellsDefinitions, usual};
+ghost use Rattle.lsp_answers.specs.{Placing.{IsPlace}, Queries.{AreDefinitions, TellsDefinitions, usual}};
 
 use crate::outcomes::{Project, located, outcome_of_fault};
 use crate::paths::path_under;

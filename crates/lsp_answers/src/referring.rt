@@ -1,18 +1,13 @@
 //! What an editor is told of the references of what stands at a place.
-ghost use Rattle.std.specs.Prelude.{◌≡◌, ◌≢◌, ◌++◌, ◌∷◌, [], List, Err, IfOk, slice_get, if◌then◌else◌};
-ghost use Rattle.std.specs.Option.{option_and_then, option_copied};
-ghost use Rattle.graph_nodes.specs.declared.node.Node.{Node};
-ghost use Rattle.graph_nodes.specs.Whole.{node_of};
-ghost use Rattle.nav_answers.specs.Replies.{graphs_in, number_of, ReferToAny, IsReferencesOfAnyReply};
-ghost use Rattle.nav_answers.specs.Sources.{graphs_seen};
-ghost use Rattle.root_index.specs.Offers.{files_of};
-ghost use Rattle.lsp_answers.specs.Inside.{row_in, span_in};
-ghost use Rattle.lsp_texts.specs.Texts.{texts_in};
+ghost use Rattle.std.specs.{Prelude.{◌≡◌, ◌≢◌, ◌++◌, ◌∷◌, [], List, Err, IfOk, slice_get, if◌then◌else◌}, Option.{option_and_then, option_copied}};
+ghost use Rattle.graph_nodes.specs.{declared.node.Node.{Node}, Whole.{node_of}};
+ghost use Rattle.nav_answers.specs.{Replies.{graphs_in, number_of, ReferToAny, IsReferencesOfAnyReply}, Sources.{graphs_seen}};
 ghost use Rattle.nav_answers.specs.declared.found.AskFault.TheVariants as ask;
 ghost use Rattle.nav_answers.specs.declared.found.At.TheVariants as at;
-ghost use Rattle.root_index.specs.Roots.{IsIndexOfView};
+ghost use Rattle.root_index.specs.{Offers.{files_of}, Roots.{IsIndexOfView}};
+ghost use Rattle.lsp_answers.specs.{Inside.{row_in, span_in}, Queries.{AreTargets, IsUnion, TellsReferences, TellsTargets, usual}};
+ghost use Rattle.lsp_texts.specs.Texts.{texts_in};
 ghost use Rattle.version_tree.specs.Graphs.{GraphRow, graph_rows};
-ghost use Rattle.lsp_answers.specs.Queries.{AreTargets, IsUnion, TellsReferences, TellsTargets, usual};
 
 use crate::outcomes::{Project, located, outcome_of_fault};
 use crate::querying::{Place, definitions};

@@ -1,7 +1,6 @@
 //! What stands at the front of the bytes that were taken.
 ghost use Rattle.std.specs.Prelude.{◌≡◌, ◌≤◌, length, IfSome, Some};
-ghost use Rattle.lsp_frames.specs.Blocks.{block_len, ends_block};
-ghost use Rattle.lsp_frames.specs.Inside.{IsFront};
+ghost use Rattle.lsp_frames.specs.{Blocks.{block_len, ends_block}, Inside.{IsFront}};
 
 use crate::lengths::{Stated, stated_length};
 

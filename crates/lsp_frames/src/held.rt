@@ -1,10 +1,7 @@
 //! The bytes that a frame reader holds: taking what is wanting of a frame, and lending its body.
-ghost use Rattle.std.specs.Prelude.{◌≡◌, ◌≢◌, ◌<◌, ◌≤◌, length, drop, IfOk, IfSome, OnOk, OnErr, Ok, Err, true, false};
-ghost use Rattle.std.specs.Io.KnownBytes.{prepend_known, IsAtEnd};
-ghost use Rattle.std.specs.Option.{option_copied};
+ghost use Rattle.std.specs.{Prelude.{◌≡◌, ◌≢◌, ◌<◌, ◌≤◌, length, drop, IfOk, IfSome, OnOk, OnErr, Ok, Err, true, false}, Io.KnownBytes.{prepend_known, IsAtEnd}, Option.{option_copied}};
 ghost use Rattle.nav_io.specs.Faults.{HasRisen};
-ghost use Rattle.lsp_frames.specs.Frames.{cut, is_short};
-ghost use Rattle.lsp_frames.specs.Inside.{IsFront, IsPlaceOf, body_at, behind};
+ghost use Rattle.lsp_frames.specs.{Frames.{cut, is_short}, Inside.{IsFront, IsPlaceOf, body_at, behind}};
 
 use crate::front::{Front, Place, front_of};
 use crate::reader::FrameError;

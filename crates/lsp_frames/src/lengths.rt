@@ -1,10 +1,6 @@
 //! The length of a body that a block of header lines states.
-ghost use Rattle.std.specs.Prelude.{◌≡◌, ◌∷◌, ◌+◌, ◌<◌, ◌≤◌, true, false, ℕ, List, Option, Some, length, min, MatchOption};
-ghost use Rattle.std.specs.List.{position, position_or_len};
-ghost use Rattle.std.specs.Option.{option_copied};
-ghost use Rattle.lsp_frames.specs.Blocks.{is_colon, is_length_name, is_no_space, is_no_digit, number, number_at_front, length_of, lengths_in, value_in, ends_line, without_end, stated_length};
-ghost use Rattle.lsp_frames.specs.Frames.{body_max};
-ghost use Rattle.lsp_frames.specs.Inside.{States, StatesSoFar, StatesAll, lines_left};
+ghost use Rattle.std.specs.{Prelude.{◌≡◌, ◌∷◌, ◌+◌, ◌<◌, ◌≤◌, true, false, ℕ, List, Option, Some, length, min, MatchOption}, List.{position, position_or_len}, Option.{option_copied}};
+ghost use Rattle.lsp_frames.specs.{Blocks.{is_colon, is_length_name, is_no_space, is_no_digit, number, number_at_front, length_of, lengths_in, value_in, ends_line, without_end, stated_length}, Frames.{body_max}, Inside.{States, StatesSoFar, StatesAll, lines_left}};
 
 use crate::reader::BODY_MAX;
 

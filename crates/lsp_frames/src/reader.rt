@@ -1,8 +1,6 @@
 //! Reading a source frame by frame.
-ghost use Rattle.std.specs.Prelude.{◌≡◌, ◌≤◌, [], true, false, length, IfOk, IfSome, Ok, Err, MatchResult};
-ghost use Rattle.std.specs.Option.{option_copied};
-ghost use Rattle.nav_io.specs.Faults.{HasRisen};
-ghost use Rattle.nav_io.specs.Reading.{ahead};
+ghost use Rattle.std.specs.{Prelude.{◌≡◌, ◌≤◌, [], true, false, length, IfOk, IfSome, Ok, Err, MatchResult}, Option.{option_copied}};
+ghost use Rattle.nav_io.specs.{Faults.{HasRisen}, Reading.{ahead}};
 ghost use Rattle.lsp_frames.specs.Frames.{body_max, cut, body_of};
 
 use crate::front::{Front, Place, front_of};
@@ -54,8 +52,7 @@ pub struct FrameReader {
 
 impl Model for FrameReader {
     ghost use Rattle.std.specs.Prelude.{◌≤◌, vec_len, drop};
-    ghost use Rattle.nav_io.specs.Reading.{Reading};
-    ghost use Rattle.nav_io.specs.declared.taking.TheConstants.{CHUNK};
+    ghost use Rattle.nav_io.specs.{Reading.{Reading}, declared.taking.TheConstants.{CHUNK}};
 
     ghost Value = { Reading };
 
@@ -69,11 +66,8 @@ impl Model for FrameReader {
 }
 
 impl FrameReader {
-    ghost use Rattle.std.specs.Borrow.{sem};
-    ghost use Rattle.std.specs.Io.BufRead.{Rests};
-    ghost use Rattle.lsp_frames.specs.contracts.reader.FrameReader.{the_row};
-    ghost use Rattle.lsp_frames.specs.Reading.{is_settled, AfterFrame, AfterFrameError};
-    ghost use Rattle.lsp_frames.specs.Inside.{FindsFront, FindsFrame};
+    ghost use Rattle.std.specs.{Borrow.{sem}, Io.BufRead.{Rests}};
+    ghost use Rattle.lsp_frames.specs.{contracts.reader.FrameReader.{the_row}, Reading.{is_settled, AfterFrame, AfterFrameError}, Inside.{FindsFront, FindsFrame}};
 
     /// A reader that has taken nothing.
     pub fn new(alloc: Global) -> Result<FrameReader, NoMemory>

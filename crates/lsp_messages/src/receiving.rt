@@ -1,10 +1,9 @@
 //! Reading messages one by one.
 ghost use Rattle.std.specs.Prelude.{◌≡◌, ◌≤◌, Err};
 ghost use Rattle.nav_io.specs.Faults.{HasRisen};
+ghost use Rattle.lsp_messages.specs.{Inputs.{is_exit_body}, Turns.{ReadsNext, WantsMemory, LooksOn}};
 ghost use Rattle.lsp_messages.specs.declared.halt.Halt.TheVariants as halt;
 ghost use Rattle.lsp_messages.specs.declared.receiving.TheConstants as constant;
-ghost use Rattle.lsp_messages.specs.Inputs.{is_exit_body};
-ghost use Rattle.lsp_messages.specs.Turns.{ReadsNext, WantsMemory, LooksOn};
 
 use crate::halt::Halt;
 use lsp_frames::{FrameError, FrameReader};

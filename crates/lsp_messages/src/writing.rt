@@ -1,10 +1,8 @@
 //! Writing replies.
-ghost use Rattle.std.specs.Prelude.{◌≡◌, ◌≤◌, IfOk, OnOk, OnErr, Err};
-ghost use Rattle.std.specs.Io.KnownBytes.{append_known};
-ghost use Rattle.nav_io.specs.Faults.{HasRisen};
-ghost use Rattle.nav_io.specs.Write.{HoldsPrefix};
-ghost use Rattle.lsp_messages.specs.declared.halt.Halt.TheVariants as halt;
+ghost use Rattle.std.specs.{Prelude.{◌≡◌, ◌≤◌, IfOk, OnOk, OnErr, Err}, Io.KnownBytes.{append_known}};
+ghost use Rattle.nav_io.specs.{Faults.{HasRisen}, Write.{HoldsPrefix}};
 ghost use Rattle.lsp_messages.specs.Serving.{reply_frame};
+ghost use Rattle.lsp_messages.specs.declared.halt.Halt.TheVariants as halt;
 
 use crate::halt::Halt;
 use lsp_frames::frame_text;

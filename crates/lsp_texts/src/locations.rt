@@ -1,8 +1,6 @@
 //! Parts of documents as editors are told of them.
-ghost use Rattle.std.specs.Prelude.{◌≡◌, IfOk};
-ghost use Rattle.std.specs.Option.{option_copied};
-ghost use Rattle.lsp_texts.specs.Places.{location_in, location_with, position_at};
-ghost use Rattle.lsp_texts.specs.Texts.{texts_in, uri_under};
+ghost use Rattle.std.specs.{Prelude.{◌≡◌, IfOk}, Option.{option_copied}};
+ghost use Rattle.lsp_texts.specs.{Places.{location_in, location_with, position_at}, Texts.{texts_in, uri_under}};
 
 use crate::{OpenText, OpenTexts};
 use graph_nodes::Span;

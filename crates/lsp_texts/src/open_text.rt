@@ -1,6 +1,5 @@
 ghost use Rattle.std.specs.Prelude.{◌≡◌, IfOk};
-ghost use Rattle.text_units.specs.Lines.{line_at};
-ghost use Rattle.text_units.specs.Units.{IsBytesAt};
+ghost use Rattle.text_units.specs.{Lines.{line_at}, Units.{IsBytesAt}};
 ghost use Rattle.lsp_texts.specs.Places.{position_in};
 
 use lsp_wire::{Position, Text};

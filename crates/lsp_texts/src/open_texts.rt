@@ -1,5 +1,4 @@
-ghost use Rattle.std.specs.Prelude.{◌≡◌, true, None, Some, OnOk};
-ghost use Rattle.std.specs.Option.{option_copied};
+ghost use Rattle.std.specs.{Prelude.{◌≡◌, true, None, Some, OnOk}, Option.{option_copied}};
 ghost use Rattle.lsp_texts.specs.Texts.{AreSame, has_room, no_texts, texts_in, with_text};
 
 use crate::OpenText;

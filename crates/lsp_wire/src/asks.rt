@@ -1,11 +1,8 @@
 //! What the methods ask for, with their parameters.
 ghost use Rattle.std.specs.Prelude.{◌≡◌, IfOk, None, codes, map, option_map, unwrap_or};
-ghost use Rattle.lsp_wire.specs.declared.message.Asks.TheVariants.{WrongParams};
-ghost use Rattle.serde_json.specs.Find.{as_bool, as_str};
-ghost use Rattle.serde_json.specs.View.{view};
+ghost use Rattle.lsp_wire.specs.{declared.message.Asks.TheVariants.{WrongParams}, Members.{member, position_of}, Messages.{method_of, opened, change_of, text_after, changed, closed, definition, references, asks_by, asks_of}};
+ghost use Rattle.serde_json.specs.{Find.{as_bool, as_str}, View.{view}};
 ghost use Rattle.json_values.specs.Lists.{list_of};
-ghost use Rattle.lsp_wire.specs.Members.{member, position_of};
-ghost use Rattle.lsp_wire.specs.Messages.{method_of, opened, change_of, text_after, changed, closed, definition, references, asks_by, asks_of};
 
 use crate::members::{position_of, take_member, take_text, uri_in};
 use crate::{Asks, Method, Position, Text};

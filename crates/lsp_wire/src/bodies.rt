@@ -1,7 +1,6 @@
 //! What the bytes of a body are.
 ghost use Rattle.std.specs.Prelude.{◌≡◌, ◌<◌, length, IfOk, OnOk, OnErr, option_map, codes};
-ghost use Rattle.serde_json.specs.Find.{get, as_str};
-ghost use Rattle.serde_json.specs.View.{view};
+ghost use Rattle.serde_json.specs.{Find.{get, as_str}, View.{view}};
 ghost use Rattle.lsp_wire.specs.Messages.{method_of, params_of, id_from, message_with, body_with, body_of, body_from};
 
 use crate::asks::{asks, method_of};

@@ -1,8 +1,7 @@
 ghost use Rattle.std.specs.Prelude.{◌≡◌, IfOk, option_map};
-ghost use Rattle.lsp_wire.specs.declared.message.Id.TheVariants as id;
-ghost use Rattle.serde_json.specs.Find.{get, as_str};
-ghost use Rattle.serde_json.specs.View.{view};
 ghost use Rattle.lsp_wire.specs.Members.{member, i32_of, id_of, position_of, uri_in};
+ghost use Rattle.lsp_wire.specs.declared.message.Id.TheVariants as id;
+ghost use Rattle.serde_json.specs.{Find.{get, as_str}, View.{view}};
 
 use crate::{Id, Position, Text};
 use json_values::{into_string, u32_of};

@@ -1,7 +1,5 @@
 //! URIs of documents, and paths under a root.
-ghost use Rattle.std.specs.Prelude.{◌≡◌, IfOk, option_map};
-ghost use Rattle.std.specs.Option.{option_copied};
-ghost use Rattle.std.specs.String.{string_bytes};
+ghost use Rattle.std.specs.{Prelude.{◌≡◌, IfOk, option_map}, Option.{option_copied}, String.{string_bytes}};
 ghost use Rattle.lsp_wire.specs.Uris.{behind, has_digits, is_escaped, unescaped, decoded, encoded, without_slash, root_of, inside, NamesItsPath};
 
 use percent_encoding::{AsciiSet, NON_ALPHANUMERIC, ascii_set, percent_decode, percent_encode};

@@ -2,8 +2,7 @@ ghost use Rattle.std.specs.Prelude.{◌≡◌, true, Err, IfOk, IfSome, IsTrue, 
 ghost use Rattle.graph_nodes.specs.Whole.{is_definition_of};
 ghost use Rattle.back_stitch.specs.Lists.{AreThoseThatReach, HasMany};
 ghost use Rattle.end_index.specs.Ends.{IsEndIndexOf};
-ghost use Rattle.nav_answers.specs.Sources.{graphs_seen};
-ghost use Rattle.nav_answers.specs.Asking.{IsKnown, IsKnownOf, is_each, is_whole};
+ghost use Rattle.nav_answers.specs.{Sources.{graphs_seen}, Asking.{IsKnown, IsKnownOf, is_each, is_whole}};
 
 use crate::parts::Parts;
 use back_stitch::{BackFault, back};
@@ -67,9 +66,8 @@ pub struct AskedView {
 impl Model for AskedView {
     ghost use Rattle.std.specs.Prelude.{List, IfSome, IsTrue};
     ghost use Rattle.version_tree.specs.Contents.{FileRow};
-    ghost use Rattle.nav_answers.specs.Sources.{graphs_seen};
+    ghost use Rattle.nav_answers.specs.{Sources.{graphs_seen}, Asking.{IsKnown}};
     ghost use Rattle.end_index.specs.Ends.{IsEndIndexOf};
-    ghost use Rattle.nav_answers.specs.Asking.{IsKnown};
 
     ghost Value = { List FileRow };
 
@@ -84,9 +82,7 @@ impl AskedView {
     ghost use Rattle.graph_nodes.specs.Whole.{is_definition_of};
     ghost use Rattle.whole_search.specs.Answers.{IsAnyCrowded};
     ghost use Rattle.back_stitch.specs.Lists.{AreThoseThatReach, HasMany};
-    ghost use Rattle.nav_answers.specs.declared.asked_view.Known.{Known};
-    ghost use Rattle.nav_answers.specs.Sources.{graphs_seen};
-    ghost use Rattle.nav_answers.specs.Asking.{IsKnown, IsKnownOf};
+    ghost use Rattle.nav_answers.specs.{declared.asked_view.Known.{Known}, Sources.{graphs_seen}, Asking.{IsKnown, IsKnownOf}};
 
     /// The view, of whose references nothing is kept yet. It takes no memory.
     pub fn of(alloc: Global, view: View) -> AskedView

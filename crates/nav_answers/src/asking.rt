@@ -1,9 +1,7 @@
 ghost use Rattle.std.specs.Prelude.{◌≡◌, Err, IfOk, IsSomeAnd, IsTrue};
 ghost use Rattle.graph_nodes.specs.Whole.{is_reference_of};
-ghost use Rattle.partial_path.specs.Step.{start};
-ghost use Rattle.partial_path.specs.Counted.{IsCrowded};
-ghost use Rattle.nav_answers.specs.Asking.{IsFound};
-ghost use Rattle.nav_answers.specs.Sources.{graphs_seen};
+ghost use Rattle.partial_path.specs.{Step.{start}, Counted.{IsCrowded}};
+ghost use Rattle.nav_answers.specs.{Asking.{IsFound}, Sources.{graphs_seen}};
 
 use crate::defining::definitions_by;
 use crate::source::ViewSource;

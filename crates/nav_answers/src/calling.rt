@@ -4,10 +4,7 @@ ghost use Rattle.version_tree.specs.Graphs.{graph_rows};
 ghost use Rattle.root_index.specs.Roots.{IsIndexOfView};
 ghost use Rattle.whole_search.specs.Answers.{AreReferences, IsAnyCrowded};
 ghost use Rattle.back_stitch.specs.Lists.{usual, AreThoseThatReach};
-ghost use Rattle.nav_answers.specs.Asking.{AreLinksOf};
-ghost use Rattle.nav_answers.specs.Callers.{IsCallerReply, IsCallersReply, LeadsCrowded, TellsUnless};
-ghost use Rattle.nav_answers.specs.Replies.{graphs_in, hit_of};
-ghost use Rattle.nav_answers.specs.Sources.{IsForMany, graphs_seen};
+ghost use Rattle.nav_answers.specs.{Asking.{AreLinksOf}, Callers.{IsCallerReply, IsCallersReply, LeadsCrowded, TellsUnless}, Replies.{graphs_in, hit_of}, Sources.{IsForMany, graphs_seen}};
 
 use crate::asked_view::AskedView;
 use crate::asking::Query;

@@ -1,13 +1,10 @@
-ghost use Rattle.std.specs.Prelude.{◌≡◌, ◌≢◌, ◌↔◌, [], map, Ok, Err, IfOk, OnOk, IsTrue, IsSomeAnd, slice_get};
-ghost use Rattle.std.specs.Option.{option_and_then, option_map_or};
+ghost use Rattle.std.specs.{Prelude.{◌≡◌, ◌≢◌, ◌↔◌, [], map, Ok, Err, IfOk, OnOk, IsTrue, IsSomeAnd, slice_get}, Option.{option_and_then, option_map_or}};
 ghost use Rattle.graph_nodes.specs.Whole.{is_reference_of, node_of};
-ghost use Rattle.partial_path.specs.Step.{start};
-ghost use Rattle.partial_path.specs.Counted.{IsCrowded, HasLimit};
+ghost use Rattle.partial_path.specs.{Step.{start}, Counted.{IsCrowded, HasLimit}};
 ghost use Rattle.version_tree.specs.Graphs.{GraphRow, graph_rows};
 ghost use Rattle.root_index.specs.Roots.{IsIndexOfView};
 ghost use Rattle.whole_search.specs.Answers.{AreDefinitions};
-ghost use Rattle.nav_answers.specs.Replies.{IsDefineReply, IsDefinitionReply, row_of};
-ghost use Rattle.nav_answers.specs.Sources.{graphs_seen};
+ghost use Rattle.nav_answers.specs.{Replies.{IsDefineReply, IsDefinitionReply, row_of}, Sources.{graphs_seen}};
 
 use crate::found::{AskFault, At, ask_fault};
 use crate::meaning::{Asked, meant};

@@ -1,6 +1,5 @@
 ghost use Rattle.std.specs.Prelude.{◌≡◌};
-ghost use Rattle.nav_answers.specs.declared.found.AskFault.TheVariants.{NoMemory};
-ghost use Rattle.nav_answers.specs.Faults.{ask_fault};
+ghost use Rattle.nav_answers.specs.{declared.found.AskFault.TheVariants.{NoMemory}, Faults.{ask_fault}};
 
 use std::alloc::{AllocError, AllocFailed};
 use std::fmt;

@@ -1,10 +1,7 @@
 //! The stored paths at a start that is in one file, among the files that a user sees.
 
 ghost use Rattle.std.specs.Prelude.{◌≡◌, [], ◌∷◌, slice_get, option_copied, filter, false, MatchOption};
-ghost use Rattle.partial_path.specs.Inside.{file_of, start_inside};
-ghost use Rattle.partial_path.specs.Offers.{offers_here, is_shared};
-ghost use Rattle.partial_path.specs.Sources.{asks_rule, rules_from, rules_offered};
-ghost use Rattle.partial_path.specs.Spots.{node_at};
+ghost use Rattle.partial_path.specs.{Inside.{file_of, start_inside}, Offers.{offers_here, is_shared}, Sources.{asks_rule, rules_from, rules_offered}, Spots.{node_at}};
 ghost use Rattle.root_index.specs.Offers.{files_of};
 
 use crate::source::ViewSource;

@@ -2,9 +2,7 @@
 ghost use Rattle.std.specs.Prelude.{◌≡◌, ◌≢◌, ◌<◌, length, All, Err, IfOk, OnOk, slice_index_or, IsTrue};
 ghost use Rattle.graph_nodes.specs.Whole.{is_reference_of};
 ghost use Rattle.list_facts.specs.Members.{IsIn};
-ghost use Rattle.nav_answers.specs.Asking.{AddsLinks, IsCrowdedAmong, IsFound, IsReferenceIn};
-ghost use Rattle.nav_answers.specs.Sources.{graphs_seen};
-ghost use Rattle.nav_answers.specs.Twins.{AreKept};
+ghost use Rattle.nav_answers.specs.{Asking.{AddsLinks, IsCrowdedAmong, IsFound, IsReferenceIn}, Sources.{graphs_seen}, Twins.{AreKept}};
 ghost use Rattle.stacks_vars.specs.declared.scopes.NodeAt.{NodeAt};
 
 use crate::asking::{Query, ask};

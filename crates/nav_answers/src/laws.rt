@@ -1,5 +1,4 @@
-ghost use Rattle.nav_answers.specs.Laws.{CallersHaveOneReply, QueriesHaveOneReply};
-ghost use Rattle.nav_answers.specs.Twins.{TwinsAreFoundAlike};
+ghost use Rattle.nav_answers.specs.{Laws.{CallersHaveOneReply, QueriesHaveOneReply}, Twins.{TwinsAreFoundAlike}};
 
 /// A law: two replies to one query over equal lists of files are equal. So the reply is told by what the user sees,
 /// the query and nothing else.

@@ -1,9 +1,5 @@
-ghost use Rattle.std.specs.Prelude.{◌≡◌, ◌≤◌, ◌++◌, ◌||◌, ◌&&◌, ◌↔◌, [], false, true, filter, length, Contains, IfOk, OnOk};
-ghost use Rattle.std.specs.List.{prefix_len};
-ghost use Rattle.std.specs.List.Sorted.{IsPartitionedBy, IsPermutation, IsSorted, IsStrictlySortedBy};
-ghost use Rattle.nav_answers.specs.declared.links.Link.{Link};
-ghost use Rattle.nav_answers.specs.Asking.{Holds};
-ghost use Rattle.nav_answers.specs.Links.{by_link, is_before, is_link_to, link_side, links_of, links_to_any, references_among, rows_of_any};
+ghost use Rattle.std.specs.{Prelude.{◌≡◌, ◌≤◌, ◌++◌, ◌||◌, ◌&&◌, ◌↔◌, [], false, true, filter, length, Contains, IfOk, OnOk}, List.{prefix_len}, List.Sorted.{IsPartitionedBy, IsPermutation, IsSorted, IsStrictlySortedBy}};
+ghost use Rattle.nav_answers.specs.{declared.links.Link.{Link}, Asking.{Holds}, Links.{by_link, is_before, is_link_to, link_side, links_of, links_to_any, references_among, rows_of_any}};
 
 use std::alloc::{AllocError, Global};
 use std::cmp::Ordering;

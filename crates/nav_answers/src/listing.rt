@@ -1,6 +1,5 @@
 ghost use Rattle.std.specs.Prelude.{◌≡◌, ◌≤◌, ◌+◌, ◌++◌, drop, length, IfOk, OnOk};
-ghost use Rattle.nav_answers.specs.Asking.{references_from, references_in};
-ghost use Rattle.nav_answers.specs.Sources.{graphs_seen};
+ghost use Rattle.nav_answers.specs.{Asking.{references_from, references_in}, Sources.{graphs_seen}};
 
 use partial_path::FilePaths;
 use stacks_vars::NodeAt;

@@ -1,13 +1,8 @@
-ghost use Rattle.std.specs.Prelude.{◌≡◌, ◌<◌, length, IfSome};
-ghost use Rattle.std.specs.List.{position_from};
-ghost use Rattle.std.specs.Result.{result_map_both};
+ghost use Rattle.std.specs.{Prelude.{◌≡◌, ◌<◌, length, IfSome}, List.{position_from}, Result.{result_map_both}};
 ghost use Rattle.graph_nodes.specs.Graph.{is_definition_kind, kind_at};
 ghost use Rattle.stacks_vars.specs.declared.scopes.NodeAt.{NodeAt};
 ghost use Rattle.version_tree.specs.Graphs.{graph_rows};
-ghost use Rattle.nav_answers.specs.declared.found.AskFault.TheVariants.{NoDefinition};
-ghost use Rattle.nav_answers.specs.Kinds.{is_of, is_meant, missing};
-ghost use Rattle.nav_answers.specs.Points.{has_point, is_earlier, is_there, node_meant};
-ghost use Rattle.nav_answers.specs.Replies.{meant, meant_in, number_of};
+ghost use Rattle.nav_answers.specs.{declared.found.AskFault.TheVariants.{NoDefinition}, Kinds.{is_of, is_meant, missing}, Points.{has_point, is_earlier, is_there, node_meant}, Replies.{meant, meant_in, number_of}};
 
 use crate::found::{AskFault, At};
 use graph_nodes::{NodeSpan, Span};

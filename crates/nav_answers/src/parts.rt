@@ -25,8 +25,7 @@ impl Model for Parts {
 }
 
 impl Parts {
-    ghost use Rattle.std.specs.Prelude.{◌≡◌, ◌++◌, ◌||◌, ◌&&◌, [], false, true, IfOk, OnOk};
-    ghost use Rattle.std.specs.List.Sorted.{IsStrictlySortedBy};
+    ghost use Rattle.std.specs.{Prelude.{◌≡◌, ◌++◌, ◌||◌, ◌&&◌, [], false, true, IfOk, OnOk}, List.Sorted.{IsStrictlySortedBy}};
     ghost use Rattle.nav_answers.specs.Links.{by_link, rows_of_any};
 
     /// What is found of no references, with memory for so many lists; the one error is want of it.

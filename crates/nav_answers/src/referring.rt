@@ -1,11 +1,8 @@
 ghost use Rattle.std.specs.Prelude.{◌≡◌, ◌≢◌, Contains, Err, IfOk, OnErr};
 ghost use Rattle.version_tree.specs.Graphs.{graph_rows};
 ghost use Rattle.root_index.specs.Roots.{IsIndexOfView};
-ghost use Rattle.whole_search.specs.declared.found.Hit.{Hit};
-ghost use Rattle.whole_search.specs.Answers.{AreRows, IsAnyCrowded};
-ghost use Rattle.nav_answers.specs.Asking.{AreLinksOf, HasReferences, IsHeld, IsKnownOf, IsReferenceOfAny, IsReplyToAny, IsTable, references_from};
-ghost use Rattle.nav_answers.specs.Replies.{graphs_in, IsReferenceReply, IsReferencesReply};
-ghost use Rattle.nav_answers.specs.Sources.{graphs_seen};
+ghost use Rattle.whole_search.specs.{declared.found.Hit.{Hit}, Answers.{AreRows, IsAnyCrowded}};
+ghost use Rattle.nav_answers.specs.{Asking.{AreLinksOf, HasReferences, IsHeld, IsKnownOf, IsReferenceOfAny, IsReplyToAny, IsTable, references_from}, Replies.{graphs_in, IsReferenceReply, IsReferencesReply}, Sources.{graphs_seen}};
 
 use crate::asked_view::{AskedView, Known, Told};
 use crate::asking::Query;

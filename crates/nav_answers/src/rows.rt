@@ -1,10 +1,7 @@
 ghost use Rattle.std.specs.Prelude.{◌≡◌, ◌↔◌, map, All, Contains, IfOk, IsTrue, ◌<◌, length};
 ghost use Rattle.shadowing.specs.Shadow.{unshadowed};
-ghost use Rattle.whole_search.specs.declared.found.Hit.{Hit};
-ghost use Rattle.whole_search.specs.Answers.{IsRising, path_of, precedence_of, step_of};
-ghost use Rattle.nav_answers.specs.Kept.{HasEdges, IsEdgeOf, are_by, ends_of, is_by, is_next, run_paths};
-ghost use Rattle.nav_answers.specs.Replies.{hit_of};
-ghost use Rattle.nav_answers.specs.Sources.{graphs_seen};
+ghost use Rattle.whole_search.specs.{declared.found.Hit.{Hit}, Answers.{IsRising, path_of, precedence_of, step_of}};
+ghost use Rattle.nav_answers.specs.{Kept.{HasEdges, IsEdgeOf, are_by, ends_of, is_by, is_next, run_paths}, Replies.{hit_of}, Sources.{graphs_seen}};
 
 use crate::viewed::file_in;
 use partial_path::EdgeAt;

@@ -1,7 +1,5 @@
 ghost use Rattle.std.specs.Prelude.{◌≡◌, ℕ, ◌+◌, ◌<◌, ◌≤◌, length, All, Err, IfOk, OnOk, slice_index_or, vec_len};
-ghost use Rattle.nav_answers.specs.Asking.{AreFound, AreLinksOf, AreTabled, IsCrowdedAmong, IsDone, IsInShares, IsReferenceIn, IsShareOf, run_of, share_of};
-ghost use Rattle.nav_answers.specs.Sources.{graphs_seen};
-ghost use Rattle.nav_answers.specs.Twins.{AreKept};
+ghost use Rattle.nav_answers.specs.{Asking.{AreFound, AreLinksOf, AreTabled, IsCrowdedAmong, IsDone, IsInShares, IsReferenceIn, IsShareOf, run_of, share_of}, Sources.{graphs_seen}, Twins.{AreKept}};
 
 use crate::asking::Query;
 use crate::jobs::add_found;

@@ -2,9 +2,8 @@
 
 ghost use Rattle.std.specs.Prelude.{◌≡◌, [], ◌∷◌, slice_get, option_copied, MatchOption, IsPermutation};
 ghost use Rattle.partial_path.specs.Sources.{rules_from, rules_offered};
-ghost use Rattle.root_index.specs.Offers.{files_of};
+ghost use Rattle.root_index.specs.{Offers.{files_of}, Roots.{IsIndexOfView, root}};
 ghost use Rattle.root_index.specs.Offers as roots;
-ghost use Rattle.root_index.specs.Roots.{IsIndexOfView, root};
 ghost use Rattle.nav_answers.specs.Sources.{offers_left};
 
 use crate::in_file::{next_inside, offers_inside, path_inside};
@@ -73,8 +72,7 @@ impl<'a> Model for ViewSource<'a> {
 impl<'a> ViewSource<'a> {
     ghost use Rattle.std.specs.Prelude.{◌≡◌, ◌<◌, ◌^◌, All, IfSome, option_copied, slice_get};
     ghost use Rattle.partial_path.specs.Sources.{IsSourceFile};
-    ghost use Rattle.root_index.specs.Offers.{files_of};
-    ghost use Rattle.root_index.specs.Roots.{IsIndexOfView};
+    ghost use Rattle.root_index.specs.{Offers.{files_of}, Roots.{IsIndexOfView}};
     ghost use Rattle.nav_answers.specs.Sources.{IsForMany, seen_of};
 
     /// What is seen, with the index of its version.

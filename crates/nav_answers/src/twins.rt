@@ -1,8 +1,6 @@
 ghost use Rattle.std.specs.Prelude.{◌≡◌, ◌<◌, ℕ, [], ◌∷◌, length, true, IfSome, IsTrue, OnOk};
 ghost use Rattle.graph_nodes.specs.Out.{edges_from};
-ghost use Rattle.nav_answers.specs.Asking.{IsFound};
-ghost use Rattle.nav_answers.specs.Sources.{graphs_seen};
-ghost use Rattle.nav_answers.specs.Twins.{AreKept, BeginsWith, HasKind, HasSink, IsKept, IsLead};
+ghost use Rattle.nav_answers.specs.{Asking.{IsFound}, Sources.{graphs_seen}, Twins.{AreKept, BeginsWith, HasKind, HasSink, IsKept, IsLead}};
 
 use crate::asking::Query;
 use crate::source::ViewSource;

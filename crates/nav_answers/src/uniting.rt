@@ -1,8 +1,7 @@
 ghost use Rattle.std.specs.Prelude.{◌≡◌, ◌≢◌, Err, IfOk};
 ghost use Rattle.version_tree.specs.Graphs.{graph_rows};
 ghost use Rattle.root_index.specs.Roots.{IsIndexOfView};
-ghost use Rattle.nav_answers.specs.Asking.{definition_named, definitions_named};
-ghost use Rattle.nav_answers.specs.Replies.{IsReferencesOfAnyReply};
+ghost use Rattle.nav_answers.specs.{Asking.{definition_named, definitions_named}, Replies.{IsReferencesOfAnyReply}};
 
 use crate::asked_view::AskedView;
 use crate::found::{AskFault, At};

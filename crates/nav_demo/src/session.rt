@@ -2,8 +2,7 @@
 ghost use Rattle.std.specs.Prelude.{◌≡◌, ◌≤◌, ℕ, IfOk, OnOk, codes};
 ghost use Rattle.nav_proto.specs.declared.request.Request.TheVariants as requests;
 ghost use Rattle.nav_session.specs.Desks.{HasItsView, GoesOn, moment};
-ghost use Rattle.nav_demo.specs.MadeTree.{committing, queries, query};
-ghost use Rattle.nav_demo.specs.Inside.{Answered, Totalled};
+ghost use Rattle.nav_demo.specs.{MadeTree.{committing, queries, query}, Inside.{Answered, Totalled}};
 
 use crate::graph::path;
 use crate::totals::Totals;

@@ -3,8 +3,7 @@ ghost use Rattle.std.specs.Prelude.{◌≡◌, ◌≤◌, ℕ, length, IsTrue, E
 ghost use Rattle.nav_io.specs.Faults.{HasRisen};
 ghost use Rattle.version_board.specs.Logs.{Begins};
 ghost use Rattle.nav_session.specs.declared.halt.Halt.TheVariants as halt;
-ghost use Rattle.nav_demo.specs.Summary.{Demonstrates, IsSummary, ends_demo, ends_demo_unhindered};
-ghost use Rattle.nav_demo.specs.Inside.{Shows};
+ghost use Rattle.nav_demo.specs.{Summary.{Demonstrates, IsSummary, ends_demo, ends_demo_unhindered}, Inside.{Shows}};
 
 use crate::session::{commit_all, query_all};
 use graph_nodes::Steps;

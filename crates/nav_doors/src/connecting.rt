@@ -1,8 +1,7 @@
 //! One connection of a door.
 ghost use Rattle.std.specs.Prelude.{◌≡◌, IfOk, OnErr};
 ghost use Rattle.nav_session.specs.Serving.{standing};
-ghost use Rattle.nav_doors.specs.Connections.{outside};
-ghost use Rattle.nav_doors.specs.Inside.{ServesNext, FailsNext};
+ghost use Rattle.nav_doors.specs.{Connections.{outside}, Inside.{ServesNext, FailsNext}};
 
 use graph_nodes::Steps;
 use nav_io::{Door, Failed, Gate};

@@ -1,10 +1,7 @@
 //! The loops of all doors, each on a thread of its own, so that a slow client holds up its own door alone.
-ghost use Rattle.std.specs.Prelude.{◌≡◌, ◌==◌, ◌<◌, ◌≤◌, ◌⊎◌, ℕ, None, length, vec_len, slice_index_or, IfSome, OnOk, OnErr};
-ghost use Rattle.std.specs.List.{list_any};
+ghost use Rattle.std.specs.{Prelude.{◌≡◌, ◌==◌, ◌<◌, ◌≤◌, ◌⊎◌, ℕ, None, length, vec_len, slice_index_or, IfSome, OnOk, OnErr}, List.{list_any}};
 ghost use Rattle.nav_session.specs.Desks.{share};
-ghost use Rattle.nav_doors.specs.Connections.{outside};
-ghost use Rattle.nav_doors.specs.Inside.{ServesPlace};
-ghost use Rattle.nav_doors.specs.Doors.{ServesDoors, ServesFromEmptyDesk, ServesTied, IsRefused, worst};
+ghost use Rattle.nav_doors.specs.{Connections.{outside}, Inside.{ServesPlace}, Doors.{ServesDoors, ServesFromEmptyDesk, ServesTied, IsRefused, worst}};
 ghost use Rattle.shared_board.specs.Seats.{AreSeats};
 
 use crate::door::{ACCEPT_FAILED, ALL_SERVED, NO_MEMORY, serve_door};

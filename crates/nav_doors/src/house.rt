@@ -2,8 +2,7 @@
 ghost use Rattle.std.specs.Prelude.{◌≡◌, ◌≤◌};
 ghost use Rattle.nav_io.specs.Told.{HasOut};
 ghost use Rattle.shared_board.specs.Seats.{AreNewcomers, max_seats};
-ghost use Rattle.nav_doors.specs.Connections.{outside};
-ghost use Rattle.nav_doors.specs.Houses.{house_with, ServesHouse};
+ghost use Rattle.nav_doors.specs.{Connections.{outside}, Houses.{house_with, ServesHouse}};
 
 use crate::door::{ACCEPT_FAILED, NO_MEMORY};
 use crate::doors::serve_doors;

@@ -1,7 +1,6 @@
 //! Where connections come from: a house has doors, and a door gives out pairs of a source and a sink.
 ghost use Rattle.std.specs.Prelude.{◌≡◌, ◌≤◌, ℕ, List, [], ◌∷◌, Option, IfOk, OnOk, OnErr, vec_len};
-ghost use Rattle.nav_io.specs.Faults.{HasRisen};
-ghost use Rattle.nav_io.specs.Told.{append_told, HasOut};
+ghost use Rattle.nav_io.specs.{Faults.{HasRisen}, Told.{append_told, HasOut}};
 
 use crate::{Failed, Sink, Source};
 use std::alloc::Global;

@@ -1,9 +1,6 @@
 //! Reading a source line by line, and bytes that are pushed in.
-ghost use Rattle.std.specs.Prelude.{◌≡◌, ◌≢◌, ◌<◌, ◌≤◌, [], ◌∷◌, ◌++◌, ◌⊎◌, true, false, length, IfOk, IfErr, IfSome, OnOk, OnErr, IsTrue, MatchResult};
-ghost use Rattle.nav_io.specs.declared.lines.LineError.TheVariants.{ReadFault, NoMemory, TooLong};
-ghost use Rattle.nav_io.specs.Faults.{HasRisen};
-ghost use Rattle.nav_io.specs.Lines.{line_max, line_len, line_at_front, after_line, lines, HasNoNewline};
-ghost use Rattle.std.specs.Option.{option_copied, option_to_list};
+ghost use Rattle.std.specs.{Prelude.{◌≡◌, ◌≢◌, ◌<◌, ◌≤◌, [], ◌∷◌, ◌++◌, ◌⊎◌, true, false, length, IfOk, IfErr, IfSome, OnOk, OnErr, IsTrue, MatchResult}, Option.{option_copied, option_to_list}};
+ghost use Rattle.nav_io.specs.{declared.lines.LineError.TheVariants.{ReadFault, NoMemory, TooLong}, Faults.{HasRisen}, Lines.{line_max, line_len, line_at_front, after_line, lines, HasNoNewline}};
 
 mod held;
 mod search;
@@ -76,9 +73,7 @@ pub struct LineReader {
 
 impl Model for LineReader {
     ghost use Rattle.std.specs.Prelude.{◌≤◌, vec_len, drop};
-    ghost use Rattle.nav_io.specs.declared.taking.TheConstants.{CHUNK};
-    ghost use Rattle.nav_io.specs.Lines.{line_len};
-    ghost use Rattle.nav_io.specs.Reading.{Reading};
+    ghost use Rattle.nav_io.specs.{declared.taking.TheConstants.{CHUNK}, Lines.{line_len}, Reading.{Reading}};
 
     ghost Value = { Reading };
 
@@ -93,10 +88,8 @@ impl Model for LineReader {
 }
 
 impl LineReader {
-    ghost use Rattle.std.specs.Borrow.{sem};
-    ghost use Rattle.std.specs.Io.BufRead.{Rests};
-    ghost use Rattle.nav_io.specs.contracts.lines.LineReader.{the_row};
-    ghost use Rattle.nav_io.specs.Reading.{ahead, AfterLine, AfterError, is_whole, whole_line, past_whole_line, bytes_at_front, has_bytes, AfterBytes, AfterBytesError};
+    ghost use Rattle.std.specs.{Borrow.{sem}, Io.BufRead.{Rests}};
+    ghost use Rattle.nav_io.specs.{contracts.lines.LineReader.{the_row}, Reading.{ahead, AfterLine, AfterError, is_whole, whole_line, past_whole_line, bytes_at_front, has_bytes, AfterBytes, AfterBytesError}};
 
     /// A reader that has taken nothing.
     pub fn new(alloc: Global) -> Result<LineReader, NoMemory>

@@ -1,6 +1,5 @@
 //! What bytes are written to.
-ghost use Rattle.std.specs.Prelude.{◌≡◌, ◌<◌, ◌≤◌, ℕ, List, Option, length, take, IfOk, OnErr};
-ghost use Rattle.std.specs.Io.KnownBytes.{append_known};
+ghost use Rattle.std.specs.{Prelude.{◌≡◌, ◌<◌, ◌≤◌, ℕ, List, Option, length, take, IfOk, OnErr}, Io.KnownBytes.{append_known}};
 ghost use Rattle.nav_io.specs.Faults.{HasRisen};
 
 /// Why a sink took nothing.

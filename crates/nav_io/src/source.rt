@@ -1,6 +1,5 @@
 //! What bytes are read from.
-ghost use Rattle.std.specs.Prelude.{◌≡◌, ◌<◌, ◌≤◌, ℕ, List, Option, length, take, IfOk, OnErr};
-ghost use Rattle.std.specs.Io.KnownBytes.{prepend_known, IsAtEnd};
+ghost use Rattle.std.specs.{Prelude.{◌≡◌, ◌<◌, ◌≤◌, ℕ, List, Option, length, take, IfOk, OnErr}, Io.KnownBytes.{prepend_known, IsAtEnd}};
 ghost use Rattle.nav_io.specs.Faults.{HasRisen};
 
 use std::fmt;

@@ -1,9 +1,7 @@
 //! Sources and sinks over std's readers and writers. They count faults, pass bytes on as they are, and tell
 //! nothing of them as a source or a sink, since a reader needn't tell either.
-ghost use Rattle.std.specs.Prelude.{◌≡◌, ◌<◌, ◌≤◌, None, length, take, IfOk, OnOk, OnErr, is_err};
-ghost use Rattle.std.specs.Io.KnownBytes.{ReadConsumes, Appends};
-ghost use Rattle.nav_io.specs.Faults.{HasRisen, counted};
-ghost use Rattle.nav_io.specs.Over.{Over};
+ghost use Rattle.std.specs.{Prelude.{◌≡◌, ◌<◌, ◌≤◌, None, length, take, IfOk, OnOk, OnErr, is_err}, Io.KnownBytes.{ReadConsumes, Appends}};
+ghost use Rattle.nav_io.specs.{Faults.{HasRisen, counted}, Over.{Over}};
 
 use crate::{Failed, Sink, SinkError, Source};
 use std::io::{Read, Write};

@@ -1,9 +1,7 @@
 //! Taking the bytes of a source behind those that are held, for readers that cut an input into lines or frames. What is
 //! held is a vector, of which the bytes before a place are answered.
-ghost use Rattle.std.specs.Prelude.{◌≡◌, ℕ, ◌+◌, ◌<◌, ◌≤◌, List, ◌++◌, length, vec_len, vec_capacity, drop, IfOk, OnOk, OnErr, true, false};
-ghost use Rattle.std.specs.Io.KnownBytes.{prepend_known, IsAtEnd};
-ghost use Rattle.nav_io.specs.declared.taking.TakeError.TheVariants.{ReadFault, NoMemory};
-ghost use Rattle.nav_io.specs.Faults.{HasRisen};
+ghost use Rattle.std.specs.{Prelude.{◌≡◌, ℕ, ◌+◌, ◌<◌, ◌≤◌, List, ◌++◌, length, vec_len, vec_capacity, drop, IfOk, OnOk, OnErr, true, false}, Io.KnownBytes.{prepend_known, IsAtEnd}};
+ghost use Rattle.nav_io.specs.{declared.taking.TakeError.TheVariants.{ReadFault, NoMemory}, Faults.{HasRisen}};
 
 use crate::settling::Ballast;
 use crate::{Failed, Source};

@@ -1,9 +1,6 @@
 //! Writing a whole text to a sink.
-ghost use Rattle.std.specs.Prelude.{◌≡◌, ◌≤◌, ℕ, List, ◌++◌, OnOk, OnErr};
-ghost use Rattle.std.specs.Io.KnownBytes.{append_known};
-ghost use Rattle.nav_io.specs.declared.write.WriteError.TheVariants.{WriteFault, NoMemory};
-ghost use Rattle.nav_io.specs.Faults.{HasRisen};
-ghost use Rattle.nav_io.specs.Write.{write_error_of, HoldsPrefix};
+ghost use Rattle.std.specs.{Prelude.{◌≡◌, ◌≤◌, ℕ, List, ◌++◌, OnOk, OnErr}, Io.KnownBytes.{append_known}};
+ghost use Rattle.nav_io.specs.{declared.write.WriteError.TheVariants.{WriteFault, NoMemory}, Faults.{HasRisen}, Write.{write_error_of, HoldsPrefix}};
 
 use crate::{Sink, SinkError};
 

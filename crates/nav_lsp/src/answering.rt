@@ -1,9 +1,7 @@
 //! One message of an editor answered.
 ghost use Rattle.std.specs.Prelude.{◌≡◌, length, IfOk, None, Some};
-ghost use Rattle.lsp_wire.specs.declared.message.Id.{Id as Name};
-ghost use Rattle.lsp_wire.specs.Uris.{root_of};
-ghost use Rattle.nav_lsp.specs.Held.{ComesOf, IsReady, editing_at};
-ghost use Rattle.nav_lsp.specs.Replies.{IsCarriedOut, IsMessage, IsNoted, IsNotified, IsReplied, IsRequested, refusal_of, refused, replied};
+ghost use Rattle.lsp_wire.specs.{declared.message.Id.{Id as Name}, Uris.{root_of}};
+ghost use Rattle.nav_lsp.specs.{Held.{ComesOf, IsReady, editing_at}, Replies.{IsCarriedOut, IsMessage, IsNoted, IsNotified, IsReplied, IsRequested, refusal_of, refused, replied}};
 
 use crate::committing::{change, close, put};
 use crate::editor::Editor;

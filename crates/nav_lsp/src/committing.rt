@@ -4,9 +4,7 @@ ghost use Rattle.path_store.specs.Store.{cost_of};
 ghost use Rattle.version_board.specs.Logs.{own};
 ghost use Rattle.nav_session.specs.Desks.{HasItsView, is_accepted};
 ghost use Rattle.lsp_texts.specs.Texts.{AreSame, has_room, texts_in, with_text};
-ghost use Rattle.nav_lsp.specs.Held.{ComesOf, CommitsOne, GoesOn, IsReady};
-ghost use Rattle.nav_lsp.specs.Editing.{operator};
-ghost use Rattle.nav_lsp.specs.Replies.{IsChanged, IsClosed, IsPut};
+ghost use Rattle.nav_lsp.specs.{Held.{ComesOf, CommitsOne, GoesOn, IsReady}, Editing.{operator}, Replies.{IsChanged, IsClosed, IsPut}};
 
 use crate::editor::Editor;
 use graph_nodes::Steps;

@@ -3,8 +3,8 @@ ghost use Rattle.std.specs.Prelude.{◌≡◌, [], None, Some, IfOk, IfSome};
 ghost use Rattle.lsp_texts.specs.Texts.{AreSame, no_texts, texts_in};
 ghost use Rattle.version_tree.specs.Contents.{granted_rows};
 ghost use Rattle.nav_session.specs.Desks.{max_cost};
-ghost use Rattle.nav_lsp.specs.declared.phase.Phase.TheVariants as phase;
 ghost use Rattle.nav_lsp.specs.Editing.{operator};
+ghost use Rattle.nav_lsp.specs.declared.phase.Phase.TheVariants as phase;
 
 use crate::phase::Phase;
 use lsp_answers::Project;

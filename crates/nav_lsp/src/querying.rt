@@ -2,8 +2,7 @@
 ghost use Rattle.std.specs.Prelude.{◌≤◌, length, IfOk};
 ghost use Rattle.lsp_answers.specs.Queries.{IsPlaced, TellsDefinitions, TellsReferences};
 ghost use Rattle.lsp_texts.specs.Texts.{texts_in};
-ghost use Rattle.nav_lsp.specs.Editing.{files_of};
-ghost use Rattle.nav_lsp.specs.Held.{HoldsAll, IsReady};
+ghost use Rattle.nav_lsp.specs.{Editing.{files_of}, Held.{HoldsAll, IsReady}};
 
 use crate::editor::Editor;
 use lsp_answers::{ReferencesOf, place_of, tell_definitions, tell_references};

@@ -1,12 +1,9 @@
 //! Serving an editor: its messages read, answered and the replies written, until it ends.
 ghost use Rattle.std.specs.Prelude.{◌≡◌, ◌≤◌, Err, IfOk, IsTrue, if◌then◌else◌};
 ghost use Rattle.nav_io.specs.Faults.{HasRisen};
-ghost use Rattle.lsp_messages.specs.declared.halt.Halt.TheVariants as halt;
 ghost use Rattle.lsp_messages.specs.Ends.{ends_session, ends_unhindered};
-ghost use Rattle.nav_lsp.specs.Editing.{is_shut};
-ghost use Rattle.nav_lsp.specs.Held.{IsReady};
-ghost use Rattle.nav_lsp.specs.Serving.{ServesEditor};
-ghost use Rattle.nav_lsp.specs.Turns.{BeginsToEdit, HasNoEntry, IsFresh, TakesTurn, end_before, spot_at, status_at_end, status_of_end};
+ghost use Rattle.lsp_messages.specs.declared.halt.Halt.TheVariants as halt;
+ghost use Rattle.nav_lsp.specs.{Editing.{is_shut}, Held.{IsReady}, Serving.{ServesEditor}, Turns.{BeginsToEdit, HasNoEntry, IsFresh, TakesTurn, end_before, spot_at, status_at_end, status_of_end}};
 
 use crate::answering::answer_message;
 use crate::editor::{Editor, OPERATOR};

@@ -1,13 +1,9 @@
 //! A polled session as a future.
-ghost use Rattle.std.specs.Prelude.{⊤, ◌≡◌, ℕ, Some, None, IfSome, IsTrue};
-ghost use Rattle.std.specs.Thread.{IsSync};
-ghost use Rattle.futures.specs.Poll.{IfReady, OnPending};
-ghost use Rattle.futures.specs.Task.{Covers, Keeps};
+ghost use Rattle.std.specs.{Prelude.{⊤, ◌≡◌, ℕ, Some, None, IfSome, IsTrue}, Thread.{IsSync}};
+ghost use Rattle.futures.specs.{Poll.{IfReady, OnPending}, Task.{Covers, Keeps}};
 ghost use Rattle.nav_io.specs.Faults.{HasRisen};
-ghost use Rattle.nav_session.specs.Desks.{GoesOn};
-ghost use Rattle.nav_session.specs.Serving.{ends_session};
-ghost use Rattle.nav_poll.specs.Links.{NoneFell};
-ghost use Rattle.nav_poll.specs.Polling.{KeepsStarts, WaitsForLink, seen};
+ghost use Rattle.nav_session.specs.{Desks.{GoesOn}, Serving.{ends_session}};
+ghost use Rattle.nav_poll.specs.{Links.{NoneFell}, Polling.{KeepsStarts, WaitsForLink, seen}};
 
 use crate::going::go_on;
 use crate::link::Link;

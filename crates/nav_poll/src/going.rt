@@ -1,13 +1,9 @@
 //! One poll of a session: it goes on until it has ended or its link has to wait.
 ghost use Rattle.std.specs.Prelude.{◌≡◌, ◌<◌, ◌≤◌, Some, None, IfSome, IsTrue, [], true, false, length};
 ghost use Rattle.futures.specs.Poll.{IfReady, OnPending};
-ghost use Rattle.nav_io.specs.Faults.{HasRisen};
-ghost use Rattle.nav_io.specs.Lines.{line_max, HasNoNewline};
-ghost use Rattle.nav_session.specs.Desks.{GoesOn};
-ghost use Rattle.nav_session.specs.Serving.{ends_session};
-ghost use Rattle.nav_poll.specs.Links.{NoneFell};
-ghost use Rattle.nav_poll.specs.Polling.{KeepsStarts, HaveCaughtUp, WaitsForLink, seen};
-ghost use Rattle.nav_poll.specs.Turns.{DoesPart, OnlyPulls, taken_up, ended_with};
+ghost use Rattle.nav_io.specs.{Faults.{HasRisen}, Lines.{line_max, HasNoNewline}};
+ghost use Rattle.nav_session.specs.{Desks.{GoesOn}, Serving.{ends_session}};
+ghost use Rattle.nav_poll.specs.{Links.{NoneFell}, Polling.{KeepsStarts, HaveCaughtUp, WaitsForLink, seen}, Turns.{DoesPart, OnlyPulls, taken_up, ended_with}};
 
 use crate::link::Link;
 use crate::polled::Polled;

@@ -74,11 +74,9 @@ impl Counts {
 
 /// What bytes are pulled from and pushed to, as a connection or lists in memory. No call of it waits.
 pub trait Link {
-    ghost use Rattle.std.specs.Prelude.{◌≡◌, ◌<◌, ◌≤◌, ℕ, List, Option, Ok, Err, length, take};
-    ghost use Rattle.std.specs.Io.KnownBytes.{prepend_known, append_known, IsAtEnd};
+    ghost use Rattle.std.specs.{Prelude.{◌≡◌, ◌<◌, ◌≤◌, ℕ, List, Option, Ok, Err, length, take}, Io.KnownBytes.{prepend_known, append_known, IsAtEnd}};
     ghost use Rattle.nav_io.specs.Faults.{HasRisen};
-    ghost use Rattle.nav_poll.specs.declared.link.Counts.{Counts};
-    ghost use Rattle.nav_poll.specs.Links.{moved, NoneFell};
+    ghost use Rattle.nav_poll.specs.{declared.link.Counts.{Counts}, Links.{moved, NoneFell}};
 
     /// The bytes still to come, where it tells them.
     ghost left: { Self → Option (List ℕ) };

@@ -1,11 +1,7 @@
 //! A link in memory.
-ghost use Rattle.std.specs.Prelude.{◌≡◌, ◌≢◌, ◌<◌, ◌≤◌, ◌↔◌, ℕ, [], Some, Ok, Err, min, length, take, IsTrue};
-ghost use Rattle.std.specs.Io.KnownBytes.{prepend_known, append_known, IsAtEnd};
-ghost use Rattle.std.specs.List.{list_any};
-ghost use Rattle.nav_io.specs.Faults.{HasRisen, counted};
-ghost use Rattle.nav_io.specs.Mem.{fails_now};
-ghost use Rattle.nav_poll.specs.Links.{moved, NoneFell};
-ghost use Rattle.nav_poll.specs.MemLinks.{fails_next, waits_next, after_pull, after_push};
+ghost use Rattle.std.specs.{Prelude.{◌≡◌, ◌≢◌, ◌<◌, ◌≤◌, ◌↔◌, ℕ, [], Some, Ok, Err, min, length, take, IsTrue}, Io.KnownBytes.{prepend_known, append_known, IsAtEnd}, List.{list_any}};
+ghost use Rattle.nav_io.specs.{Faults.{HasRisen, counted}, Mem.{fails_now}};
+ghost use Rattle.nav_poll.specs.{Links.{moved, NoneFell}, MemLinks.{fails_next, waits_next, after_pull, after_push}};
 
 use crate::link::{Counts, Link, LinkFault, Moved};
 use nav_io::{MemSink, MemSource, Sink, SinkError, Source};

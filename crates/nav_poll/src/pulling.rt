@@ -1,11 +1,8 @@
 //! Pulling from a link what a reader has to have.
-ghost use Rattle.std.specs.Prelude.{◌≡◌, ◌≤◌, ℕ, List, Ok, Err, OnErr, false, length};
-ghost use Rattle.std.specs.Io.KnownBytes.{prepend_known};
-ghost use Rattle.nav_io.specs.Lines.{line_max};
-ghost use Rattle.nav_io.specs.Faults.{HasRisen};
+ghost use Rattle.std.specs.{Prelude.{◌≡◌, ◌≤◌, ℕ, List, Ok, Err, OnErr, false, length}, Io.KnownBytes.{prepend_known}};
+ghost use Rattle.nav_io.specs.{Lines.{line_max}, Faults.{HasRisen}};
 ghost use Rattle.nav_session.specs.declared.halt.Halt.TheVariants as halt;
-ghost use Rattle.nav_poll.specs.Links.{NoneFell};
-ghost use Rattle.nav_poll.specs.Turns.{Pulls};
+ghost use Rattle.nav_poll.specs.{Links.{NoneFell}, Turns.{Pulls}};
 
 use crate::link::{Link, LinkFault, Moved};
 use crate::went::Went;

@@ -2,8 +2,7 @@
 ghost use Rattle.std.specs.Prelude.{◌≡◌, ◌≤◌, Ok, Err, length, drop};
 ghost use Rattle.nav_io.specs.Faults.{HasRisen};
 ghost use Rattle.nav_session.specs.declared.halt.Halt.TheVariants as halt;
-ghost use Rattle.nav_poll.specs.Links.{NoneFell};
-ghost use Rattle.nav_poll.specs.Turns.{Pushes};
+ghost use Rattle.nav_poll.specs.{Links.{NoneFell}, Turns.{Pushes}};
 
 use crate::link::{Link, LinkFault, Moved};
 use crate::went::Went;

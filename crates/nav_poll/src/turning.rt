@@ -1,9 +1,8 @@
 //! The line in front of a session's reader answered.
 ghost use Rattle.std.specs.Prelude.{◌≡◌, ◌≤◌, ℕ, List, [], Option, None, Ok, Err, true, length, IfOk};
 ghost use Rattle.nav_io.specs.Lines.{line_max, HasNoNewline};
+ghost use Rattle.nav_session.specs.{Desks.{HasItsView, GoesOn, moment}, Turns.{spot}};
 ghost use Rattle.nav_session.specs.declared.halt.Halt.TheVariants as halt;
-ghost use Rattle.nav_session.specs.Desks.{HasItsView, GoesOn, moment};
-ghost use Rattle.nav_session.specs.Turns.{spot};
 ghost use Rattle.nav_poll.specs.Turns.{TakesLine};
 
 use graph_nodes::Steps;

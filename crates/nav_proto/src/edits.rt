@@ -1,7 +1,5 @@
-ghost use Rattle.std.specs.Prelude.{◌≡◌, IfOk, map, option_map, option_and_then};
-ghost use Rattle.std.specs.String.{string_bytes};
-ghost use Rattle.serde_json.specs.Find.{get, as_str};
-ghost use Rattle.serde_json.specs.View.{view};
+ghost use Rattle.std.specs.{Prelude.{◌≡◌, IfOk, map, option_map, option_and_then}, String.{string_bytes}};
+ghost use Rattle.serde_json.specs.{Find.{get, as_str}, View.{view}};
 ghost use Rattle.nav_proto.specs.Edits.{path_in, put_of, remove_of, edit_of, all_some, edits_of};
 
 use crate::members::{Form, other};

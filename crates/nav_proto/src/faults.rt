@@ -1,6 +1,5 @@
 ghost use Rattle.std.specs.Prelude.{◌≡◌, codes, string_bytes, IfOk};
-ghost use Rattle.nav_proto.specs.Faults.{fault_alone, number_inside, part_text, bad_file_text};
-ghost use Rattle.nav_proto.specs.Numbered.{numbered};
+ghost use Rattle.nav_proto.specs.{Faults.{fault_alone, number_inside, part_text, bad_file_text}, Numbered.{numbered}};
 
 use crate::reply::{FileError, ShapePart};
 use json_values::quoted_text;

@@ -1,9 +1,6 @@
 ghost use Rattle.std.specs.Prelude.{◌≡◌, ◌≤◌, IfOk, None, Some, option_map, option_and_then, codes};
-ghost use Rattle.serde_json.specs.Find.{get};
-ghost use Rattle.serde_json.specs.View.{view};
-ghost use Rattle.nav_proto.specs.Answers.{LineGives};
-ghost use Rattle.nav_proto.specs.Members.{field, optional_field};
-ghost use Rattle.nav_proto.specs.Texts.{text_of, is_path, is_prefix, is_user};
+ghost use Rattle.serde_json.specs.{Find.{get}, View.{view}};
+ghost use Rattle.nav_proto.specs.{Answers.{LineGives}, Members.{field, optional_field}, Texts.{text_of, is_path, is_prefix, is_user}};
 ghost use Rattle.json_values.specs.Numbers.{number_between, u32_of};
 
 use crate::ProtoFault;

@@ -1,11 +1,7 @@
 ghost use Rattle.std.specs.Prelude.{◌≡◌, codes, IfOk};
 ghost use Rattle.serde_json.specs.View.{view};
 ghost use Rattle.partial_path.specs.Limits.{IsInRange};
-ghost use Rattle.nav_proto.specs.Edits.{edits_of};
-ghost use Rattle.nav_proto.specs.Forms.{names_of};
-ghost use Rattle.nav_proto.specs.Answers.{LineGives};
-ghost use Rattle.nav_proto.specs.Members.{field};
-ghost use Rattle.nav_proto.specs.Requests.{rule_in, node_point, place_point, point_of, bounds_of, query_names, query_in, callers_names};
+ghost use Rattle.nav_proto.specs.{Edits.{edits_of}, Forms.{names_of}, Answers.{LineGives}, Members.{field}, Requests.{rule_in, node_point, place_point, point_of, bounds_of, query_names, query_in, callers_names}};
 
 use crate::edits::edits_in;
 use crate::fields::{bound_field, number_field, path_field, prefix_field, user_field};

@@ -1,10 +1,7 @@
 ghost use Rattle.std.specs.Prelude.{◌≡◌, ◌≢◌, ◌↔◌, ◌<◌, length, IfOk, IfErr, Ok, Err, ok_or};
 ghost use Rattle.serde_json.specs.View.{view};
 ghost use Rattle.json_values.specs.Text.{json_of};
-ghost use Rattle.nav_proto.specs.Bounded.{IsBounded};
-ghost use Rattle.nav_proto.specs.Answers.{LineGives, Shows};
-ghost use Rattle.nav_proto.specs.Requests.{request_from};
-ghost use Rattle.nav_proto.specs.NodeLine.{node_of, node_from};
+ghost use Rattle.nav_proto.specs.{Bounded.{IsBounded}, Answers.{LineGives, Shows}, Requests.{request_from}, NodeLine.{node_of, node_from}};
 
 use crate::members::Form;
 use crate::pieces::wrong;

@@ -1,9 +1,7 @@
 ghost use Rattle.std.specs.Prelude.{◌≡◌, option_map};
 ghost use Rattle.serde_json.specs.View.{view};
 ghost use Rattle.json_values.specs.Members.{is_among, other_in};
-ghost use Rattle.nav_proto.specs.Forms.{names_of};
-ghost use Rattle.nav_proto.specs.Answers.{LineGives};
-ghost use Rattle.nav_proto.specs.Members.{with_only};
+ghost use Rattle.nav_proto.specs.{Forms.{names_of}, Answers.{LineGives}, Members.{with_only}};
 
 use crate::ProtoFault;
 use crate::pieces::wrong;

@@ -1,7 +1,5 @@
-ghost use Rattle.std.specs.Prelude.{◌≡◌, nat_le};
-ghost use Rattle.std.specs.List.{list_all, slice_split};
-ghost use Rattle.nav_proto.specs.Answers.{Names};
-ghost use Rattle.nav_proto.specs.Texts.{has_bytes, is_slash, is_part, is_path, is_prefix, is_user};
+ghost use Rattle.std.specs.{Prelude.{◌≡◌, nat_le}, List.{list_all, slice_split}};
+ghost use Rattle.nav_proto.specs.{Answers.{Names}, Texts.{has_bytes, is_slash, is_part, is_path, is_prefix, is_user}};
 
 use crate::{ProtoFault, ReplyText};
 use std::alloc::Global;

@@ -1,8 +1,6 @@
 ghost use Rattle.std.specs.Prelude.{◌≡◌, IfOk};
 ghost use Rattle.serde_json.specs.View.{view};
-ghost use Rattle.nav_proto.specs.Bounded.{IsBounded};
-ghost use Rattle.nav_proto.specs.Answers.{LineGives};
-ghost use Rattle.nav_proto.specs.Requests.{hello_of, bare_of, commit_of, rule_of, query_of, callers_of, request_of};
+ghost use Rattle.nav_proto.specs.{Bounded.{IsBounded}, Answers.{LineGives}, Requests.{hello_of, bare_of, commit_of, rule_of, query_of, callers_of, request_of}};
 
 use crate::fields::{base_field, path_field, user_field};
 use crate::forms::{callers_form, edits_field, point, query, rule};

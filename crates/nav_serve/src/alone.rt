@@ -1,10 +1,7 @@
 //! The words run on a board of their own, which no other session sees.
 ghost use Rattle.std.specs.Prelude.{◌≡◌, ◌<◌, false, IsTrue};
-ghost use Rattle.nav_doors.specs.Connections.{outside};
-ghost use Rattle.nav_doors.specs.Houses.{house_with};
-ghost use Rattle.nav_serve.specs.Words.{command_in};
-ghost use Rattle.nav_serve.specs.Outside.{seen_at};
-ghost use Rattle.nav_serve.specs.Headline.{KeepsAlone, refuses, used_by};
+ghost use Rattle.nav_doors.specs.{Connections.{outside}, Houses.{house_with}};
+ghost use Rattle.nav_serve.specs.{Words.{command_in}, Outside.{seen_at}, Headline.{KeepsAlone, refuses, used_by}};
 
 use crate::running::run;
 use crate::words::command_or_status;

@@ -1,8 +1,6 @@
-ghost use Rattle.std.specs.Prelude.{◌≡◌, ℕ, List, Option, Result, Ok, Err, IfOk, OnErr};
-ghost use Rattle.std.specs.Option.{option_copied};
+ghost use Rattle.std.specs.{Prelude.{◌≡◌, ℕ, List, Option, Result, Ok, Err, IfOk, OnErr}, Option.{option_copied}};
 ghost use Rattle.nav_proto.specs.declared.reply.Reply.TheVariants.{BadFile};
-ghost use Rattle.nav_serve.specs.Files.{graph_line};
-ghost use Rattle.nav_serve.specs.Refused.{AnswersAs, parts};
+ghost use Rattle.nav_serve.specs.{Files.{graph_line}, Refused.{AnswersAs, parts}};
 
 use graph_nodes::FileGraph;
 use index_gate::{FileFault, ReadFault, read_document};

@@ -1,8 +1,6 @@
 ghost use Rattle.std.specs.Prelude.{◌≡◌, [], ◌∷◌, IfOk, IfErr, OnOk, OnErr};
-ghost use Rattle.partial_path.specs.Spots.{node_at};
-ghost use Rattle.partial_path.specs.Step.{start};
-ghost use Rattle.nav_proto.specs.declared.reply.Reply.TheVariants.{Plain};
-ghost use Rattle.nav_proto.specs.declared.reply.PlainError.TheVariants.{Crowded};
+ghost use Rattle.partial_path.specs.{Spots.{node_at}, Step.{start}};
+ghost use Rattle.nav_proto.specs.{declared.reply.Reply.TheVariants.{Plain}, declared.reply.PlainError.TheVariants.{Crowded}};
 ghost use Rattle.nav_session.specs.declared.halt.Halt.TheVariants as halt;
 ghost use Rattle.nav_serve.specs.Once.{AnswersFrom, answer_of, span_at};
 

@@ -1,11 +1,8 @@
 ghost use Rattle.std.specs.Prelude.{◌≡◌, ◌≤◌, ℕ, Err};
 ghost use Rattle.nav_io.specs.Faults.{HasRisen};
+ghost use Rattle.nav_serve.specs.{Files.{graph_line}, Once.{node_line}, Reads.{ReadsAs}, Refused.{parts}};
 ghost use Rattle.nav_serve.specs.declared.file.Refused.TheVariants as refused;
 ghost use Rattle.nav_session.specs.declared.halt.Halt.TheVariants as halt;
-ghost use Rattle.nav_serve.specs.Files.{graph_line};
-ghost use Rattle.nav_serve.specs.Once.{node_line};
-ghost use Rattle.nav_serve.specs.Reads.{ReadsAs};
-ghost use Rattle.nav_serve.specs.Refused.{parts};
 
 use crate::file::{Refused, graph_line};
 use crate::node_line::node_line;

@@ -1,8 +1,8 @@
 //! Laws on what the commands do.
 ghost use Rattle.nav_doors.specs.Connections.{outside};
+ghost use Rattle.nav_serve.specs.Laws.{BadWordsAreNoCommand, CommandsHaveOneOutput, IsTask};
 ghost use Rattle.nav_serve.specs.declared.words.Command.TheVariants as command;
 ghost use Rattle.nav_serve.specs.declared.tasks.Task.TheVariants as task;
-ghost use Rattle.nav_serve.specs.Laws.{BadWordsAreNoCommand, CommandsHaveOneOutput, IsTask};
 
 use nav_demo::trees_have_one_summary;
 use nav_io::Door;

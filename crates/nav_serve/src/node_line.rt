@@ -1,8 +1,5 @@
-ghost use Rattle.std.specs.Prelude.{◌≡◌};
-ghost use Rattle.std.specs.Option.{option_copied};
-ghost use Rattle.nav_serve.specs.NodeLine.{refusal_of};
-ghost use Rattle.nav_serve.specs.Once.{node_line};
-ghost use Rattle.nav_serve.specs.Refused.{AnswersAs};
+ghost use Rattle.std.specs.{Prelude.{◌≡◌}, Option.{option_copied}};
+ghost use Rattle.nav_serve.specs.{NodeLine.{refusal_of}, Once.{node_line}, Refused.{AnswersAs}};
 
 use crate::file::Refused;
 use nav_proto::{PlainError, ProtoFault, Reply, ReplyText, read_node};

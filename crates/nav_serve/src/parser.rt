@@ -1,7 +1,6 @@
 //! The command line, as `clap` is told it.
 ghost use Rattle.std.specs.Prelude.{◌≡◌, false, IfOk};
-ghost use Rattle.clap.specs.Words.{app_of};
-ghost use Rattle.clap.specs.declared.builder.command.Command.TheViews.{out-Command as fields_of};
+ghost use Rattle.clap.specs.{Words.{app_of}, declared.builder.command.Command.TheViews.{out-Command as fields_of}};
 ghost use Rattle.nav_serve.specs.CommandLine.{command_line, demo_line, serve_line};
 
 use clap::{Arg, Command};

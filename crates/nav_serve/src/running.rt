@@ -1,10 +1,7 @@
 //! The whole program, but for making the outside.
 ghost use Rattle.std.specs.Prelude.{◌≡◌, false};
-ghost use Rattle.nav_doors.specs.Connections.{outside};
-ghost use Rattle.nav_doors.specs.Houses.{house_with};
-ghost use Rattle.nav_serve.specs.Words.{command_of, texts};
-ghost use Rattle.nav_serve.specs.Outside.{seen_at, scene};
-ghost use Rattle.nav_serve.specs.Headline.{Keeps, used_by};
+ghost use Rattle.nav_doors.specs.{Connections.{outside}, Houses.{house_with}};
+ghost use Rattle.nav_serve.specs.{Words.{command_of, texts}, Outside.{seen_at, scene}, Headline.{Keeps, used_by}};
 
 use crate::session::run_session;
 use crate::tasks::{Task, perform};

@@ -2,10 +2,7 @@
 ghost use Rattle.std.specs.Prelude.{◌≡◌, ◌≤◌, Err};
 ghost use Rattle.nav_io.specs.Faults.{HasRisen};
 ghost use Rattle.nav_session.specs.declared.halt.Halt.TheVariants as halt;
-ghost use Rattle.nav_serve.specs.Ended.{status_after};
-ghost use Rattle.nav_serve.specs.Outside.{EndsSo, seen_at};
-ghost use Rattle.nav_serve.specs.Performed.{DoesTask, EndsTask, task_ends};
-ghost use Rattle.nav_serve.specs.Serving.{AnswersText, Serves};
+ghost use Rattle.nav_serve.specs.{Ended.{status_after}, Outside.{EndsSo, seen_at}, Performed.{DoesTask, EndsTask, task_ends}, Serving.{AnswersText, Serves}};
 
 use crate::once_input::once_text;
 use crate::upgrade_input::upgrade_text;

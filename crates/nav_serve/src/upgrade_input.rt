@@ -1,9 +1,9 @@
 //! What answers the input of `upgrade`.
 ghost use Rattle.std.specs.Prelude.{◌≡◌, ◌≤◌, ℕ, Err};
 ghost use Rattle.nav_io.specs.Faults.{HasRisen};
+ghost use Rattle.nav_serve.specs.Serving.{AnswersText};
 ghost use Rattle.nav_serve.specs.declared.tasks.Task.TheVariants as task;
 ghost use Rattle.nav_session.specs.declared.halt.Halt.TheVariants as halt;
-ghost use Rattle.nav_serve.specs.Serving.{AnswersText};
 
 use crate::input_lines::read_graph_line;
 use graph_json::print_named;

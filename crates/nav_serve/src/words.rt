@@ -1,10 +1,6 @@
-ghost use Rattle.std.specs.Prelude.{◌≡◌, ◌⊎◌, None, Some, IfOk, IfErr};
-ghost use Rattle.std.specs.List.{list_any};
-ghost use Rattle.std.specs.String.{string_bytes};
+ghost use Rattle.std.specs.{Prelude.{◌≡◌, ◌⊎◌, None, Some, IfOk, IfErr}, List.{list_any}, String.{string_bytes}};
 ghost use Rattle.clap.specs.Words.{found_of, rows_of, subcommand_rows_of};
-ghost use Rattle.nav_serve.specs.CommandLine.{chosen, chosen_of, has_hyphen, number_at};
-ghost use Rattle.nav_serve.specs.Ended.{or_status};
-ghost use Rattle.nav_serve.specs.Words.{command_named, command_of, demo_of, number_of, serve_of, spelled, with_digit, texts};
+ghost use Rattle.nav_serve.specs.{CommandLine.{chosen, chosen_of, has_hyphen, number_at}, Ended.{or_status}, Words.{command_named, command_of, demo_of, number_of, serve_of, spelled, with_digit, texts}};
 
 use crate::parser::command_line;
 use clap::ArgMatches;

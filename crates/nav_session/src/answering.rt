@@ -1,11 +1,7 @@
 ghost use Rattle.std.specs.Prelude.{◌≡◌, ◌≤◌, ◌+◌, ℕ, [], false, IfOk, OnOk, OnErr};
 ghost use Rattle.index_gate.specs.Indexed.{AreDocWeights, docs_of, missing};
 ghost use Rattle.nav_proto.specs.Replies.{reply_text};
-ghost use Rattle.nav_session.specs.Requests.{docs_of_line, docs_of_request, quits, is_quit};
-ghost use Rattle.nav_session.specs.Sessions.{IsAnswered};
-ghost use Rattle.nav_session.specs.Transcripts.{with_newline};
-ghost use Rattle.nav_session.specs.Desks.{HasItsView, KeepsDocs, Answers, Replies, GoesOn, IsLeftOff, moment_at};
-ghost use Rattle.nav_session.specs.Inside.{AnswersWith, ComesOf, Counts};
+ghost use Rattle.nav_session.specs.{Requests.{docs_of_line, docs_of_request, quits, is_quit}, Sessions.{IsAnswered}, Transcripts.{with_newline}, Desks.{HasItsView, KeepsDocs, Answers, Replies, GoesOn, IsLeftOff, moment_at}, Inside.{AnswersWith, ComesOf, Counts}};
 
 use crate::asking::{at_of, callers, define, references};
 use crate::committing::commit;

@@ -1,10 +1,7 @@
 ghost use Rattle.std.specs.Prelude.{◌≡◌};
 ghost use Rattle.nav_answers.specs.Replies.{IsDefineReply, IsReferencesReply};
 ghost use Rattle.partial_path.specs.Limits.{IsInRange};
-ghost use Rattle.nav_session.specs.Requests.{at_of};
-ghost use Rattle.nav_session.specs.Sessions.{Finds, FindsCallers};
-ghost use Rattle.nav_session.specs.Desks.{HasItsView, moment_at};
-ghost use Rattle.nav_session.specs.Inside.{Asks};
+ghost use Rattle.nav_session.specs.{Requests.{at_of}, Sessions.{Finds, FindsCallers}, Desks.{HasItsView, moment_at}, Inside.{Asks}};
 
 use crate::desk::Desk;
 use crate::means::Means;

@@ -2,11 +2,7 @@ ghost use Rattle.std.specs.Prelude.{◌≡◌, ◌≢◌, IfOk, OnErr, MatchBool
 ghost use Rattle.version_board.specs.Logs.{own};
 ghost use Rattle.index_gate.specs.declared.fault.IndexFault.TheVariants as why;
 ghost use Rattle.nav_proto.specs.declared.reply.Reply.TheVariants.{BadFile};
-ghost use Rattle.nav_session.specs.BadFiles.{file_error};
-ghost use Rattle.nav_session.specs.Requests.{docs_in};
-ghost use Rattle.nav_session.specs.Sessions.{IfOperator, IsCommitted};
-ghost use Rattle.nav_session.specs.Desks.{Replies, GoesOn, HasItsView, AddsDocs, AddsOnly, is_indexed, moment_at};
-ghost use Rattle.nav_session.specs.Inside.{ComesOf, CommitsAs, Counts, PutsIn, filled};
+ghost use Rattle.nav_session.specs.{BadFiles.{file_error}, Requests.{docs_in}, Sessions.{IfOperator, IsCommitted}, Desks.{Replies, GoesOn, HasItsView, AddsDocs, AddsOnly, is_indexed, moment_at}, Inside.{ComesOf, CommitsAs, Counts, PutsIn, filled}};
 
 use crate::bad_file::file_error;
 use crate::desk::Desk;

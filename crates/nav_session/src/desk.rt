@@ -1,8 +1,7 @@
 ghost use Rattle.std.specs.Prelude.{◌≡◌, ◌≤◌, ◌*◌, [], None, Some, is_some, IfOk, IfSome, if◌then◌else◌};
 ghost use Rattle.path_store.specs.Store.{swept};
 ghost use Rattle.version_tree.specs.Contents.{granted_rows};
-ghost use Rattle.nav_session.specs.Desks.{is_accepted, max_cost, share, shared_cost};
-ghost use Rattle.nav_session.specs.Inside.{change_refusal};
+ghost use Rattle.nav_session.specs.{Desks.{is_accepted, max_cost, share, shared_cost}, Inside.{change_refusal}};
 
 use nav_answers::{AskedView, EndIndex};
 use nav_proto::{PlainError, Reply};

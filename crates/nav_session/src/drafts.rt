@@ -1,7 +1,6 @@
 ghost use Rattle.std.specs.Prelude.{◌≡◌, ◌++◌, map, IfOk};
 ghost use Rattle.path_store.specs.Documents.{doc_of};
-ghost use Rattle.nav_session.specs.Requests.{docs_in};
-ghost use Rattle.nav_session.specs.Inside.{draft_of, filled};
+ghost use Rattle.nav_session.specs.{Requests.{docs_in}, Inside.{draft_of, filled}};
 
 use nav_proto::{DocText, Edits, FileEdit};
 use partial_path::SharedPaths;

@@ -1,8 +1,6 @@
 ghost use Rattle.std.specs.Prelude.{◌≡◌, ℕ, List, length, Some, None, true, false, IfOk, OnErr};
 ghost use Rattle.version_board.specs.Logs.{own};
-ghost use Rattle.nav_session.specs.Sessions.{IsJudged, IsRuled, asker_of};
-ghost use Rattle.nav_session.specs.Desks.{Replies, GoesOn, HasItsView, is_accepted, is_indexed, moment_at, session_at};
-ghost use Rattle.nav_session.specs.Inside.{ComesOf};
+ghost use Rattle.nav_session.specs.{Sessions.{IsJudged, IsRuled, asker_of}, Desks.{Replies, GoesOn, HasItsView, is_accepted, is_indexed, moment_at, session_at}, Inside.{ComesOf}};
 
 use crate::desk::Desk;
 use crate::means::Means;

@@ -1,6 +1,5 @@
 ghost use Rattle.version_board.specs.Core.{CoreLaw};
-ghost use Rattle.nav_session.specs.Exchanges.{IsDue, QueriesAreAskedAtPin};
-ghost use Rattle.nav_session.specs.Laws.{FirstLinesHaveOneScript, LinesHaveOneScript};
+ghost use Rattle.nav_session.specs.{Exchanges.{IsDue, QueriesAreAskedAtPin}, Laws.{FirstLinesHaveOneScript, LinesHaveOneScript}};
 
 use crate::exchange::Replied;
 use nav_answers::{callers_have_one_reply, queries_have_one_reply};

@@ -1,10 +1,8 @@
-ghost use Rattle.std.specs.Prelude.{◌≡◌, ◌≤◌, ℕ, List, OnOk, OnErr, IfOk, IfErr, Err};
-ghost use Rattle.std.specs.Io.KnownBytes.{append_known};
-ghost use Rattle.nav_io.specs.Faults.{HasRisen};
-ghost use Rattle.nav_io.specs.Write.{HoldsPrefix};
+ghost use Rattle.std.specs.{Prelude.{◌≡◌, ◌≤◌, ℕ, List, OnOk, OnErr, IfOk, IfErr, Err}, Io.KnownBytes.{append_known}};
+ghost use Rattle.nav_io.specs.{Faults.{HasRisen}, Write.{HoldsPrefix}};
 ghost use Rattle.nav_proto.specs.Replies.{reply_text};
-ghost use Rattle.nav_session.specs.declared.halt.Halt.TheVariants as halt;
 ghost use Rattle.nav_session.specs.Transcripts.{with_newline};
+ghost use Rattle.nav_session.specs.declared.halt.Halt.TheVariants as halt;
 
 use crate::halt::Halt;
 use nav_io::{Sink, write_all};

@@ -1,8 +1,7 @@
 ghost use Rattle.std.specs.Prelude.{◌≡◌, ℕ, List, length, Some, None};
 ghost use Rattle.version_board.specs.Logs.{own};
+ghost use Rattle.nav_session.specs.{Sessions.{IfNamed}, Desks.{Replies, GoesOn, HasItsView, moment_at, session_at}};
 ghost use Rattle.nav_session.specs.Sessions as sessions;
-ghost use Rattle.nav_session.specs.Sessions.{IfNamed};
-ghost use Rattle.nav_session.specs.Desks.{Replies, GoesOn, HasItsView, moment_at, session_at};
 
 use crate::desk::Desk;
 use nav_proto::{PlainError, Reply};

@@ -1,9 +1,6 @@
-ghost use Rattle.std.specs.Prelude.{◌≡◌, ◌≤◌, [], OnErr, IfOk, false};
-ghost use Rattle.std.specs.String.{string_bytes, string_len, string_capacity};
-ghost use Rattle.nav_proto.specs.declared.reply.Reply.TheVariants.{Version};
-ghost use Rattle.nav_proto.specs.Replies.{reply_text};
-ghost use Rattle.nav_session.specs.Transcripts.{with_newline};
-ghost use Rattle.nav_session.specs.Desks.{is_accepted};
+ghost use Rattle.std.specs.{Prelude.{◌≡◌, ◌≤◌, [], OnErr, IfOk, false}, String.{string_bytes, string_len, string_capacity}};
+ghost use Rattle.nav_proto.specs.{declared.reply.Reply.TheVariants.{Version}, Replies.{reply_text}};
+ghost use Rattle.nav_session.specs.{Transcripts.{with_newline}, Desks.{is_accepted}};
 
 use itoa::Buffer;
 use nav_proto::{Reply, ReplyText, print_reply};

@@ -1,11 +1,8 @@
 //! Serving a session: its lines read, answered and the replies written, until it ends.
-ghost use Rattle.std.specs.Prelude.{◌≡◌, ◌≤◌, ℕ, None, Err, IsTrue};
-ghost use Rattle.std.specs.Option.{option_copied};
+ghost use Rattle.std.specs.{Prelude.{◌≡◌, ◌≤◌, ℕ, None, Err, IsTrue}, Option.{option_copied}};
 ghost use Rattle.nav_io.specs.Faults.{HasRisen};
+ghost use Rattle.nav_session.specs.{Desks.{HasItsView, moment_at}, Serving.{ServesAtDesk, standing, ends_session, ends_unhindered}, Turns.{TakesTurn, LeavesStore, LooksOn, end_before, spot, status_at_end, status_of_end}};
 ghost use Rattle.nav_session.specs.declared.halt.Halt.TheVariants as halt;
-ghost use Rattle.nav_session.specs.Desks.{HasItsView, moment_at};
-ghost use Rattle.nav_session.specs.Serving.{ServesAtDesk, standing, ends_session, ends_unhindered};
-ghost use Rattle.nav_session.specs.Turns.{TakesTurn, LeavesStore, LooksOn, end_before, spot, status_at_end, status_of_end};
 
 use crate::answering::answer_line;
 use crate::desk::Desk;

@@ -1,9 +1,5 @@
-ghost use Rattle.std.specs.Prelude.{◌≡◌, ◌&&◌, IfOk, IsTrue};
-ghost use Rattle.std.specs.Option.{is_some};
-ghost use Rattle.partial_path.specs.Same.{spot_eq};
-ghost use Rattle.partial_path.specs.Rules.{start_spot};
-ghost use Rattle.partial_path.specs.Apply.{match_stacks, apply};
-ghost use Rattle.partial_path.specs.Moved.{moved, moved_start, moved_pre, Fits};
+ghost use Rattle.std.specs.{Prelude.{◌≡◌, ◌&&◌, IfOk, IsTrue}, Option.{is_some}};
+ghost use Rattle.partial_path.specs.{Same.{spot_eq}, Rules.{start_spot}, Apply.{match_stacks, apply}, Moved.{moved, moved_start, moved_pre, Fits}};
 
 use crate::config::Spot;
 use crate::filling::Met;

@@ -28,8 +28,7 @@ pub struct FileList {
 
 impl Model for FileList {
     ghost use Rattle.std.specs.Prelude.{List};
-    ghost use Rattle.partial_path.specs.PathSets.{FileRules};
-    ghost use Rattle.partial_path.specs.Inside.{AreStored};
+    ghost use Rattle.partial_path.specs.{PathSets.{FileRules}, Inside.{AreStored}};
 
     ghost Value = { List FileRules };
 
@@ -80,8 +79,7 @@ impl FileList {
 }
 
 impl PathSource for FileList {
-    ghost use Rattle.partial_path.specs.Sources.{rules_from};
-    ghost use Rattle.partial_path.specs.Offers.{list_offers_left};
+    ghost use Rattle.partial_path.specs.{Sources.{rules_from}, Offers.{list_offers_left}};
 
     ghost files = { λ l. l };
 
@@ -132,11 +130,7 @@ impl PathSource for FileList {
 
 ghost use Rattle.std.specs.Prelude.{◌≡◌, ◌≤◌, ◌^◌, List, [], ◌∷◌, length, IfSome, MatchOption, All};
 ghost use Rattle.stacks_vars.specs.declared.items.SymbolItem.{SymbolItem};
-ghost use Rattle.partial_path.specs.PathSets.{FileRules};
-ghost use Rattle.partial_path.specs.Spots.{node_at};
-ghost use Rattle.partial_path.specs.Inside.{file_of, start_inside};
-ghost use Rattle.partial_path.specs.Offers.{is_shared, list_offers_left, offers_behind, offers_here};
-ghost use Rattle.partial_path.specs.Sources.{IsSourceFile, rules_offered};
+ghost use Rattle.partial_path.specs.{PathSets.{FileRules}, Spots.{node_at}, Inside.{file_of, start_inside}, Offers.{is_shared, list_offers_left, offers_behind, offers_here}, Sources.{IsSourceFile, rules_offered}};
 
 /// Before the first path that the files offer at the start: at a start of one file in that file, at the root
 /// in the first.

@@ -28,9 +28,7 @@ pub struct FilePaths {
 }
 
 impl Model for FilePaths {
-    ghost use Rattle.partial_path.specs.PathSets.{FileRules, file_rules};
-    ghost use Rattle.partial_path.specs.Ends.{AreEndMarks};
-    ghost use Rattle.partial_path.specs.Inside.{IsStored};
+    ghost use Rattle.partial_path.specs.{PathSets.{FileRules, file_rules}, Ends.{AreEndMarks}, Inside.{IsStored}};
 
     ghost Value = { FileRules };
 
@@ -42,20 +40,9 @@ impl Model for FilePaths {
 }
 
 impl FilePaths {
-    ghost use Rattle.std.specs.Prelude.{◌≡◌, ◌≤◌, ◌<◌, [], ◌∷◌, length, take, slice_get, option_map, Some, IfOk, IfSome, MatchOption, IsPermutation};
-    ghost use Rattle.std.specs.Option.{option_and_then};
-    ghost use Rattle.graph_nodes.specs.declared.node.Node.{Node};
-    ghost use Rattle.graph_nodes.specs.Graph.{is_definition, is_exported, is_reference};
-    ghost use Rattle.graph_nodes.specs.Spans.{spans_from};
-    ghost use Rattle.graph_nodes.specs.Checked.{IsChecked};
-    ghost use Rattle.graph_nodes.specs.Cut.{is_cut};
-    ghost use Rattle.graph_nodes.specs.Out.{edges_from};
-    ghost use Rattle.partial_path.specs.PathSets.{AreFileRules, IsPathSet};
-    ghost use Rattle.partial_path.specs.Walks.{IsWeight};
-    ghost use Rattle.partial_path.specs.Starts.{IsByStart, rules_at};
-    ghost use Rattle.partial_path.specs.Keys.{IsByKey, key_size, rules_asking, texts};
-    ghost use Rattle.partial_path.specs.Offers.{offers_left};
-    ghost use Rattle.partial_path.specs.Ends.{end_marks, ends_at_root, ends_by_stack};
+    ghost use Rattle.std.specs.{Prelude.{◌≡◌, ◌≤◌, ◌<◌, [], ◌∷◌, length, take, slice_get, option_map, Some, IfOk, IfSome, MatchOption, IsPermutation}, Option.{option_and_then}};
+    ghost use Rattle.graph_nodes.specs.{declared.node.Node.{Node}, Graph.{is_definition, is_exported, is_reference}, Spans.{spans_from}, Checked.{IsChecked}, Cut.{is_cut}, Out.{edges_from}};
+    ghost use Rattle.partial_path.specs.{PathSets.{AreFileRules, IsPathSet}, Walks.{IsWeight}, Starts.{IsByStart, rules_at}, Keys.{IsByKey, key_size, rules_asking, texts}, Offers.{offers_left}, Ends.{end_marks, ends_at_root, ends_by_stack}};
 
     /// The paths of this file, sorted by their starts, and those of one start by their keys, with their parts
     /// put together in pools. The one error is want of memory for these, or of numbers for so many parts.

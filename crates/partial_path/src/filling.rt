@@ -1,8 +1,5 @@
-ghost use Rattle.std.specs.Prelude.{◌≡◌, ◌+◌, ◌++◌, [], map, drop, length, All, IfOk, IsTrue, OnOk, slice_get};
-ghost use Rattle.std.specs.Option.{option_map_or};
-ghost use Rattle.partial_path.specs.Apply.{tail_scopes, fill_scopes, fill_item};
-ghost use Rattle.partial_path.specs.Left.{left_attached, left_items, left_by};
-ghost use Rattle.partial_path.specs.Moved.{moved_node, moved_scopes_out, moved_symbol_out, FitsNode, FitsSymbol};
+ghost use Rattle.std.specs.{Prelude.{◌≡◌, ◌+◌, ◌++◌, [], map, drop, length, All, IfOk, IsTrue, OnOk, slice_get}, Option.{option_map_or}};
+ghost use Rattle.partial_path.specs.{Apply.{tail_scopes, fill_scopes, fill_item}, Left.{left_attached, left_items, left_by}, Moved.{moved_node, moved_scopes_out, moved_symbol_out, FitsNode, FitsSymbol}};
 
 use crate::lent_config::LentConfig;
 use stacks_vars::{LentItem, LentStack, NodeAt, ScopeOut, ScopeStack, SymOut, SymPat, Tail};

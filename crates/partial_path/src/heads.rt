@@ -1,7 +1,6 @@
 //! The heads of the first symbols that paths ask for: most paths are told apart by them, with no look at the paths.
 ghost use Rattle.std.specs.Prelude.{◌≤◌, ◌<◌, length, slice_get, IfOk};
-ghost use Rattle.partial_path.specs.Heads.{AreFirstHeads, AreLess, AreNoLess, IsHeadAt, Rise};
-ghost use Rattle.partial_path.specs.Keys.{key, texts};
+ghost use Rattle.partial_path.specs.{Heads.{AreFirstHeads, AreLess, AreNoLess, IsHeadAt, Rise}, Keys.{key, texts}};
 
 use crate::halving::middle_of;
 use crate::slots::{KEY_SIZE, asked_at, symbol_at};

@@ -1,9 +1,5 @@
 ghost use Rattle.std.specs.Prelude.{◌≡◌};
-ghost use Rattle.partial_path.specs.declared.bounds.TheConstants.{MAX_RUNS};
-ghost use Rattle.partial_path.specs.declared.slots.TheConstants.{KEY_SIZE};
-ghost use Rattle.partial_path.specs.Limits.{max_runs};
-ghost use Rattle.partial_path.specs.Keys.{key_size};
-ghost use Rattle.partial_path.specs.Laws.{AppliedRulesAreOffered, AreOwnOffers, BeginningsAreCut, CountedRunsAreCut, CutPrefixesAreClosed, CutsAreUnique, CyclesAreCut, JoinedBounds, LandingsTell, MovedRulesAreRuns, MovedStartsAreStarts, NoEdgesNoWalks, OfferedRulesAreStored, PathsAreRuns, ReturnsAreStarts, RunsEndInFiles};
+ghost use Rattle.partial_path.specs.{declared.bounds.TheConstants.{MAX_RUNS}, declared.slots.TheConstants.{KEY_SIZE}, Limits.{max_runs}, Keys.{key_size}, Laws.{AppliedRulesAreOffered, AreOwnOffers, BeginningsAreCut, CountedRunsAreCut, CutPrefixesAreClosed, CutsAreUnique, CyclesAreCut, JoinedBounds, LandingsTell, MovedRulesAreRuns, MovedStartsAreStarts, NoEdgesNoWalks, OfferedRulesAreStored, PathsAreRuns, ReturnsAreStarts, RunsEndInFiles}};
 
 /// A law: where a counted run has been followed up to one of its cut edges, that prefix is a closed and
 /// straight run itself.

@@ -22,8 +22,7 @@ struct Standing<'a> {
 }
 
 impl<'a> Model for LentConfig<'a> {
-    ghost use Rattle.partial_path.specs.declared.config.Config.{Config};
-    ghost use Rattle.partial_path.specs.Spots.{standing_at};
+    ghost use Rattle.partial_path.specs.{declared.config.Config.{Config}, Spots.{standing_at}};
     ghost use Rattle.stacks_vars.specs.Enter.{stacks_of};
 
     ghost Value = { Config };
@@ -34,11 +33,7 @@ impl<'a> Model for LentConfig<'a> {
 
 impl<'a> LentConfig<'a> {
     ghost use Rattle.std.specs.Prelude.{◌≡◌, ◌++◌, ◌↔◌, [], map, drop, length, All, IfOk, OnOk, IsTrue};
-    ghost use Rattle.partial_path.specs.Spots.{standing_at};
-    ghost use Rattle.partial_path.specs.Same.{config_eq};
-    ghost use Rattle.partial_path.specs.Apply.{end_at, fill_item, tail_scopes};
-    ghost use Rattle.partial_path.specs.Left.{left_by};
-    ghost use Rattle.partial_path.specs.Moved.{moved_end, moved_node, moved_symbol_out, FitsEnd, FitsNode, FitsSymbol};
+    ghost use Rattle.partial_path.specs.{Spots.{standing_at}, Same.{config_eq}, Apply.{end_at, fill_item, tail_scopes}, Left.{left_by}, Moved.{moved_end, moved_node, moved_symbol_out, FitsEnd, FitsNode, FitsSymbol}};
     ghost use Rattle.stacks_vars.specs.Enter.{no_stacks, stacks_of};
 
     /// At that spot with no stacks; the one error is want of memory.

@@ -2,9 +2,7 @@
 
 ghost use Rattle.std.specs.Prelude.{◌≡◌, ◌≤◌, ◌+◌, ◌^◌, length, slice_get, option_copied, filter, IfNone, MatchOption, false};
 ghost use Rattle.stacks_vars.specs.Same.{node_eq};
-ghost use Rattle.partial_path.specs.Moved.{moved_node, moved_start};
-ghost use Rattle.partial_path.specs.Starts.{start_eq};
-ghost use Rattle.partial_path.specs.Sources.{asks_rule, begins_in, rules_from};
+ghost use Rattle.partial_path.specs.{Moved.{moved_node, moved_start}, Starts.{start_eq}, Sources.{asks_rule, begins_in, rules_from}};
 
 use crate::config::Spot;
 use crate::file_paths::FilePaths;

@@ -1,8 +1,6 @@
-ghost use Rattle.std.specs.Prelude.{◌≡◌, ◌&&◌, map, take, reverse, Some, None};
-ghost use Rattle.std.specs.Option.{option_map, is_some};
+ghost use Rattle.std.specs.{Prelude.{◌≡◌, ◌&&◌, map, take, reverse, Some, None}, Option.{option_map, is_some}};
 ghost use Rattle.stacks_vars.specs.Same.{node_eq};
-ghost use Rattle.partial_path.specs.Apply.{after_fixed, match_item, match_items};
-ghost use Rattle.partial_path.specs.Moved.{moved_node, moved_symbol};
+ghost use Rattle.partial_path.specs.{Apply.{after_fixed, match_item, match_items}, Moved.{moved_node, moved_symbol}};
 
 use stacks_vars::{LentItem, LentStack, NodeAt, ScopeStack, SymPat};
 

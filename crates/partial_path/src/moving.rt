@@ -1,7 +1,5 @@
 ghost use Rattle.std.specs.Prelude.{◌≡◌, ℕ, map, option_map, All, IfOk, IfSome};
-ghost use Rattle.partial_path.specs.Moved.{moved, moved_node, moved_edge, moved_start, moved_end, moved_scopes, moved_symbol, moved_pre, moved_scopes_out, moved_symbol_out, moved_post, Fits, FitsNode, FitsEnd};
-ghost use Rattle.partial_path.specs.Pooled.{pre_of, post_of};
-ghost use Rattle.partial_path.specs.FileNumbers.{FitsFile, own_edge, StartIn, AskedIn, MadeIn, CanMove, FileZeroMoves};
+ghost use Rattle.partial_path.specs.{Moved.{moved, moved_node, moved_edge, moved_start, moved_end, moved_scopes, moved_symbol, moved_pre, moved_scopes_out, moved_symbol_out, moved_post, Fits, FitsNode, FitsEnd}, Pooled.{pre_of, post_of}, FileNumbers.{FitsFile, own_edge, StartIn, AskedIn, MadeIn, CanMove, FileZeroMoves}};
 
 use crate::config::EdgeAt;
 use crate::filling::moved_node;

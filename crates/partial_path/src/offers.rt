@@ -1,12 +1,6 @@
 //! Taking what a file offers at a start to a stack of symbols, path by path.
-ghost use Rattle.std.specs.Prelude.{◌≡◌, ◌≤◌, ◌<◌, [], ◌∷◌, length, slice_get, true, IfSome, MatchOption};
-ghost use Rattle.std.specs.List.{AllWithin};
-ghost use Rattle.partial_path.specs.Heads.{AreFirstHeads, AreHeadsBelow, AreNoLess, IsHeadAt};
-ghost use Rattle.partial_path.specs.Inside.{IsAfter, IsNextOffer};
-ghost use Rattle.partial_path.specs.Keys.{IsByKey, texts};
-ghost use Rattle.partial_path.specs.Offers.{offers_left};
-ghost use Rattle.partial_path.specs.Starts.{begins_at};
-ghost use Rattle.partial_path.specs.Tables.{IsTable};
+ghost use Rattle.std.specs.{Prelude.{◌≡◌, ◌≤◌, ◌<◌, [], ◌∷◌, length, slice_get, true, IfSome, MatchOption}, List.{AllWithin}};
+ghost use Rattle.partial_path.specs.{Heads.{AreFirstHeads, AreHeadsBelow, AreNoLess, IsHeadAt}, Inside.{IsAfter, IsNextOffer}, Keys.{IsByKey, texts}, Offers.{offers_left}, Starts.{begins_at}, Tables.{IsTable}};
 
 use crate::heads::{wanted_head, zone_from};
 use crate::rule::Start;
@@ -31,9 +25,7 @@ pub struct FileOffers {
 impl FileOffers {
     ghost use Rattle.std.specs.Prelude.{◌≡◌, filter, List};
     ghost use Rattle.stacks_vars.specs.declared.items.SymbolItem.{SymbolItem};
-    ghost use Rattle.partial_path.specs.Rules.{Rule};
-    ghost use Rattle.partial_path.specs.Sources.{is_offered};
-    ghost use Rattle.partial_path.specs.Offers.{offers_left};
+    ghost use Rattle.partial_path.specs.{Rules.{Rule}, Sources.{is_offered}, Offers.{offers_left}};
 
     /// Before the first path that is offered at the start.
     pub fn at(start: Start) -> FileOffers

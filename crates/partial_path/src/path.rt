@@ -149,8 +149,7 @@ impl PartialPath {
     }
 }
 
-ghost use Rattle.std.specs.Prelude.{◌≡◌, [], ◌++◌, length, slice_get, option_copied, max};
-ghost use Rattle.std.specs.List.{flat_map};
+ghost use Rattle.std.specs.{Prelude.{◌≡◌, [], ◌++◌, length, slice_get, option_copied, max}, List.{flat_map}};
 ghost use Rattle.partial_path.specs.Rules.{has_scopes, bad_place, path_fault, tail_of, tails};
 
 /// The first fault of a path with these conditions and this peak.

@@ -1,7 +1,6 @@
 //! What is kept of each path of a file beside its parts, which stand in pools.
 ghost use Rattle.std.specs.Prelude.{◌≡◌, ◌+◌, ℕ, IfOk};
-ghost use Rattle.partial_path.specs.FileNumbers.{StartIn, EndIn};
-ghost use Rattle.partial_path.specs.Pooled.{start_of, end_of, kept_tail};
+ghost use Rattle.partial_path.specs.{FileNumbers.{StartIn, EndIn}, Pooled.{start_of, end_of, kept_tail}};
 
 use crate::config::Spot;
 use crate::rule::{End, Start};

@@ -1,9 +1,6 @@
-ghost use Rattle.std.specs.Prelude.{◌≡◌, ◌↔◌, ◌&&◌, nat_eq, length, IsTrue, option_copied};
-ghost use Rattle.std.specs.Option.{option_map};
-ghost use Rattle.graph_nodes.specs.declared.node.Node.{Node};
-ghost use Rattle.graph_nodes.specs.Whole.{node_of, edge_of, is_definition_of};
-ghost use Rattle.partial_path.specs.Spots.{is_definition_spot};
-ghost use Rattle.partial_path.specs.Runs.{IsAtDefinition};
+ghost use Rattle.std.specs.{Prelude.{◌≡◌, ◌↔◌, ◌&&◌, nat_eq, length, IsTrue, option_copied}, Option.{option_map}};
+ghost use Rattle.graph_nodes.specs.{declared.node.Node.{Node}, Whole.{node_of, edge_of, is_definition_of}};
+ghost use Rattle.partial_path.specs.{Spots.{is_definition_spot}, Runs.{IsAtDefinition}};
 
 use crate::config::{Config, EdgeAt, Spot};
 use graph_nodes::{Edge, FileGraph, NodeKind};

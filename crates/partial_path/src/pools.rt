@@ -1,8 +1,6 @@
 //! The parts of a file's paths, each kind of them in one vector.
 ghost use Rattle.std.specs.Prelude.{◌≡◌, ◌+◌, ◌++◌, ℕ, length, map, All, IfOk, OnOk};
-ghost use Rattle.partial_path.specs.FileNumbers.{IsOfFileZero, EdgeIn, edge_number, own_edge};
-ghost use Rattle.partial_path.specs.Rules.{IsRule};
-ghost use Rattle.partial_path.specs.Pooled.{AreAddedTo, Begins, IsKept, IsPartOf, IsPut, part_of};
+ghost use Rattle.partial_path.specs.{FileNumbers.{IsOfFileZero, EdgeIn, edge_number, own_edge}, Rules.{IsRule}, Pooled.{AreAddedTo, Begins, IsKept, IsPartOf, IsPut, part_of}};
 
 use crate::config::EdgeAt;
 use crate::path::{PartialPath, PathParts};

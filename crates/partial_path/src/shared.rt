@@ -11,8 +11,7 @@ pub struct SharedPaths {
 
 impl Model for SharedPaths {
     ghost use Rattle.std.specs.Arc.{arc_value};
-    ghost use Rattle.partial_path.specs.PathSets.{FileRules};
-    ghost use Rattle.partial_path.specs.Sources.{IsSourceFile};
+    ghost use Rattle.partial_path.specs.{PathSets.{FileRules}, Sources.{IsSourceFile}};
 
     ghost Value = { FileRules };
 

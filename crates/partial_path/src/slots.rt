@@ -1,13 +1,6 @@
 //! In which order a file's paths are stored, and how those of one start and key are found: by halving.
-ghost use Rattle.std.specs.Prelude.{◌≡◌, ◌≤◌, ◌<◌, ◌-◌, false, length, take, drop, slice_get, option_copied, All, MatchOption};
-ghost use Rattle.std.specs.Ordering.{nat_cmp};
-ghost use Rattle.std.specs.Option.{option_cmp};
-ghost use Rattle.std.specs.Cmp.Lexicographic.{slice_cmp};
-ghost use Rattle.std.specs.List.{prefix_len};
-ghost use Rattle.std.specs.List.Sorted.{IsPartitionedBy};
-ghost use Rattle.partial_path.specs.Keys.{IsByKey, key, key_cmp, key_size, rules_asking, slot_cmp, slot_of, texts};
-ghost use Rattle.partial_path.specs.Inside.{IsFirstAtSlot, asked_key, slot_side, is_before_slot, is_at_slot, meets_text};
-ghost use Rattle.partial_path.specs.Sources.{stand_first};
+ghost use Rattle.std.specs.{Prelude.{◌≡◌, ◌≤◌, ◌<◌, ◌-◌, false, length, take, drop, slice_get, option_copied, All, MatchOption}, Ordering.{nat_cmp}, Option.{option_cmp}, Cmp.Lexicographic.{slice_cmp}, List.{prefix_len}, List.Sorted.{IsPartitionedBy}};
+ghost use Rattle.partial_path.specs.{Keys.{IsByKey, key, key_cmp, key_size, rules_asking, slot_cmp, slot_of, texts}, Inside.{IsFirstAtSlot, asked_key, slot_side, is_before_slot, is_at_slot, meets_text}, Sources.{stand_first}};
 
 use crate::halving::middle_of;
 use crate::path::PartialPath;

@@ -1,12 +1,8 @@
 //! Where a search takes its partial paths from.
 ghost use Rattle.std.specs.Prelude.{◌≡◌, [], ◌∷◌, ℕ, List, Option, MatchOption, All, IsSome, IsPermutation, option_copied, slice_get};
-ghost use Rattle.graph_nodes.specs.declared.node.Place.TheVariants.{At};
-ghost use Rattle.graph_nodes.specs.Whole.{node_of, is_cut_of, is_definition_of, is_reference_of};
+ghost use Rattle.graph_nodes.specs.{declared.node.Place.TheVariants.{At}, Whole.{node_of, is_cut_of, is_definition_of, is_reference_of}};
 ghost use Rattle.stacks_vars.specs.declared.items.SymbolItem.{SymbolItem};
-ghost use Rattle.partial_path.specs.declared.rule.Start.{Start};
-ghost use Rattle.partial_path.specs.Rules.{Rule};
-ghost use Rattle.partial_path.specs.PathSets.{FileRules};
-ghost use Rattle.partial_path.specs.Sources.{IsSourceFile, graphs_of, rules_from, rules_offered};
+ghost use Rattle.partial_path.specs.{declared.rule.Start.{Start}, Rules.{Rule}, PathSets.{FileRules}, Sources.{IsSourceFile, graphs_of, rules_from, rules_offered}};
 
 use crate::rule::Start;
 use crate::stored::StoredPath;

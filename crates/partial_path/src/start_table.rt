@@ -1,9 +1,6 @@
 //! Where a file's paths of one start stand, as a table tells it.
-ghost use Rattle.std.specs.Prelude.{◌≡◌, ◌≤◌, ◌<◌, ◌-◌, ◌*◌, ◌^◌, length, take, drop, IfOk, IfSome};
-ghost use Rattle.std.specs.List.{prefix_len};
-ghost use Rattle.std.specs.List.Sorted.{IsPartitionedBy};
-ghost use Rattle.partial_path.specs.Starts.{IsByStart, begins_at, is_before, rules_at};
-ghost use Rattle.partial_path.specs.Tables.{AreTold, IsTable, IsTold, has_node, has_place, place_in};
+ghost use Rattle.std.specs.{Prelude.{◌≡◌, ◌≤◌, ◌<◌, ◌-◌, ◌*◌, ◌^◌, length, take, drop, IfOk, IfSome}, List.{prefix_len}, List.Sorted.{IsPartitionedBy}};
+ghost use Rattle.partial_path.specs.{Starts.{IsByStart, begins_at, is_before, rules_at}, Tables.{AreTold, IsTable, IsTold, has_node, has_place, place_in}};
 
 use crate::config::Spot;
 use crate::halving::middle_of;
@@ -26,9 +23,7 @@ pub struct StartTable {
 
 impl StartTable {
     ghost use Rattle.std.specs.Prelude.{◌≡◌, ◌≤◌, ◌-◌, length, take, drop, IfSome};
-    ghost use Rattle.partial_path.specs.Heads.{AreFirstHeads};
-    ghost use Rattle.partial_path.specs.Starts.{IsByStart, rules_at};
-    ghost use Rattle.partial_path.specs.Tables.{IsTable};
+    ghost use Rattle.partial_path.specs.{Heads.{AreFirstHeads}, Starts.{IsByStart, rules_at}, Tables.{IsTable}};
 
     /// The table of these paths, which are in the order of their starts, of a file with so many nodes. It
     /// takes memory for two numbers a node and one a path, and does without a table where that is refused.

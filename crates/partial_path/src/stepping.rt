@@ -1,8 +1,6 @@
-ghost use Rattle.std.specs.Prelude.{◌≡◌, IfOk};
-ghost use Rattle.std.specs.Option.{option_map};
+ghost use Rattle.std.specs.{Prelude.{◌≡◌, IfOk}, Option.{option_map}};
 ghost use Rattle.stacks_vars.specs.Enter.{enter};
-ghost use Rattle.partial_path.specs.Spots.{at_node};
-ghost use Rattle.partial_path.specs.Step.{action_of, enter_jump, enter_place, stands_at, follow, step, is_cut_edge, start};
+ghost use Rattle.partial_path.specs.{Spots.{at_node}, Step.{action_of, enter_jump, enter_place, stands_at, follow, step, is_cut_edge, start}};
 
 use crate::config::{Config, EdgeAt, Spot};
 use crate::places::{edge_at, kind_at};

@@ -14,8 +14,7 @@ pub struct StoredPath<'a> {
 }
 
 impl<'a> Model for StoredPath<'a> {
-    ghost use Rattle.partial_path.specs.Rules.{Rule};
-    ghost use Rattle.partial_path.specs.Pooled.{rule_in, IsRowIn};
+    ghost use Rattle.partial_path.specs.{Rules.{Rule}, Pooled.{rule_in, IsRowIn}};
 
     ghost Value = { Rule };
 
@@ -26,9 +25,7 @@ impl<'a> Model for StoredPath<'a> {
 
 impl<'a> StoredPath<'a> {
     ghost use Rattle.std.specs.Prelude.{◌≡◌, map, length};
-    ghost use Rattle.partial_path.specs.Rules.{IsRule};
-    ghost use Rattle.partial_path.specs.FileNumbers.{own_edge};
-    ghost use Rattle.partial_path.specs.Pooled.{rule_in, IsRowIn};
+    ghost use Rattle.partial_path.specs.{Rules.{IsRule}, FileNumbers.{own_edge}, Pooled.{rule_in, IsRowIn}};
 
     /// The path of the row in these pools.
     pub(crate) fn of(pools: &'a Pools, row: &'a PathRow) -> StoredPath<'a>

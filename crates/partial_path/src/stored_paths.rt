@@ -15,8 +15,7 @@ pub struct StoredPaths<'a> {
 
 impl<'a> Model for StoredPaths<'a> {
     ghost use Rattle.std.specs.Prelude.{List, All};
-    ghost use Rattle.partial_path.specs.Rules.{Rule};
-    ghost use Rattle.partial_path.specs.Pooled.{rules_in, IsRowIn};
+    ghost use Rattle.partial_path.specs.{Rules.{Rule}, Pooled.{rules_in, IsRowIn}};
 
     ghost Value = { List Rule };
 
@@ -86,8 +85,7 @@ pub struct KeptPaths {
 
 impl Model for KeptPaths {
     ghost use Rattle.std.specs.Prelude.{List, All};
-    ghost use Rattle.partial_path.specs.Rules.{Rule};
-    ghost use Rattle.partial_path.specs.Pooled.{rules_in, IsRowIn};
+    ghost use Rattle.partial_path.specs.{Rules.{Rule}, Pooled.{rules_in, IsRowIn}};
 
     ghost Value = { List Rule };
 

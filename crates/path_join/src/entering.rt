@@ -1,7 +1,6 @@
 ghost use Rattle.std.specs.Prelude.{◌≡◌, [], ◌∷◌, None, IfOk};
 ghost use Rattle.stacks_vars.specs.declared.action.Action.TheVariants.{Pass};
-ghost use Rattle.partial_path.specs.Step.{action_of};
-ghost use Rattle.partial_path.specs.Spots.{node_at};
+ghost use Rattle.partial_path.specs.{Step.{action_of}, Spots.{node_at}};
 ghost use Rattle.path_join.specs.Units.{asked_by, made_by, peak_by, asks, makes, any_scopes, pat_of, out_of, entry_rule};
 
 use graph_nodes::{Name, NodeKind};

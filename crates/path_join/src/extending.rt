@@ -3,9 +3,7 @@
 ghost use Rattle.std.specs.Prelude.{◌≡◌, ◌<◌, ◌+◌, ◌^◌, length, IfOk, IsTrue, true};
 ghost use Rattle.graph_nodes.specs.Graph.{has_place};
 ghost use Rattle.partial_path.specs.Rules.{IsRule};
-ghost use Rattle.path_join.specs.Units.{edge_alone, place_end, place_action};
-ghost use Rattle.path_join.specs.Extended.{IsExtended, rule_apart, rule_if};
-ghost use Rattle.path_join.specs.Extending.{longer_peak, extended_by};
+ghost use Rattle.path_join.specs.{Units.{edge_alone, place_end, place_action}, Extended.{IsExtended, rule_apart, rule_if}, Extending.{longer_peak, extended_by}};
 
 use crate::copying::copied;
 use crate::entering::passing;

@@ -1,6 +1,5 @@
 ghost use Rattle.std.specs.Prelude.{◌≡◌, IfOk};
-ghost use Rattle.path_join.specs.Joining.{grown_scopes, grown_symbol, put_scopes, put_symbol, longer_scopes, longer_symbol};
-ghost use Rattle.path_join.specs.Tables.{bound_of};
+ghost use Rattle.path_join.specs.{Joining.{grown_scopes, grown_symbol, put_scopes, put_symbol, longer_scopes, longer_symbol}, Tables.{bound_of}};
 
 use crate::copying::{copied_fixed, copied_scopes};
 use crate::joint::Joint;

@@ -1,8 +1,6 @@
 ghost use Rattle.std.specs.Prelude.{◌≡◌, ◌++◌, ◌+◌, ◌-◌, ◌<◌, ◌^◌, length, max, IfOk, IfSome, Some, None};
 ghost use Rattle.partial_path.specs.Rules.{Rule, IsRule};
-ghost use Rattle.path_join.specs.Joins.{IsJoin, NonePasses, joined_peak};
-ghost use Rattle.path_join.specs.Joining.{can_end, join_rules, wide_pre};
-ghost use Rattle.path_join.specs.Tables.{joined_of};
+ghost use Rattle.path_join.specs.{Joins.{IsJoin, NonePasses, joined_peak}, Joining.{can_end, join_rules, wide_pre}, Tables.{joined_of}};
 
 use crate::filling::put_scopes;
 use crate::joint::Joint;

@@ -58,8 +58,7 @@ pub(crate) struct Joint<'a> {
 
 impl<'a> Model for Joint<'a> {
     ghost use Rattle.std.specs.Prelude.{◌<◌, ◌^◌, length};
-    ghost use Rattle.path_join.specs.Joining.{wide_pre};
-    ghost use Rattle.path_join.specs.Tables.{Meeting, meeting_of};
+    ghost use Rattle.path_join.specs.{Joining.{wide_pre}, Tables.{Meeting, meeting_of}};
 
     ghost Value = { Meeting };
 
@@ -70,8 +69,7 @@ impl<'a> Model for Joint<'a> {
 
 impl<'a> Joint<'a> {
     ghost use Rattle.std.specs.Prelude.{◌≡◌, ◌<◌, ◌≤◌, length, slice_get, option_copied};
-    ghost use Rattle.path_join.specs.Joining.{bound_tail};
-    ghost use Rattle.path_join.specs.Tables.{bound_of, handed_rest, handed_place};
+    ghost use Rattle.path_join.specs.{Joining.{bound_tail}, Tables.{bound_of, handed_rest, handed_place}};
 
     /// What a variable of the second path stands for, in those of the first. It takes constant time.
     pub(crate) fn of_tail(&self, tail: Tail) -> Stretch<'a>

@@ -1,7 +1,5 @@
-ghost use Rattle.std.specs.Prelude.{◌≡◌, ◌++◌, drop, IfOk, OnOk, MatchOption};
-ghost use Rattle.path_join.specs.Joining.{past};
-ghost use Rattle.path_join.specs.Tables.{kept_if, agrees};
-ghost use Rattle.std.specs.List.{list_all, zip};
+ghost use Rattle.std.specs.{Prelude.{◌≡◌, ◌++◌, drop, IfOk, OnOk, MatchOption}, List.{list_all, zip}};
+ghost use Rattle.path_join.specs.{Joining.{past}, Tables.{kept_if, agrees}};
 
 use stacks_vars::{Held, Listed, NodeAt, ScopeOut, ScopePat, SymOut, SymPat, Tail};
 use std::alloc::{AllocError, Global};
@@ -26,8 +24,7 @@ impl Model for Known {
 impl Known {
     ghost use Rattle.std.specs.Prelude.{◌≡◌, ◌++◌, IfOk, OnOk, slice_get, Some};
     ghost use Rattle.partial_path.specs.Apply.{tail_scopes};
-    ghost use Rattle.path_join.specs.Joining.{nothing_known, grow, meet_scopes, meet_attached, meet_symbol};
-    ghost use Rattle.path_join.specs.Tables.{kept_if};
+    ghost use Rattle.path_join.specs.{Joining.{nothing_known, grow, meet_scopes, meet_attached, meet_symbol}, Tables.{kept_if}};
 
     /// Nothing is known of the variables of so many symbols.
     pub(crate) fn nothing(alloc: Global, count: usize) -> Result<Known, AllocError>

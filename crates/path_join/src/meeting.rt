@@ -1,7 +1,6 @@
 ghost use Rattle.std.specs.Prelude.{◌≡◌, ◌<◌, ◌^◌, IfOk, length};
 ghost use Rattle.partial_path.specs.Rules.{start_spot};
-ghost use Rattle.path_join.specs.Joining.{asked_scopes, known_with, wide_pre};
-ghost use Rattle.path_join.specs.Tables.{kept_if, meet_made};
+ghost use Rattle.path_join.specs.{Joining.{asked_scopes, known_with, wide_pre}, Tables.{kept_if, meet_made}};
 
 use crate::known::{Known, add};
 use partial_path::{End, PartialPath, Spot, Start};

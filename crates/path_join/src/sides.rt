@@ -1,11 +1,9 @@
 //! What a path asks for and what it makes, once it enters one place more.
 
-ghost use Rattle.std.specs.Prelude.{◌≡◌, ◌<◌, ◌^◌, [], ◌∷◌, ◌++◌, length, IfOk, OnOk, IsTrue, None};
-ghost use Rattle.std.specs.Str.{bytes_eq};
+ghost use Rattle.std.specs.{Prelude.{◌≡◌, ◌<◌, ◌^◌, [], ◌∷◌, ◌++◌, length, IfOk, OnOk, IsTrue, None}, Str.{bytes_eq}};
 ghost use Rattle.graph_nodes.specs.Graph.{has_place};
 ghost use Rattle.partial_path.specs.Step.{action_of};
-ghost use Rattle.path_join.specs.Units.{place_action, pat_of, out_of, scopes_out};
-ghost use Rattle.path_join.specs.Extending.{with_scope, taken, taken_scoped, entered, sides_if, front_and_rest};
+ghost use Rattle.path_join.specs.{Units.{place_action, pat_of, out_of, scopes_out}, Extending.{with_scope, taken, taken_scoped, entered, sides_if, front_and_rest}};
 
 use crate::entering::any_scopes;
 use graph_nodes::{FileGraph, Name, NodeKind, Place};

@@ -1,13 +1,7 @@
 //! A stored path in front of another one, with no copy of it in between.
-ghost use Rattle.std.specs.Prelude.{◌≡◌, ◌++◌, ◌+◌, ◌≤◌, ◌<◌, ◌^◌, length, map, IfOk, IfSome, IsTrue, Some, None};
-ghost use Rattle.std.specs.List.{list_all};
-ghost use Rattle.partial_path.specs.Rules.{Rule, IsRule, start_spot};
-ghost use Rattle.partial_path.specs.Moved.{moved, moved_edge};
-ghost use Rattle.partial_path.specs.FileNumbers.{CanMove};
-ghost use Rattle.path_join.specs.Joins.{IsJoin, NonePasses, joined_peak};
-ghost use Rattle.path_join.specs.Joining.{asked_symbols, join_rules};
-ghost use Rattle.path_join.specs.Units.{asks};
-ghost use Rattle.path_join.specs.Plain.{IsPlainBack, IsPlainFront, ends_there, is_plain_out, is_plain_pat, meets};
+ghost use Rattle.std.specs.{Prelude.{◌≡◌, ◌++◌, ◌+◌, ◌≤◌, ◌<◌, ◌^◌, length, map, IfOk, IfSome, IsTrue, Some, None}, List.{list_all}};
+ghost use Rattle.partial_path.specs.{Rules.{Rule, IsRule, start_spot}, Moved.{moved, moved_edge}, FileNumbers.{CanMove}};
+ghost use Rattle.path_join.specs.{Joins.{IsJoin, NonePasses, joined_peak}, Joining.{asked_symbols, join_rules}, Units.{asks}, Plain.{IsPlainBack, IsPlainFront, ends_there, is_plain_out, is_plain_pat, meets}};
 
 use crate::copying::add_pats;
 use crate::entering::{any_scopes, makes};

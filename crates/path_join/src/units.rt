@@ -1,10 +1,6 @@
 ghost use Rattle.std.specs.Prelude.{◌≡◌, [], ◌∷◌, ◌<◌, ◌≤◌, length, slice_get, IfOk, IsTrue, Some, false};
-ghost use Rattle.graph_nodes.specs.Graph.{is_reference, has_place};
-ghost use Rattle.graph_nodes.specs.Checked.{is_jump};
-ghost use Rattle.partial_path.specs.declared.rule.Start.TheVariants.{Before};
-ghost use Rattle.partial_path.specs.Spots.{node_at};
-ghost use Rattle.partial_path.specs.FileNumbers.{IsOfFileZero};
-ghost use Rattle.partial_path.specs.PathSets.{IsRuleOf};
+ghost use Rattle.graph_nodes.specs.{Graph.{is_reference, has_place}, Checked.{is_jump}};
+ghost use Rattle.partial_path.specs.{declared.rule.Start.TheVariants.{Before}, Spots.{node_at}, FileNumbers.{IsOfFileZero}, PathSets.{IsRuleOf}};
 ghost use Rattle.path_join.specs.Units.{place_spot, place_rule, edge_alone, after_source};
 
 use crate::entering::{entering, passing};

@@ -1,6 +1,5 @@
 ghost use Rattle.std.specs.Prelude.{◌≡◌, ◌++◌, map, IfOk, OnOk};
-ghost use Rattle.path_join.specs.Joining.{put_symbol, grown_symbol, longer_symbols, joined_pre};
-ghost use Rattle.path_join.specs.Tables.{bound_of, joined_symbols};
+ghost use Rattle.path_join.specs.{Joining.{put_symbol, grown_symbol, longer_symbols, joined_pre}, Tables.{bound_of, joined_symbols}};
 
 use crate::filling::{grown_symbol, longer_scopes, longer_symbol, put_symbol};
 use crate::joint::Joint;

@@ -16,9 +16,7 @@ pub struct Document {
 }
 
 impl Model for Document {
-    ghost use Rattle.std.specs.Prelude.{◌≡◌};
-    ghost use Rattle.std.specs.Arc.{arc_value};
-    ghost use Rattle.std.specs.String.{string_bytes};
+    ghost use Rattle.std.specs.{Prelude.{◌≡◌}, Arc.{arc_value}, String.{string_bytes}};
     ghost use Rattle.path_store.specs.Documents.{Doc, doc_of};
 
     ghost Value = { Doc };
@@ -28,8 +26,7 @@ impl Model for Document {
 }
 
 impl Document {
-    ghost use Rattle.std.specs.Prelude.{◌≡◌, IfOk, IsTrue};
-    ghost use Rattle.std.specs.String.{string_bytes};
+    ghost use Rattle.std.specs.{Prelude.{◌≡◌, IfOk, IsTrue}, String.{string_bytes}};
     ghost use Rattle.path_store.specs.Documents.{doc_of, same_doc};
 
     /// The document of a copy of this path and these bytes. The one error is want of memory.

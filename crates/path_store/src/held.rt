@@ -14,8 +14,7 @@ pub(crate) struct Held {
 
 impl Model for Held {
     ghost use Rattle.std.specs.Prelude.{◌≡◌};
-    ghost use Rattle.path_store.specs.Documents.{digest_of};
-    ghost use Rattle.path_store.specs.Store.{Kept, kept_of};
+    ghost use Rattle.path_store.specs.{Documents.{digest_of}, Store.{Kept, kept_of}};
 
     ghost Value = { Kept };
 
@@ -26,8 +25,7 @@ impl Model for Held {
 
 impl Held {
     ghost use Rattle.std.specs.Prelude.{◌≡◌, IfOk};
-    ghost use Rattle.path_store.specs.Documents.{digest_of, same_doc};
-    ghost use Rattle.path_store.specs.Store.{kept_of, cost_of_pair};
+    ghost use Rattle.path_store.specs.{Documents.{digest_of, same_doc}, Store.{kept_of, cost_of_pair}};
 
     /// The pair of these; the document is shared. The one error is want of memory.
     pub(crate) fn of(doc: &Digested, paths: SharedPaths) -> Result<Held, AllocError>

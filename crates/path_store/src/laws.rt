@@ -1,8 +1,6 @@
-ghost use Rattle.std.specs.Prelude.{◌≡◌, ◌≢◌, ◌↔◌, ◌≤◌, ℕ, List, None, Some};
-ghost use Rattle.std.specs.List.{AllByRecursion};
+ghost use Rattle.std.specs.{Prelude.{◌≡◌, ◌≢◌, ◌↔◌, ◌≤◌, ℕ, List, None, Some}, List.{AllByRecursion}};
 ghost use Rattle.partial_path.specs.PathSets.{FileRules};
-ghost use Rattle.path_store.specs.Documents.{Doc};
-ghost use Rattle.path_store.specs.Store.{Kept, find_doc, AreDistinct, StandsIn, cost_of, swept, IsEndOf};
+ghost use Rattle.path_store.specs.{Documents.{Doc}, Store.{Kept, find_doc, AreDistinct, StandsIn, cost_of, swept, IsEndOf}};
 
 /// A law of finding. What is found are the paths of a pair that is kept of this document; each pair
 /// that is kept is found, where no two are of the same document; nothing is found exactly where each

@@ -25,8 +25,7 @@ pub struct PathStore {
 
 impl Model for PathStore {
     ghost use Rattle.std.specs.Prelude.{List};
-    ghost use Rattle.path_store.specs.Store.{Kept};
-    ghost use Rattle.path_store.specs.Inside.{IsStore};
+    ghost use Rattle.path_store.specs.{Store.{Kept}, Inside.{IsStore}};
 
     ghost Value = { List Kept };
 
@@ -36,9 +35,7 @@ impl Model for PathStore {
 }
 
 impl PathStore {
-    ghost use Rattle.std.specs.Prelude.{◌≡◌, [], ◌∷◌, ◌++◌, None, drop, length, nat_lt, OnOk, OnErr};
-    ghost use Rattle.std.specs.List.{slice_get};
-    ghost use Rattle.std.specs.Option.{option_copied};
+    ghost use Rattle.std.specs.{Prelude.{◌≡◌, [], ◌∷◌, ◌++◌, None, drop, length, nat_lt, OnOk, OnErr}, List.{slice_get}, Option.{option_copied}};
     ghost use Rattle.path_store.specs.Store.{AreDistinct, find_doc, with_doc, with_docs, HasSomeOf, cost_of, swept};
 
     /// No documents. It takes no memory.
@@ -164,9 +161,7 @@ impl PathStore {
     }
 }
 
-ghost use Rattle.std.specs.Prelude.{◌≡◌};
-ghost use Rattle.std.specs.List.{slice_get};
-ghost use Rattle.std.specs.Option.{option_copied};
+ghost use Rattle.std.specs.{Prelude.{◌≡◌}, List.{slice_get}, Option.{option_copied}};
 ghost use Rattle.path_store.specs.Inside.{paths_for, found_at};
 
 // The paths of the pair of these numbers that is kept for the document. The first pair of all has the

@@ -1,9 +1,7 @@
 //! Open sessions broken off: each gives its link back, and its seat is free.
 ghost use Rattle.std.specs.Prelude.{◌≡◌, ◌<◌, ◌≤◌, ◌+◌, true, false, length};
 ghost use Rattle.nav_io.specs.Told.{HasOut};
-ghost use Rattle.poll_many.specs.Connections.{outside};
-ghost use Rattle.poll_many.specs.Places.{IsStanding, Closes, is_busy};
-ghost use Rattle.poll_many.specs.Rounds.{IsUnderWay, NoneBusy, RestBefore};
+ghost use Rattle.poll_many.specs.{Connections.{outside}, Places.{IsStanding, Closes, is_busy}, Rounds.{IsUnderWay, NoneBusy, RestBefore}};
 
 use crate::call::Call;
 use crate::place::{Open, Place, put};

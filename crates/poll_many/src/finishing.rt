@@ -1,11 +1,7 @@
 //! The rounds of many sessions from the first to the last, and the status that they end with.
-ghost use Rattle.std.specs.Prelude.{◌≡◌, ◌<◌, length, vec_len, if◌then◌else◌};
-ghost use Rattle.std.specs.List.{list_any};
+ghost use Rattle.std.specs.{Prelude.{◌≡◌, ◌<◌, length, vec_len, if◌then◌else◌}, List.{list_any}};
 ghost use Rattle.futures.specs.Task.{Keeps};
-ghost use Rattle.poll_many.specs.Connections.{outside};
-ghost use Rattle.poll_many.specs.Settling.{SettlesBehindRounds};
-ghost use Rattle.poll_many.specs.Places.{is_lost};
-ghost use Rattle.poll_many.specs.Rounds.{IsUnderWay, AreFinished, AreNamed, ServesAll};
+ghost use Rattle.poll_many.specs.{Connections.{outside}, Settling.{SettlesBehindRounds}, Places.{is_lost}, Rounds.{IsUnderWay, AreFinished, AreNamed, ServesAll}};
 
 use crate::call::{Call, Means};
 use crate::closing::close_all;

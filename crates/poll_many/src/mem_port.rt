@@ -1,10 +1,7 @@
 //! A port in memory, which waits and fails as it is told to.
 ghost use Rattle.std.specs.Prelude.{◌≡◌, ◌<◌, ◌≤◌, ◌+◌, [], ◌∷◌, ◌++◌, ◌||◌, length, true, false, None, Some, Ok, Err, IfOk, OnOk, OnErr, is_err};
-ghost use Rattle.nav_io.specs.Faults.{HasRisen, counted};
-ghost use Rattle.nav_io.specs.Told.{append_told, HasOut};
-ghost use Rattle.nav_io.specs.Lending.{lend, take_back};
-ghost use Rattle.poll_many.specs.Arrivals.{links_in};
-ghost use Rattle.poll_many.specs.MemPorts.{PortState, is_to_fail, is_to_wait, is_to_fail_settling, after_fault, after_wait, after_link, after_settling, after_settle_fault};
+ghost use Rattle.nav_io.specs.{Faults.{HasRisen, counted}, Told.{append_told, HasOut}, Lending.{lend, take_back}};
+ghost use Rattle.poll_many.specs.{Arrivals.{links_in}, MemPorts.{PortState, is_to_fail, is_to_wait, is_to_fail_settling, after_fault, after_wait, after_link, after_settling, after_settle_fault}};
 
 use crate::port::{Arrived, Port};
 use nav_io::{Failed, Lent};

@@ -1,7 +1,6 @@
 //! A yard in memory, which fails as it is told to.
 ghost use Rattle.std.specs.Prelude.{◌≡◌, ◌≤◌, ◌↔◌, ◌⊎◌, [], ◌∷◌, None, Some, Err, IfOk, OnOk, OnErr, IsTrue};
-ghost use Rattle.nav_io.specs.Faults.{HasRisen, counted};
-ghost use Rattle.nav_io.specs.Told.{append_told, HasOut};
+ghost use Rattle.nav_io.specs.{Faults.{HasRisen, counted}, Told.{append_told, HasOut}};
 ghost use Rattle.poll_many.specs.MemPorts.{YardState, held_list};
 
 use crate::mem_port::MemPort;

@@ -1,15 +1,10 @@
 //! A place for one session at a time: a seat with its desk, or a session that has both.
 ghost use Rattle.std.specs.Prelude.{◌≡◌, ◌≢◌, ◌≤◌, ◌==◌, true, Some, None, IsTrue, if◌then◌else◌};
-ghost use Rattle.futures.specs.Poll.{IfReady, OnPending};
-ghost use Rattle.futures.specs.Task.{Keeps};
-ghost use Rattle.nav_io.specs.Faults.{HasRisen};
-ghost use Rattle.nav_io.specs.Told.{HasOut};
+ghost use Rattle.futures.specs.{Poll.{IfReady, OnPending}, Task.{Keeps}};
+ghost use Rattle.nav_io.specs.{Faults.{HasRisen}, Told.{HasOut}};
 ghost use Rattle.nav_session.specs.Serving.{ends_session};
-ghost use Rattle.nav_poll.specs.Links.{NoneFell};
-ghost use Rattle.nav_poll.specs.Polling.{KeepsStarts, WaitsForLink, seen};
-ghost use Rattle.poll_many.specs.Connections.{outside};
-ghost use Rattle.poll_many.specs.Waiting.{WaitsAt};
-ghost use Rattle.poll_many.specs.Places.{IsOpen, IsStanding, BeginsWith, TakesLink, TakesTurn, is_busy};
+ghost use Rattle.nav_poll.specs.{Links.{NoneFell}, Polling.{KeepsStarts, WaitsForLink, seen}};
+ghost use Rattle.poll_many.specs.{Connections.{outside}, Waiting.{WaitsAt}, Places.{IsOpen, IsStanding, BeginsWith, TakesLink, TakesTurn, is_busy}};
 
 use crate::port::{Arrived, Port};
 use futures::Future;

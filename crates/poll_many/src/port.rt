@@ -1,7 +1,6 @@
 //! Where links come from: a port gives them out, and takes them back.
 ghost use Rattle.std.specs.Prelude.{◌≡◌, ◌≤◌, ℕ, List, [], ◌∷◌, length, Option, Ok, OnErr};
-ghost use Rattle.nav_io.specs.Faults.{HasRisen, counted};
-ghost use Rattle.nav_io.specs.Told.{append_told, HasOut};
+ghost use Rattle.nav_io.specs.{Faults.{HasRisen, counted}, Told.{append_told, HasOut}};
 ghost use Rattle.poll_many.specs.Arrivals.{links_in};
 
 use nav_io::Failed;
@@ -19,8 +18,7 @@ pub enum Arrived<K> {
 /// Gives out links, one for each connection, and takes them back. Of its calls `settle` alone waits.
 pub trait Port {
     ghost use Rattle.std.specs.Prelude.{◌≡◌, ◌≤◌, ℕ, List, [], ◌∷◌, length, Option, Ok, OnErr};
-    ghost use Rattle.nav_io.specs.Faults.{HasRisen, counted};
-    ghost use Rattle.nav_io.specs.Told.{append_told, HasOut};
+    ghost use Rattle.nav_io.specs.{Faults.{HasRisen, counted}, Told.{append_told, HasOut}};
     ghost use Rattle.poll_many.specs.Arrivals.{links_in};
     ghost use Rattle.poll_many.specs.declared.port.Arrived.TheVariants as arrived;
 

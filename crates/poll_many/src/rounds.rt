@@ -1,12 +1,8 @@
 //! The rounds in which many sessions are served: links are taken for free seats, then each open session is polled once.
-ghost use Rattle.std.specs.Prelude.{◌≡◌, ◌≢◌, ◌≤◌, ◌<◌, ◌||◌, not, true, false, length, Ok, OnOk, OnErr};
-ghost use Rattle.std.specs.List.{list_any};
+ghost use Rattle.std.specs.{Prelude.{◌≡◌, ◌≢◌, ◌≤◌, ◌<◌, ◌||◌, not, true, false, length, Ok, OnOk, OnErr}, List.{list_any}};
 ghost use Rattle.futures.specs.Task.{Keeps};
 ghost use Rattle.nav_io.specs.Faults.{HasRisen, counted};
-ghost use Rattle.poll_many.specs.Connections.{outside};
-ghost use Rattle.poll_many.specs.Places.{is_busy, is_free};
-ghost use Rattle.poll_many.specs.Waiting.{GaveNone, OneMoreWaits, AllHaveWaited, SettlesOn};
-ghost use Rattle.poll_many.specs.Rounds.{IsUnderWay, GoesRound, AreOver, still_wanted};
+ghost use Rattle.poll_many.specs.{Connections.{outside}, Places.{is_busy, is_free}, Waiting.{GaveNone, OneMoreWaits, AllHaveWaited, SettlesOn}, Rounds.{IsUnderWay, GoesRound, AreOver, still_wanted}};
 
 use crate::call::{Call, Means};
 use crate::place::{Asked, Place, Turn, take_link, take_turn};

@@ -2,9 +2,7 @@
 ghost use Rattle.std.specs.Prelude.{◌≡◌, ◌≤◌, ◌↔◌, None, IfSome};
 ghost use Rattle.futures.specs.Task.{Keeps};
 ghost use Rattle.shared_board.specs.Seats.{AreNewcomers, max_seats};
-ghost use Rattle.poll_many.specs.Connections.{outside_of_seats};
-ghost use Rattle.poll_many.specs.ManyWords.{wanted_by, texts};
-ghost use Rattle.poll_many.specs.Yards.{yard_at, ServesYard};
+ghost use Rattle.poll_many.specs.{Connections.{outside_of_seats}, ManyWords.{wanted_by, texts}, Yards.{yard_at, ServesYard}};
 
 use crate::finishing::PORT_FAILED;
 use crate::place::NO_MEMORY;

@@ -2,9 +2,7 @@
 ghost use Rattle.std.specs.Prelude.{◌<◌, vec_len};
 ghost use Rattle.futures.specs.Task.{Keeps};
 ghost use Rattle.shared_board.specs.Seats.{AreSeats};
-ghost use Rattle.poll_many.specs.Connections.{outside_of_seats};
-ghost use Rattle.poll_many.specs.Settling.{SettlesBehindRounds};
-ghost use Rattle.poll_many.specs.Ports.{ServesPort};
+ghost use Rattle.poll_many.specs.{Connections.{outside_of_seats}, Settling.{SettlesBehindRounds}, Ports.{ServesPort}};
 
 use crate::finishing::serve_all;
 use crate::place::NO_MEMORY;

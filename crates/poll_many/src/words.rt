@@ -1,6 +1,5 @@
 //! The words behind the program's name.
-ghost use Rattle.std.specs.Prelude.{◌≡◌, ◌≤◌, IfSome, length, map};
-ghost use Rattle.std.specs.String.{string_bytes};
+ghost use Rattle.std.specs.{Prelude.{◌≡◌, ◌≤◌, IfSome, length, map}, String.{string_bytes}};
 ghost use Rattle.poll_many.specs.ManyWords.{behind, all_behind, number_of, in_range, wanted_of, wanted_by, texts};
 
 /// What the words ask for: the port, 1 to 65,535, where clients arrive, how many of their connections are served, 1 to

@@ -1,7 +1,6 @@
 //! Where ports come from.
 ghost use Rattle.std.specs.Prelude.{◌≡◌, ◌≤◌, ℕ, List, [], ◌∷◌, Option, Err, IfOk, OnOk, OnErr};
-ghost use Rattle.nav_io.specs.Faults.{HasRisen};
-ghost use Rattle.nav_io.specs.Told.{append_told, HasOut};
+ghost use Rattle.nav_io.specs.{Faults.{HasRisen}, Told.{append_told, HasOut}};
 
 use crate::port::Port;
 use nav_io::HouseFault;
@@ -9,8 +8,7 @@ use nav_io::HouseFault;
 /// Gives out ports and takes them back.
 pub trait Yard {
     ghost use Rattle.std.specs.Prelude.{◌≡◌, ◌≤◌, ℕ, List, [], ◌∷◌, Option, Err, IfOk, OnOk, OnErr};
-    ghost use Rattle.nav_io.specs.Faults.{HasRisen};
-    ghost use Rattle.nav_io.specs.Told.{append_told, HasOut};
+    ghost use Rattle.nav_io.specs.{Faults.{HasRisen}, Told.{append_told, HasOut}};
     ghost use Rattle.nav_io.specs.declared.house.HouseFault.TheVariants as fault;
 
     type P: Port;

@@ -63,11 +63,8 @@ impl Model for Draft {
 impl Draft {
     ghost use Rattle.std.specs.Prelude.{◌≡◌, ◌<◌, [], length, true, false, IfOk, codes};
     ghost use Rattle.graph_nodes.specs.Checked.{has_scope, has_ends, is_jump};
-    ghost use Rattle.py_graph.specs.Inside.{Grows, IsNode, IsNodeIf, ArePair};
-    ghost use Rattle.py_graph.specs.Nodes.{call_nodes};
+    ghost use Rattle.py_graph.specs.{Inside.{Grows, IsNode, IsNodeIf, ArePair}, Nodes.{call_nodes}, Gives.{Gives}, Modules.{Translates, limited}};
     ghost use Rattle.py_graph.specs.Steps as steps;
-    ghost use Rattle.py_graph.specs.Gives.{Gives};
-    ghost use Rattle.py_graph.specs.Modules.{Translates, limited};
 
     /// Nothing made yet but the two names, and the room for the first nodes and edges; the one error is want of
     /// memory.

@@ -1,10 +1,8 @@
 //! The rows of expressions. A visited expression has a node as its value, or none.
 
-ghost use Rattle.std.specs.Prelude.{map, reverse};
+ghost use Rattle.std.specs.{Prelude.{map, reverse}, Prelude.{◌<◌, length, IfOk}};
+ghost use Rattle.py_graph.specs.{Inside.{Grows, IsNode, IsNodeIf, ArePair}, Gives.{Gives}};
 ghost use Rattle.py_graph.specs.Expressions as row;
-ghost use Rattle.py_graph.specs.Inside.{Grows, IsNode, IsNodeIf, ArePair};
-ghost use Rattle.std.specs.Prelude.{◌<◌, length, IfOk};
-ghost use Rattle.py_graph.specs.Gives.{Gives};
 
 use crate::draft::{Draft, Stop};
 use crate::nodes::{pop_number, push_dot, reference};

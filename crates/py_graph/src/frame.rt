@@ -44,8 +44,8 @@ impl<'a> Model for Frame<'a> {
 
 impl<'a> Frame<'a> {
     ghost use Rattle.std.specs.Prelude.{◌≡◌, option_map};
-    ghost use Rattle.py_graph.specs.Contexts as context;
     ghost use Rattle.py_graph.specs.Statements.{self_in};
+    ghost use Rattle.py_graph.specs.Contexts as context;
 
     /// The block of a module with this scope.
     pub fn in_module(scope: u32) -> Frame<'a>

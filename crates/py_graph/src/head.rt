@@ -1,10 +1,8 @@
 //! The nodes of a module's name.
 
-ghost use Rattle.std.specs.Prelude.{◌≡◌, ◌+◌, ◌<◌, length, map, drop, None};
+ghost use Rattle.std.specs.{Prelude.{◌≡◌, ◌+◌, ◌<◌, length, map, drop, None}, Prelude.{IfOk}};
+ghost use Rattle.py_graph.specs.{Inside.{Grows, IsNode, IsNodeIf}, Gives.{Gives}};
 ghost use Rattle.py_graph.specs.Modules as row;
-ghost use Rattle.py_graph.specs.Inside.{Grows, IsNode, IsNodeIf};
-ghost use Rattle.std.specs.Prelude.{IfOk};
-ghost use Rattle.py_graph.specs.Gives.{Gives};
 
 use crate::draft::{Draft, Stop};
 use crate::nodes::pop_dot;

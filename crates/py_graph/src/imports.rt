@@ -1,13 +1,8 @@
 //! The rows of imports.
 
-ghost use Rattle.std.specs.Prelude.{◌≡◌, [], ◌∷◌, ◌++◌, map, reverse, OnOk};
-ghost use Rattle.py_graph.specs.Steps.{each, collect, ◌▸?◌};
-ghost use Rattle.py_graph.specs.Blocks.{suite};
+ghost use Rattle.std.specs.{Prelude.{◌≡◌, [], ◌∷◌, ◌++◌, map, reverse, OnOk}, List.{All}, Prelude.{◌<◌, length, IfOk}};
+ghost use Rattle.py_graph.specs.{Steps.{each, collect, ◌▸?◌}, Blocks.{suite}, Inside.{Grows, IsNode, ArePairIf, IsInside}, Gives.{Gives, GivesItems}};
 ghost use Rattle.py_graph.specs.Imports as row;
-ghost use Rattle.py_graph.specs.Inside.{Grows, IsNode, ArePairIf, IsInside};
-ghost use Rattle.std.specs.List.{All};
-ghost use Rattle.std.specs.Prelude.{◌<◌, length, IfOk};
-ghost use Rattle.py_graph.specs.Gives.{Gives, GivesItems};
 
 use crate::draft::{Draft, Stop};
 use crate::frame::Frame;

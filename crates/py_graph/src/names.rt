@@ -1,7 +1,6 @@
 //! Names of modules: which parts a path gives.
 
-ghost use Rattle.std.specs.Prelude.{◌≡◌, ◌-◌, ◌==◌, length, map, slice_get, IfOk};
-ghost use Rattle.std.specs.List.{slice_split, list_all};
+ghost use Rattle.std.specs.{Prelude.{◌≡◌, ◌-◌, ◌==◌, length, map, slice_get, IfOk}, List.{slice_split, list_all}};
 ghost use Rattle.py_subset.specs.Pieces as byte;
 ghost use Rattle.py_graph.specs.Names as spec;
 

@@ -1,9 +1,8 @@
 //! The nodes that the table makes.
 
 ghost use Rattle.std.specs.Prelude.{◌≡◌, IfOk, IfSome, decimal};
+ghost use Rattle.py_graph.specs.{Gives.{Gives}, Inside.{Grows, IsNode}};
 ghost use Rattle.py_graph.specs.Nodes as made;
-ghost use Rattle.py_graph.specs.Gives.{Gives};
-ghost use Rattle.py_graph.specs.Inside.{Grows, IsNode};
 ghost use Rattle.py_graph.specs.Steps as steps;
 
 use crate::draft::{Draft, Stop, span_of};

@@ -1,9 +1,8 @@
 //! The parameters of functions.
 
+ghost use Rattle.py_graph.specs.{Inside.{Grows, ArePairIf}, Gives.{Gives}};
 ghost use Rattle.py_graph.specs.Functions as row;
-ghost use Rattle.py_graph.specs.Inside.{Grows, ArePairIf};
 ghost use Rattle.std.specs.Prelude.{◌<◌, length};
-ghost use Rattle.py_graph.specs.Gives.{Gives};
 
 use crate::draft::{Draft, Stop};
 use crate::nodes::{definition, drops, pop_dot, push_number};

@@ -1,9 +1,8 @@
 //! The rows of statements without blocks.
 
+ghost use Rattle.py_graph.specs.{Inside.{Grows, IsInside}, Gives.{Gives}};
 ghost use Rattle.py_graph.specs.Statements as row;
-ghost use Rattle.py_graph.specs.Inside.{Grows, IsInside};
 ghost use Rattle.std.specs.Prelude.{◌<◌, length};
-ghost use Rattle.py_graph.specs.Gives.{Gives};
 
 use crate::draft::{Draft, Stop};
 use crate::expressions::{atom, exprs, member, name, onward};

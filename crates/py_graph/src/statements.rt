@@ -1,14 +1,12 @@
 //! The rows of statements with blocks.
 
-ghost use Rattle.std.specs.Prelude.{map};
+ghost use Rattle.std.specs.{Prelude.{map}, Prelude.{◌<◌, length, IfOk}};
+ghost use Rattle.py_graph.specs.{Inside.{Grows, ArePair, IsInside}, Gives.{Gives}};
 ghost use Rattle.py_graph.specs.Blocks as blocks;
 ghost use Rattle.py_graph.specs.Classes as classes;
 ghost use Rattle.py_graph.specs.Expressions as visit;
 ghost use Rattle.py_graph.specs.Functions as functions;
 ghost use Rattle.py_graph.specs.Statements as row;
-ghost use Rattle.py_graph.specs.Inside.{Grows, ArePair, IsInside};
-ghost use Rattle.std.specs.Prelude.{◌<◌, length, IfOk};
-ghost use Rattle.py_graph.specs.Gives.{Gives};
 
 use crate::draft::{Draft, Stop};
 use crate::expressions::{expr, exprs};

@@ -1,9 +1,7 @@
 //! The whole: a module's graph, or its fault.
 
 ghost use Rattle.std.specs.Prelude.{[], map};
-ghost use Rattle.py_graph.specs.Modules.{Translates, graph_of, limited, table, told, graph_of_named};
-ghost use Rattle.py_graph.specs.Inside.{Grows};
-ghost use Rattle.py_graph.specs.Gives.{Gives};
+ghost use Rattle.py_graph.specs.{Modules.{Translates, graph_of, limited, table, told, graph_of_named}, Inside.{Grows}, Gives.{Gives}};
 ghost use Rattle.py_graph.specs.Names as names;
 
 use crate::draft::{Draft, Stop};

@@ -1,7 +1,6 @@
 //! The keyword that a word is.
 
-ghost use Rattle.std.specs.Prelude.{◌≡◌};
-ghost use Rattle.std.specs.Str.{bytes_eq};
+ghost use Rattle.std.specs.{Prelude.{◌≡◌}, Str.{bytes_eq}};
 ghost use Rattle.py_subset.specs.Pieces as spec;
 
 use crate::token::Mark;

@@ -1,8 +1,6 @@
 //! What each piece adds to the tokens.
 
-ghost use Rattle.std.specs.Prelude.{◌≡◌, ◌+◌, ◌^◌, ◌<◌, ◌≤◌, length, nat_le};
-ghost use Rattle.std.specs.List.{prefix_len};
-ghost use Rattle.std.specs.Str.{IsAscii};
+ghost use Rattle.std.specs.{Prelude.{◌≡◌, ◌+◌, ◌^◌, ◌<◌, ◌≤◌, length, nat_le}, List.{prefix_len}, Str.{IsAscii}};
 ghost use Rattle.py_subset.specs.Pieces as pieces;
 ghost use Rattle.py_subset.specs.Layout as spec;
 

@@ -1,9 +1,7 @@
 //! Lists of parts with a mark between.
 
 ghost use Rattle.std.specs.Prelude.{◌≡◌};
-ghost use Rattle.py_subset.specs.Parsers.{Gives, both, star, several, ◌▹◌};
-ghost use Rattle.py_subset.specs.Parsing.{is};
-ghost use Rattle.py_subset.specs.Trees.{cons};
+ghost use Rattle.py_subset.specs.{Parsers.{Gives, both, star, several, ◌▹◌}, Parsing.{is}, Trees.{cons}};
 
 use crate::Items;
 use crate::token::Mark;

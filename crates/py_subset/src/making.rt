@@ -1,7 +1,6 @@
 //! Tokens that are made of pieces.
 
-ghost use Rattle.std.specs.Prelude.{◌≡◌, ◌+◌, ◌^◌, ◌<◌, ◌++◌, length, replicate, OnOk};
-ghost use Rattle.std.specs.Str.{IsAscii};
+ghost use Rattle.std.specs.{Prelude.{◌≡◌, ◌+◌, ◌^◌, ◌<◌, ◌++◌, length, replicate, OnOk}, Str.{IsAscii}};
 ghost use Rattle.py_subset.specs.Layout as spec;
 
 use crate::Items;

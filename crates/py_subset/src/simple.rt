@@ -1,8 +1,8 @@
 //! Statements of one line.
 
 ghost use Rattle.std.specs.Prelude.{◌≡◌};
-ghost use Rattle.py_subset.specs.Trees as tree;
 ghost use Rattle.py_subset.specs.Parsers.{Gives};
+ghost use Rattle.py_subset.specs.Trees as tree;
 ghost use Rattle.py_subset.specs.Statements as spec;
 
 use crate::expr::exprs;

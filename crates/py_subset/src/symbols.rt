@@ -1,8 +1,8 @@
 //! What single tokens of an expression stand for.
 
 ghost use Rattle.std.specs.Prelude.{◌≡◌};
-ghost use Rattle.py_subset.specs.Trees as tree;
 ghost use Rattle.py_subset.specs.Parsers.{Gives, marked, star};
+ghost use Rattle.py_subset.specs.Trees as tree;
 ghost use Rattle.py_subset.specs.Parsing as spec;
 
 use crate::Items;

@@ -1,13 +1,8 @@
 //! The whole: a text's module, or its first fault.
 
 ghost use Rattle.std.specs.Prelude.{◌≡◌, ◌^◌, ◌<◌, ℕ, List, length, IfOk, Ok, Err};
-ghost use Rattle.py_subset.specs.FirstFault.{TellsFirst};
-ghost use Rattle.py_subset.specs.Layout.{Reads, tokens_of};
-ghost use Rattle.py_subset.specs.Correct.{IsModule};
-ghost use Rattle.py_subset.specs.Dotted.{HasDotted};
-ghost use Rattle.py_subset.specs.declared.tree.Module.{Module};
+ghost use Rattle.py_subset.specs.{FirstFault.{TellsFirst}, Layout.{Reads, tokens_of}, Correct.{IsModule}, Dotted.{HasDotted}, declared.tree.Module.{Module}, Texts.{Answers}};
 ghost use Rattle.py_subset.specs.Refusals as refusals;
-ghost use Rattle.py_subset.specs.Texts.{Answers};
 ghost use Rattle.py_subset.specs.Whole as spec;
 
 use crate::block::module_body;

@@ -17,10 +17,8 @@ pub(crate) struct Block {
 }
 
 impl Model for Block {
-    ghost use Rattle.std.specs.Prelude.{List};
-    ghost use Rattle.std.specs.Arc.{arc_value};
-    ghost use Rattle.root_index.specs.Roots.{RootPath};
-    ghost use Rattle.root_index.specs.Blocks.{IsBlock};
+    ghost use Rattle.std.specs.{Prelude.{List}, Arc.{arc_value}};
+    ghost use Rattle.root_index.specs.{Roots.{RootPath}, Blocks.{IsBlock}};
 
     ghost Value = { List RootPath };
 

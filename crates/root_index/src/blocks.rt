@@ -18,8 +18,7 @@ pub(crate) struct Blocks {
 
 impl Model for Blocks {
     ghost use Rattle.std.specs.Prelude.{List, All};
-    ghost use Rattle.root_index.specs.Roots.{RootPath};
-    ghost use Rattle.root_index.specs.Blocks.{IsBlock};
+    ghost use Rattle.root_index.specs.{Roots.{RootPath}, Blocks.{IsBlock}};
 
     ghost Value = { List (List RootPath) };
 
@@ -29,11 +28,8 @@ impl Model for Blocks {
 }
 
 impl Blocks {
-    ghost use Rattle.std.specs.Prelude.{◌≡◌, ◌<◌, ◌≤◌, ◌+◌, ◌++◌, [], ◌∷◌, length, take, drop, not, slice_get, Some, IfOk, OnOk, MatchOption, All};
-    ghost use Rattle.std.specs.List.{filter, prefix_len, insert};
-    ghost use Rattle.std.specs.List.Sorted.{IsPartitionedBy};
-    ghost use Rattle.root_index.specs.Roots.{AreByRank};
-    ghost use Rattle.root_index.specs.Blocks.{IsBlock, IsEndOf, IsStrict, AreStarts, all_paths, first_passes, is_up_to, is_tied};
+    ghost use Rattle.std.specs.{Prelude.{◌≡◌, ◌<◌, ◌≤◌, ◌+◌, ◌++◌, [], ◌∷◌, length, take, drop, not, slice_get, Some, IfOk, OnOk, MatchOption, All}, List.{filter, prefix_len, insert}, List.Sorted.{IsPartitionedBy}};
+    ghost use Rattle.root_index.specs.{Roots.{AreByRank}, Blocks.{IsBlock, IsEndOf, IsStrict, AreStarts, all_paths, first_passes, is_up_to, is_tied}};
 
     /// No blocks. It takes no memory.
     pub(crate) fn new(alloc: Global) -> Blocks

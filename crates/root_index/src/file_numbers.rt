@@ -1,8 +1,7 @@
 //! The number of a path's file in a view.
 
 ghost use Rattle.std.specs.Prelude.{◌≡◌, ◌<◌, Some, IfSome, IsTrue};
-ghost use Rattle.version_tree.specs.Limits.{max_files};
-ghost use Rattle.version_tree.specs.Views.{path_at};
+ghost use Rattle.version_tree.specs.{Limits.{max_files}, Views.{path_at}};
 ghost use Rattle.root_index.specs.Offers.{number_in};
 
 use version_tree::View;

@@ -13,10 +13,8 @@ pub(crate) struct Group {
 }
 
 impl Model for Group {
-    ghost use Rattle.std.specs.Prelude.{List};
-    ghost use Rattle.std.specs.Arc.{arc_value};
-    ghost use Rattle.root_index.specs.Roots.{RootPath};
-    ghost use Rattle.root_index.specs.Groups.{IsGroup};
+    ghost use Rattle.std.specs.{Prelude.{List}, Arc.{arc_value}};
+    ghost use Rattle.root_index.specs.{Roots.{RootPath}, Groups.{IsGroup}};
 
     ghost Value = { List RootPath };
 
@@ -27,8 +25,7 @@ impl Model for Group {
 
 impl Group {
     ghost use Rattle.std.specs.Prelude.{◌≡◌, ◌++◌, Some, IfOk, OnOk, slice_get};
-    ghost use Rattle.root_index.specs.Blocks.{all_paths};
-    ghost use Rattle.root_index.specs.Groups.{IsGroup};
+    ghost use Rattle.root_index.specs.{Blocks.{all_paths}, Groups.{IsGroup}};
 
     /// The group of these paths. The one error is want of memory.
     pub(crate) fn of(alloc: Global, blocks: Blocks) -> Result<Group, AllocError>

@@ -1,9 +1,6 @@
-ghost use Rattle.std.specs.Prelude.{◌≡◌, ◌≤◌, length, take};
-ghost use Rattle.std.specs.List.{prefix_len};
-ghost use Rattle.std.specs.List.Sorted.{IsPartitionedBy};
+ghost use Rattle.std.specs.{Prelude.{◌≡◌, ◌≤◌, length, take}, List.{prefix_len}, List.Sorted.{IsPartitionedBy}};
 ghost use Rattle.partial_path.specs.Keys.{key_size, texts};
-ghost use Rattle.root_index.specs.Blocks.{first_passes};
-ghost use Rattle.root_index.specs.Inside.{is_before_key};
+ghost use Rattle.root_index.specs.{Blocks.{first_passes}, Inside.{is_before_key}};
 
 use crate::group::Group;
 use crate::groups::Groups;
@@ -24,8 +21,7 @@ pub(crate) struct GroupList {
 
 impl Model for GroupList {
     ghost use Rattle.std.specs.Prelude.{◌≡◌, ◌<◌, ◌^◌, List, length};
-    ghost use Rattle.root_index.specs.Roots.{RootPath};
-    ghost use Rattle.root_index.specs.Blocks.{AreStarts, all_paths};
+    ghost use Rattle.root_index.specs.{Roots.{RootPath}, Blocks.{AreStarts, all_paths}};
 
     ghost Value = { List RootPath };
 
@@ -36,12 +32,9 @@ impl Model for GroupList {
 }
 
 impl GroupList {
-    ghost use Rattle.std.specs.Prelude.{◌≡◌, ◌<◌, ◌≤◌, [], length, take, slice_get, None, Some, IfOk, MatchOption};
-    ghost use Rattle.std.specs.List.{prefix_len};
-    ghost use Rattle.std.specs.List.Sorted.{IsPartitionedBy};
+    ghost use Rattle.std.specs.{Prelude.{◌≡◌, ◌<◌, ◌≤◌, [], length, take, slice_get, None, Some, IfOk, MatchOption}, List.{prefix_len}, List.Sorted.{IsPartitionedBy}};
     ghost use Rattle.partial_path.specs.Keys.{key_size, texts};
-    ghost use Rattle.root_index.specs.Blocks.{all_paths};
-    ghost use Rattle.root_index.specs.Inside.{is_before_key};
+    ghost use Rattle.root_index.specs.{Blocks.{all_paths}, Inside.{is_before_key}};
 
     /// No paths. It takes no memory.
     pub(crate) fn new(alloc: Global) -> GroupList

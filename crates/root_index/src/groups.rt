@@ -1,6 +1,5 @@
 ghost use Rattle.std.specs.Prelude.{◌≡◌, ◌≤◌, ◌<◌, ◌+◌, ◌++◌, length, take, drop, slice_index_or, [], IfOk, OnOk, All};
-ghost use Rattle.root_index.specs.Blocks.{all_paths, first_passes, is_up_to};
-ghost use Rattle.root_index.specs.Groups.{IsGroup};
+ghost use Rattle.root_index.specs.{Blocks.{all_paths, first_passes, is_up_to}, Groups.{IsGroup}};
 
 use crate::blocks::Blocks;
 use crate::group::Group;
@@ -21,8 +20,7 @@ pub(crate) struct Groups {
 
 impl Model for Groups {
     ghost use Rattle.std.specs.Prelude.{List, All};
-    ghost use Rattle.root_index.specs.Roots.{RootPath};
-    ghost use Rattle.root_index.specs.Groups.{IsGroup};
+    ghost use Rattle.root_index.specs.{Roots.{RootPath}, Groups.{IsGroup}};
 
     ghost Value = { List (List RootPath) };
 
@@ -32,11 +30,8 @@ impl Model for Groups {
 }
 
 impl Groups {
-    ghost use Rattle.std.specs.Prelude.{◌≡◌, ◌<◌, ◌≤◌, ◌+◌, ◌++◌, [], ◌∷◌, length, take, drop, not, slice_index_or, Some, IfOk, All};
-    ghost use Rattle.std.specs.List.{filter, prefix_len, insert};
-    ghost use Rattle.root_index.specs.Roots.{AreByRank};
-    ghost use Rattle.root_index.specs.Blocks.{IsEndOf, IsStrict, AreStarts, all_paths, first_passes, is_up_to, is_tied};
-    ghost use Rattle.root_index.specs.Groups.{IsGroup};
+    ghost use Rattle.std.specs.{Prelude.{◌≡◌, ◌<◌, ◌≤◌, ◌+◌, ◌++◌, [], ◌∷◌, length, take, drop, not, slice_index_or, Some, IfOk, All}, List.{filter, prefix_len, insert}};
+    ghost use Rattle.root_index.specs.{Roots.{AreByRank}, Blocks.{IsEndOf, IsStrict, AreStarts, all_paths, first_passes, is_up_to, is_tied}, Groups.{IsGroup}};
 
     /// No groups. It takes no memory.
     pub(crate) fn new(alloc: Global) -> Groups

@@ -1,8 +1,6 @@
 //! How blocks and paths stand to a path: which begin no higher, which stand at its rank.
 
-ghost use Rattle.std.specs.Prelude.{◌≡◌, ◌≤◌, ◌<◌, ◌+◌, nat_lt, true, length};
-ghost use Rattle.std.specs.List.{prefix_len};
-ghost use Rattle.std.specs.List.Sorted.{IsPartitionedBy};
+ghost use Rattle.std.specs.{Prelude.{◌≡◌, ◌≤◌, ◌<◌, ◌+◌, nat_lt, true, length}, List.{prefix_len}, List.Sorted.{IsPartitionedBy}};
 ghost use Rattle.root_index.specs.Blocks.{first_passes, is_tied, is_up_to};
 
 use crate::block::Block;

@@ -35,10 +35,7 @@ impl Model for RootIndex {
 impl RootIndex {
     ghost use Rattle.std.specs.Prelude.{◌≡◌, [], ◌∷◌, IfOk, MatchOption, IsPermutation, option_copied};
     ghost use Rattle.version_tree.specs.Contents.{edited_all};
-    ghost use Rattle.root_index.specs.Roots.{IsIndexOf, IsIndexOfView};
-    ghost use Rattle.root_index.specs.Offers.{files_of, offers_left, roots_offered};
-    ghost use Rattle.root_index.specs.Looks.{look_left, roots_looked};
-    ghost use Rattle.root_index.specs.SeenFiles.{AreSeenFiles};
+    ghost use Rattle.root_index.specs.{Roots.{IsIndexOf, IsIndexOfView}, Offers.{files_of, offers_left, roots_offered}, Looks.{look_left, roots_looked}, SeenFiles.{AreSeenFiles}};
 
     /// The index of a version without files. It takes no memory.
     pub fn empty(alloc: Global) -> RootIndex

@@ -1,11 +1,7 @@
 //! The heads of the symbols whose texts make a path's key, and their tails, which are the heads of what stands behind the
 //! first seven bytes: most keys are told apart by the heads and nearly all by both, with no look at the path.
-ghost use Rattle.std.specs.Prelude.{◌≡◌, ◌≤◌, ◌<◌, ◌%◌, ℕ, List, Option, length, take, drop, slice_get, slice_index, IfSome, IfNone};
-ghost use Rattle.std.specs.Ordering.{nat_cmp};
-ghost use Rattle.std.specs.Option.{option_cmp, option_map};
-ghost use Rattle.std.specs.Cmp.Lexicographic.{slice_cmp};
-ghost use Rattle.partial_path.specs.Keys.{key, key_cmp, key_size, texts};
-ghost use Rattle.partial_path.specs.Heads.{IsHeadAt};
+ghost use Rattle.std.specs.{Prelude.{◌≡◌, ◌≤◌, ◌<◌, ◌%◌, ℕ, List, Option, length, take, drop, slice_get, slice_index, IfSome, IfNone}, Ordering.{nat_cmp}, Option.{option_cmp, option_map}, Cmp.Lexicographic.{slice_cmp}};
+ghost use Rattle.partial_path.specs.{Keys.{key, key_cmp, key_size, texts}, Heads.{IsHeadAt}};
 ghost use Rattle.stacks_vars.specs.Head.{IsHead};
 ghost use Rattle.root_index.specs.Heads.{AreHeads, AreTails, IsTailAt};
 

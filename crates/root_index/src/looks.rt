@@ -1,9 +1,7 @@
 //! Going over a user's paths from the root, file by file.
 ghost use Rattle.std.specs.Prelude.{◌≡◌, ◌<◌, [], ◌∷◌, ◌+◌, drop, filter, option_copied, IfSome, MatchOption};
 ghost use Rattle.partial_path.specs.Sources.{asks_rule};
-ghost use Rattle.root_index.specs.Roots.{root};
-ghost use Rattle.root_index.specs.Offers.{files_of};
-ghost use Rattle.root_index.specs.Looks.{look_behind, look_here, look_left};
+ghost use Rattle.root_index.specs.{Roots.{root}, Offers.{files_of}, Looks.{look_behind, look_here, look_left}};
 
 use partial_path::{Spot, Start, StoredPath, StoredPaths, asks};
 use stacks_vars::Symbol;

@@ -1,8 +1,7 @@
 //! How a path from the root stands to the keys that a stack of symbols makes.
 ghost use Rattle.std.specs.Prelude.{◌≡◌, ◌<◌, ◌≤◌, length, slice_get, Some};
 ghost use Rattle.partial_path.specs.Keys.{key_size, texts};
-ghost use Rattle.root_index.specs.Met.{IsMet};
-ghost use Rattle.root_index.specs.Roots.{root_key};
+ghost use Rattle.root_index.specs.{Met.{IsMet}, Roots.{root_key}};
 
 use crate::slot::Slot;
 use partial_path::KEY_SIZE;

@@ -1,12 +1,8 @@
 //! Taking from an index what it offers to a stack of symbols, path by path.
-ghost use Rattle.std.specs.Prelude.{◌≡◌, ◌≤◌, ◌<◌, ◌+◌, List, [], ◌∷◌, take, drop, filter, slice_get, true, false, Some, IfSome, MatchOption};
+ghost use Rattle.std.specs.{Prelude.{◌≡◌, ◌≤◌, ◌<◌, ◌+◌, List, [], ◌∷◌, take, drop, filter, slice_get, true, false, Some, IfSome, MatchOption}, List.{prefix_len}, Option.{option_map_or}};
 ghost use Rattle.stacks_vars.specs.declared.items.SymbolItem.{SymbolItem};
-ghost use Rattle.std.specs.List.{prefix_len};
-ghost use Rattle.std.specs.Option.{option_map_or};
 ghost use Rattle.partial_path.specs.Keys.{key_size, texts};
-ghost use Rattle.root_index.specs.Roots.{AreByRank};
-ghost use Rattle.root_index.specs.Offers.{asks, paths_left};
-ghost use Rattle.root_index.specs.Inside.{is_before_key};
+ghost use Rattle.root_index.specs.{Roots.{AreByRank}, Offers.{asks, paths_left}, Inside.{is_before_key}};
 
 use crate::group_list::GroupList;
 use crate::hints::Hints;

@@ -20,8 +20,7 @@ pub(crate) struct Slot {
 
 impl Model for Slot {
     ghost use Rattle.std.specs.Prelude.{◌<◌, length, slice_get};
-    ghost use Rattle.root_index.specs.Roots.{RootPath, root_path, root_key};
-    ghost use Rattle.root_index.specs.Heads.{AreHeads, AreTails};
+    ghost use Rattle.root_index.specs.{Roots.{RootPath, root_path, root_key}, Heads.{AreHeads, AreTails}};
 
     ghost Value = { RootPath };
 
@@ -35,14 +34,10 @@ impl Model for Slot {
 }
 
 impl Slot {
-    ghost use Rattle.std.specs.Prelude.{◌≡◌, ◌<◌, ◌≤◌, Some, IfOk, IsTrue, length, take, slice_get};
-    ghost use Rattle.std.specs.Cmp.Lexicographic.{slice_cmp};
-    ghost use Rattle.std.specs.Option.{is_some, option_map};
-    ghost use Rattle.std.specs.Ordering.{nat_cmp, ordering_then};
+    ghost use Rattle.std.specs.{Prelude.{◌≡◌, ◌<◌, ◌≤◌, Some, IfOk, IsTrue, length, take, slice_get}, Cmp.Lexicographic.{slice_cmp}, Option.{is_some, option_map}, Ordering.{nat_cmp, ordering_then}};
     ghost use Rattle.version_tree.specs.Contents.{path_cmp};
     ghost use Rattle.partial_path.specs.Keys.{key_cmp, key_size, texts};
-    ghost use Rattle.root_index.specs.Roots.{root_path, root_key, rank, rank_cmp};
-    ghost use Rattle.root_index.specs.Inside.{IsOtherwise, key_order};
+    ghost use Rattle.root_index.specs.{Roots.{root_path, root_key, rank, rank_cmp}, Inside.{IsOtherwise, key_order}};
 
     /// The path at that place of the file.
     pub(crate) fn of(file: FileHandle, place: usize) -> Slot
@@ -191,10 +186,7 @@ impl Slot {
     }
 }
 
-ghost use Rattle.std.specs.Prelude.{◌≡◌, ◌<◌, slice_get};
-ghost use Rattle.std.specs.Cmp.Lexicographic.{slice_cmp};
-ghost use Rattle.std.specs.Option.{option_map};
-ghost use Rattle.std.specs.Ordering.{nat_cmp};
+ghost use Rattle.std.specs.{Prelude.{◌≡◌, ◌<◌, slice_get}, Cmp.Lexicographic.{slice_cmp}, Option.{option_map}, Ordering.{nat_cmp}};
 ghost use Rattle.partial_path.specs.Keys.{key, key_size};
 
 /// How the symbol that the path asks for at that place, from 0, stands to that one; None where it asks for fewer.

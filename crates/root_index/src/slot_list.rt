@@ -1,10 +1,6 @@
-ghost use Rattle.std.specs.Prelude.{◌≡◌, ◌<◌, ◌≤◌, List, nat_lt, true, length, take};
-ghost use Rattle.std.specs.List.{prefix_len};
-ghost use Rattle.std.specs.List.Sorted.{IsPartitionedBy};
+ghost use Rattle.std.specs.{Prelude.{◌≡◌, ◌<◌, ◌≤◌, List, nat_lt, true, length, take}, List.{prefix_len}, List.Sorted.{IsPartitionedBy}};
 ghost use Rattle.partial_path.specs.Keys.{key_size, texts};
-ghost use Rattle.root_index.specs.Blocks.{AreStarts, IsAmong, IsPlaceIn, all_paths, begins_by, first_passes};
-ghost use Rattle.root_index.specs.Inside.{is_before_key};
-ghost use Rattle.root_index.specs.Roots.{RootPath};
+ghost use Rattle.root_index.specs.{Blocks.{AreStarts, IsAmong, IsPlaceIn, all_paths, begins_by, first_passes}, Inside.{is_before_key}, Roots.{RootPath}};
 
 use crate::block::{Block, MADE_PATHS};
 use crate::blocks::Blocks;
@@ -24,8 +20,7 @@ pub(crate) struct SlotList {
 
 impl Model for SlotList {
     ghost use Rattle.std.specs.Prelude.{◌≡◌, ◌<◌, ◌^◌, List, length};
-    ghost use Rattle.root_index.specs.Roots.{RootPath};
-    ghost use Rattle.root_index.specs.Blocks.{AreStarts, all_paths};
+    ghost use Rattle.root_index.specs.{Roots.{RootPath}, Blocks.{AreStarts, all_paths}};
 
     ghost Value = { List RootPath };
 
@@ -36,12 +31,9 @@ impl Model for SlotList {
 }
 
 impl SlotList {
-    ghost use Rattle.std.specs.Prelude.{◌≡◌, ◌<◌, ◌≤◌, length, take, slice_get, Some, IfOk};
-    ghost use Rattle.std.specs.List.{prefix_len};
-    ghost use Rattle.std.specs.List.Sorted.{IsPartitionedBy};
+    ghost use Rattle.std.specs.{Prelude.{◌≡◌, ◌<◌, ◌≤◌, length, take, slice_get, Some, IfOk}, List.{prefix_len}, List.Sorted.{IsPartitionedBy}};
     ghost use Rattle.partial_path.specs.Keys.{key_size, texts};
-    ghost use Rattle.root_index.specs.Blocks.{all_paths};
-    ghost use Rattle.root_index.specs.Inside.{is_before_key};
+    ghost use Rattle.root_index.specs.{Blocks.{all_paths}, Inside.{is_before_key}};
 
     /// The paths of these blocks. The one error is want of memory.
     pub(crate) fn of(alloc: Global, blocks: Blocks) -> Result<SlotList, AllocError>

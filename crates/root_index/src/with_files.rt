@@ -1,9 +1,7 @@
 //! Paths with those of the files that edits put.
 
 ghost use Rattle.std.specs.Prelude.{◌++◌, IfOk, OnOk, IsPermutation};
-ghost use Rattle.root_index.specs.Roots.{AreByRank, all_roots};
-ghost use Rattle.root_index.specs.Amended.{rows_at, touched_rows};
-ghost use Rattle.root_index.specs.Blocks.{all_paths};
+ghost use Rattle.root_index.specs.{Roots.{AreByRank, all_roots}, Amended.{rows_at, touched_rows}, Blocks.{all_paths}};
 
 use crate::edited_files::{FEW_EDITS, is_touched, path_of};
 use crate::file_handle::FileHandle;

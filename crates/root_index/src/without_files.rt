@@ -1,9 +1,7 @@
 //! Paths without those of the files that edits put or remove.
 
 ghost use Rattle.std.specs.Prelude.{◌≡◌, IfOk};
-ghost use Rattle.root_index.specs.Roots.{AreByRank, IsIndexOf};
-ghost use Rattle.root_index.specs.Amended.{AreFrom, AreOf, other_paths, without_file};
-ghost use Rattle.root_index.specs.Blocks.{IsStrict, all_paths};
+ghost use Rattle.root_index.specs.{Roots.{AreByRank, IsIndexOf}, Amended.{AreFrom, AreOf, other_paths, without_file}, Blocks.{IsStrict, all_paths}};
 
 use crate::edited_files::path_of;
 use crate::file_handle::FileHandle;

@@ -1,8 +1,7 @@
 //! The rows of several answers as one list, each node once in file order.
 #![tactic(auto)]
 
-ghost use Rattle.std.specs.Prelude.{◌≡◌};
-ghost use Rattle.std.specs.Ordering.{is_eq};
+ghost use Rattle.std.specs.{Prelude.{◌≡◌}, Ordering.{is_eq}};
 ghost use Rattle.row_sets.specs.Rows.{AreInOrder, place_cmp};
 
 use std::cmp::Ordering;

@@ -1,9 +1,5 @@
-ghost use Rattle.std.specs.Prelude.{◌≡◌, ◌↔◌, List, Bool, false, map, IfOk, IsTrue, Contains};
-ghost use Rattle.std.specs.List.Sorted.{IsSortedBy};
-ghost use Rattle.std.specs.Ordering.{is_lt};
-ghost use Rattle.shadowing.specs.declared.paths.EdgeStep.{EdgeStep};
-ghost use Rattle.shadowing.specs.Shadow.{same_step, shadows, is_shadowed, unshadowed};
-ghost use Rattle.shadowing.specs.Ranks.{by_rank};
+ghost use Rattle.std.specs.{Prelude.{◌≡◌, ◌↔◌, List, Bool, false, map, IfOk, IsTrue, Contains}, List.Sorted.{IsSortedBy}, Ordering.{is_lt}};
+ghost use Rattle.shadowing.specs.{declared.paths.EdgeStep.{EdgeStep}, Shadow.{same_step, shadows, is_shadowed, unshadowed}, Ranks.{by_rank}};
 
 use crate::paths::{EdgeList, EdgeStep};
 use std::alloc::{AllocError, Global};

@@ -1,6 +1,5 @@
 //! What goes with a log that is published: its version, and how many entries each seat has.
-ghost use Rattle.std.specs.Prelude.{◌≡◌, ◌<◌, ◌+◌, ◌^◌, ℕ, [], Err, IfOk, length, slice_index, slice_set};
-ghost use Rattle.std.specs.Arc.{arc_value};
+ghost use Rattle.std.specs.{Prelude.{◌≡◌, ◌<◌, ◌+◌, ◌^◌, ℕ, [], Err, IfOk, length, slice_index, slice_set}, Arc.{arc_value}};
 ghost use Rattle.shared_board.specs.Bodies.{IsBodyOf};
 
 use root_index::RootIndex;

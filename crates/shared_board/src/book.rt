@@ -87,8 +87,7 @@ pub struct SharedBoard {
 
 impl Model for SharedBoard {
     ghost use Rattle.std.specs.Prelude.{◌≡◌, ◌≤◌, []};
-    ghost use Rattle.shared_board.specs.Books.{head_of};
-    ghost use Rattle.shared_board.specs.Seats.{Board, max_seats};
+    ghost use Rattle.shared_board.specs.{Books.{head_of}, Seats.{Board, max_seats}};
 
     ghost Value = { Board };
 

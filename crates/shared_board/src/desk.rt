@@ -1,10 +1,9 @@
 //! What the seats of a board share: the book's word, and under a lock the newest head with the writer that shows it.
 ghost use Rattle.std.specs.Prelude.{◌≡◌, ◌<◌, ◌≤◌, ◌+◌, ◌^◌, ℕ, true, [], ◌∷◌, ◌++◌, None, Some, Err, IfOk, OnOk, IfSome, OnErr, MatchOption, MatchResult, length};
 ghost use Rattle.version_tree.specs.declared.edit.EditFault.{EditFault as Faults};
-ghost use Rattle.version_board.specs.declared.fault.CommitFault.TheVariants as why;
 ghost use Rattle.version_board.specs.Logs.{own, entry, refusal, FitsHead, IsStale, IsRefused};
-ghost use Rattle.shared_board.specs.Bodies.{IsBodyOf};
-ghost use Rattle.shared_board.specs.Commits.{Settles};
+ghost use Rattle.version_board.specs.declared.fault.CommitFault.TheVariants as why;
+ghost use Rattle.shared_board.specs.{Bodies.{IsBodyOf}, Commits.{Settles}};
 
 use crate::body::Body;
 use crate::book::{Book, Draft, Naming};

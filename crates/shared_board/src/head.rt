@@ -1,9 +1,8 @@
 //! A beginning of the log with what goes with it, and the slot in which seats find the newest.
-ghost use Rattle.std.specs.Prelude.{◌≡◌, ◌<◌, ◌≤◌, ◌+◌, ◌^◌, ℕ, [], ◌∷◌, ◌++◌, None, Err, IfOk, OnOk, IfSome, IsTrue, IsFalse, length};
-ghost use Rattle.std.specs.Arc.{arc_value};
+ghost use Rattle.std.specs.{Prelude.{◌≡◌, ◌<◌, ◌≤◌, ◌+◌, ◌^◌, ℕ, [], ◌∷◌, ◌++◌, None, Err, IfOk, OnOk, IfSome, IsTrue, IsFalse, length}, Arc.{arc_value}};
 ghost use Rattle.version_tree.specs.declared.edit.EditFault.{EditFault as Faults};
-ghost use Rattle.version_board.specs.declared.fault.CommitFault.TheVariants as why;
 ghost use Rattle.version_board.specs.Logs.{version_of, own, entry, refusal, Begins, FitsHead, IsLater, IsStale, IsRefused};
+ghost use Rattle.version_board.specs.declared.fault.CommitFault.TheVariants as why;
 ghost use Rattle.shared_board.specs.Bodies.{IsIndexed, IsBodyOf};
 
 use crate::body::Body;
@@ -24,8 +23,7 @@ pub struct Head<J: Naming> {
 }
 
 impl<J: Naming> Model for Head<J> {
-    ghost use Rattle.std.specs.Prelude.{List};
-    ghost use Rattle.std.specs.Arc.{arc_value};
+    ghost use Rattle.std.specs.{Prelude.{List}, Arc.{arc_value}};
     ghost use Rattle.version_tree.specs.declared.entry.Entry.{Entry};
     ghost use Rattle.shared_board.specs.Bodies.{IsBodyOf};
 

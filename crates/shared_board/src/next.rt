@@ -1,13 +1,10 @@
 //! The version that edits make of another, made before anything is appended.
-ghost use Rattle.std.specs.Prelude.{◌≡◌, ◌≢◌, true, false, ◌<◌, ◌+◌, ◌^◌, ℕ, None, Some, Ok, Err, IfOk, IfErr, OnOk, length, slice_index, slice_set};
-ghost use Rattle.std.specs.Arc.{arc_value};
-ghost use Rattle.version_tree.specs.declared.edit.EditFault.{EditFault as Faults};
+ghost use Rattle.std.specs.{Prelude.{◌≡◌, ◌≢◌, true, false, ◌<◌, ◌+◌, ◌^◌, ℕ, None, Some, Ok, Err, IfOk, IfErr, OnOk, length, slice_index, slice_set}, Arc.{arc_value}};
+ghost use Rattle.version_tree.specs.{declared.edit.EditFault.{EditFault as Faults}, Contents.{edited_all}, Verdict.{edit_fault}};
 ghost use Rattle.version_tree.specs.declared.edit.EditFault.TheVariants as faults;
-ghost use Rattle.version_tree.specs.Contents.{edited_all};
-ghost use Rattle.version_tree.specs.Verdict.{edit_fault};
 ghost use Rattle.root_index.specs.Roots.{IsIndexOf};
-ghost use Rattle.version_board.specs.declared.fault.CommitFault.TheVariants as why;
 ghost use Rattle.version_board.specs.Logs.{FitsHead, IsStale};
+ghost use Rattle.version_board.specs.declared.fault.CommitFault.TheVariants as why;
 ghost use Rattle.shared_board.specs.Bodies.{IsNext, Refuses};
 
 use std::alloc::{AllocError, Global};

@@ -1,8 +1,7 @@
 //! A seat at a shared board.
 ghost use Rattle.std.specs.Prelude.{◌≡◌, ◌<◌, ◌≤◌, ℕ, [], length, IsTrue, Some, Err, IfSome, OnOk, OnErr};
 ghost use Rattle.version_board.specs.Logs.{own, Begins, IsLater};
-ghost use Rattle.shared_board.specs.Seats.{newcomer, pinned_log};
-ghost use Rattle.shared_board.specs.Commits.{Settles};
+ghost use Rattle.shared_board.specs.{Seats.{newcomer, pinned_log}, Commits.{Settles}};
 
 use crate::book::Naming;
 use crate::desk::{HeadReader, Shared};

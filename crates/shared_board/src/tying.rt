@@ -1,7 +1,6 @@
 //! What all seats of a board have seen, brought together.
 ghost use Rattle.std.specs.Prelude.{◌≡◌, ◌<◌, IfOk, OnOk, IsTrue};
-ghost use Rattle.shared_board.specs.Seats.{AreSeats, HaveLearnt, IsLogOfAll, last_log};
-ghost use Rattle.shared_board.specs.Tied.{AllBegin, HaveOwn};
+ghost use Rattle.shared_board.specs.{Seats.{AreSeats, HaveLearnt, IsLogOfAll, last_log}, Tied.{AllBegin, HaveOwn}};
 
 use crate::book::Naming;
 use crate::desk::Shared;

@@ -1,6 +1,5 @@
 ghost use Rattle.std.specs.Prelude.{◌≡◌, [], ◌∷◌, List, IfOk};
-ghost use Rattle.stacks_vars.specs.declared.scopes.NodeAt.{NodeAt};
-ghost use Rattle.stacks_vars.specs.Enter.{enter, stacks_of};
+ghost use Rattle.stacks_vars.specs.{declared.scopes.NodeAt.{NodeAt}, Enter.{enter, stacks_of}};
 
 use crate::action::Action;
 use crate::items::SymbolItem;

@@ -79,8 +79,7 @@ impl Model for SymbolStack {
 }
 
 impl SymbolStack {
-    ghost use Rattle.std.specs.Prelude.{◌≡◌, ◌↔◌, List, [], ◌∷◌, drop, length, reverse, IfOk, MatchOption, OnErr, IsTrue};
-    ghost use Rattle.std.specs.Cmp.Lexicographic.{pointwise};
+    ghost use Rattle.std.specs.{Prelude.{◌≡◌, ◌↔◌, List, [], ◌∷◌, drop, length, reverse, IfOk, MatchOption, OnErr, IsTrue}, Cmp.Lexicographic.{pointwise}};
     ghost use Rattle.stacks_vars.specs.Same.{item_eq};
 
     /// The empty stack. It takes no memory.

@@ -15,8 +15,7 @@ pub struct LentItem<'a> {
 }
 
 impl<'a> Model for LentItem<'a> {
-    ghost use Rattle.stacks_vars.specs.declared.items.SymbolItem.{SymbolItem};
-    ghost use Rattle.stacks_vars.specs.Enter.{item_of};
+    ghost use Rattle.stacks_vars.specs.{declared.items.SymbolItem.{SymbolItem}, Enter.{item_of}};
 
     ghost Value = { SymbolItem };
 
@@ -25,8 +24,7 @@ impl<'a> Model for LentItem<'a> {
 
 impl<'a> LentItem<'a> {
     ghost use Rattle.std.specs.Prelude.{◌≡◌, ◌↔◌, IfOk, IsTrue};
-    ghost use Rattle.stacks_vars.specs.Enter.{item_of};
-    ghost use Rattle.stacks_vars.specs.Same.{item_eq};
+    ghost use Rattle.stacks_vars.specs.{Enter.{item_of}, Same.{item_eq}};
 
     /// The symbol with these scopes attached.
     pub fn of(symbol: &'a Symbol, scopes: Option<ScopeStack>) -> LentItem<'a>
@@ -83,8 +81,7 @@ impl<'a> Model for LentStack<'a> {
 }
 
 impl<'a> LentStack<'a> {
-    ghost use Rattle.std.specs.Prelude.{◌≡◌, ◌↔◌, ◌+◌, [], ◌∷◌, drop, length, reverse, IfOk, OnOk, IsTrue};
-    ghost use Rattle.std.specs.Cmp.Lexicographic.{pointwise};
+    ghost use Rattle.std.specs.{Prelude.{◌≡◌, ◌↔◌, ◌+◌, [], ◌∷◌, drop, length, reverse, IfOk, OnOk, IsTrue}, Cmp.Lexicographic.{pointwise}};
     ghost use Rattle.stacks_vars.specs.Same.{item_eq};
 
     /// The empty stack. It takes no memory.

@@ -11,8 +11,7 @@ pub struct Stacks {
 
 impl Stacks {
     ghost use Rattle.std.specs.Prelude.{◌≡◌, ◌↔◌, IfOk, IsTrue};
-    ghost use Rattle.stacks_vars.specs.Enter.{no_stacks};
-    ghost use Rattle.stacks_vars.specs.Same.{stacks_eq};
+    ghost use Rattle.stacks_vars.specs.{Enter.{no_stacks}, Same.{stacks_eq}};
 
     /// Two empty stacks. They take no memory.
     pub fn new(alloc: Global) -> Stacks

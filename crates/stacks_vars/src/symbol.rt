@@ -12,8 +12,7 @@ pub struct Symbol {
 }
 
 impl Model for Symbol {
-    ghost use Rattle.std.specs.Prelude.{ℕ, List};
-    ghost use Rattle.std.specs.Arc.{arc_value};
+    ghost use Rattle.std.specs.{Prelude.{ℕ, List}, Arc.{arc_value}};
     ghost use Rattle.stacks_vars.specs.Head.{IsHead};
 
     ghost Value = { List ℕ };
@@ -24,11 +23,7 @@ impl Model for Symbol {
 }
 
 impl Symbol {
-    ghost use Rattle.std.specs.Prelude.{◌≡◌, ◌↔◌, IfOk, IsTrue};
-    ghost use Rattle.std.specs.Arc.{arc_value};
-    ghost use Rattle.std.specs.Cmp.Lexicographic.{slice_cmp};
-    ghost use Rattle.std.specs.Ordering.{nat_cmp};
-    ghost use Rattle.std.specs.Str.{bytes_eq};
+    ghost use Rattle.std.specs.{Prelude.{◌≡◌, ◌↔◌, IfOk, IsTrue}, Arc.{arc_value}, Cmp.Lexicographic.{slice_cmp}, Ordering.{nat_cmp}, Str.{bytes_eq}};
     ghost use Rattle.stacks_vars.specs.Head.{IsHead, head};
 
     /// A symbol of these bytes, which are copied; the one error is want of memory.
@@ -135,10 +130,8 @@ fn tails_cmp(a: &[u8], b: &[u8]) -> Ordering
     a.len().cmp(&b.len())
 }
 
-ghost use Rattle.std.specs.Prelude.{◌≡◌, ◌↔◌, ◌+◌, ◌%◌, ◌≤◌, IsTrue, drop, length, min, slice_index};
+ghost use Rattle.std.specs.{Prelude.{◌≡◌, ◌↔◌, ◌+◌, ◌%◌, ◌≤◌, IsTrue, drop, length, min, slice_index}, Ordering.{nat_cmp}, Cmp.Lexicographic.{slice_cmp}};
 ghost use Rattle.stacks_vars.specs.Head.{IsHead, last_digit};
-ghost use Rattle.std.specs.Ordering.{nat_cmp};
-ghost use Rattle.std.specs.Cmp.Lexicographic.{slice_cmp};
 
 /// The head of a symbol of these bytes. Its digits to the base 256 go from the greatest down, so that heads
 /// compare as the texts do.

@@ -1,18 +1,7 @@
 //! Whether a stored path is joined, and where it lands.
-ghost use Rattle.std.specs.Prelude.{◌≡◌, ◌&&◌, ◌↔◌, ◌⊎◌, [], ◌∷◌, map, IfOk, IfSome, OnOk, IsTrue, Some, filter, length};
-ghost use Rattle.std.specs.Option.{option_map_or, is_some};
-ghost use Rattle.std.specs.List.{list_any};
-ghost use Rattle.partial_path.specs.Same.{config_eq, spot_eq};
-ghost use Rattle.partial_path.specs.Apply.{apply, match_stacks};
-ghost use Rattle.partial_path.specs.Rules.{start_spot};
-ghost use Rattle.partial_path.specs.Moved.{moved, moved_start, moved_pre, moved_end};
-ghost use Rattle.partial_path.specs.Limits.{max_runs};
-ghost use Rattle.partial_path.specs.Sources.{graphs_of};
-ghost use Rattle.partial_path.specs.Laws.{IsSpotOf, IsAtStart};
-ghost use Rattle.stitcher.specs.Ends.{end_cut};
-ghost use Rattle.stitcher.specs.Joins.{joined, with_path, joined_by, is_at_cut, is_bounded_counted};
-ghost use Rattle.stitcher.specs.Opens.{AreAdded, AreTaken};
-ghost use Rattle.stitcher.specs.Trail.{paths_of, landed_at, stood, IsOffered, IsStanding};
+ghost use Rattle.std.specs.{Prelude.{◌≡◌, ◌&&◌, ◌↔◌, ◌⊎◌, [], ◌∷◌, map, IfOk, IfSome, OnOk, IsTrue, Some, filter, length}, Option.{option_map_or, is_some}, List.{list_any}};
+ghost use Rattle.partial_path.specs.{Same.{config_eq, spot_eq}, Apply.{apply, match_stacks}, Rules.{start_spot}, Moved.{moved, moved_start, moved_pre, moved_end}, Limits.{max_runs}, Sources.{graphs_of}, Laws.{IsSpotOf, IsAtStart}};
+ghost use Rattle.stitcher.specs.{Ends.{end_cut}, Joins.{joined, with_path, joined_by, is_at_cut, is_bounded_counted}, Opens.{AreAdded, AreTaken}, Trail.{paths_of, landed_at, stood, IsOffered, IsStanding}};
 
 use crate::found::StitchFault;
 use crate::landing::{is_at_cut, is_cut_end, is_within, may_land};

@@ -1,10 +1,6 @@
 ghost use Rattle.std.specs.Prelude.{◌≡◌, ◌≤◌, ◌<◌, ◌+◌, ◌^◌, ◌&&◌, ℕ, nat_le, length, IfSome};
-ghost use Rattle.partial_path.specs.Apply.{height};
-ghost use Rattle.partial_path.specs.Moved.{moved, moved_end, FitsEnd};
-ghost use Rattle.partial_path.specs.Sources.{graphs_of};
-ghost use Rattle.partial_path.specs.Laws.{IsSpotOf};
-ghost use Rattle.stitcher.specs.Ends.{IsEndOf, end_cut, may_land};
-ghost use Rattle.stitcher.specs.Joins.{is_at_cut, is_at_result};
+ghost use Rattle.partial_path.specs.{Apply.{height}, Moved.{moved, moved_end, FitsEnd}, Sources.{graphs_of}, Laws.{IsSpotOf}};
+ghost use Rattle.stitcher.specs.{Ends.{IsEndOf, end_cut, may_land}, Joins.{is_at_cut, is_at_result}};
 
 use crate::search::Search;
 use partial_path::{End, LentConfig, PathSource, Spot, StoredPath};

@@ -1,13 +1,6 @@
 //! Whether a path that is offered is met: its texts were compared when it was found.
-ghost use Rattle.std.specs.Prelude.{◌≡◌, ◌≤◌, ◌&&◌, [], length, take, true, false, IsTrue};
-ghost use Rattle.std.specs.List.{list_any};
-ghost use Rattle.std.specs.Option.{is_some};
-ghost use Rattle.partial_path.specs.Apply.{match_stacks};
-ghost use Rattle.partial_path.specs.Keys.{key, key_size};
-ghost use Rattle.partial_path.specs.Moved.{moved_pre, moved_start};
-ghost use Rattle.partial_path.specs.Rules.{start_spot};
-ghost use Rattle.partial_path.specs.Same.{spot_eq};
-ghost use Rattle.partial_path.specs.Sources.{stand_first};
+ghost use Rattle.std.specs.{Prelude.{◌≡◌, ◌≤◌, ◌&&◌, [], length, take, true, false, IsTrue}, List.{list_any}, Option.{is_some}};
+ghost use Rattle.partial_path.specs.{Apply.{match_stacks}, Keys.{key, key_size}, Moved.{moved_pre, moved_start}, Rules.{start_spot}, Same.{spot_eq}, Sources.{stand_first}};
 ghost use Rattle.stitcher.specs.Plain.{asks_scopes, has_scopes};
 
 use partial_path::{KEY_SIZE, LentConfig, StoredPath};

@@ -1,10 +1,7 @@
 //! What is noted of a run that is longer than the trail by a path.
 ghost use Rattle.std.specs.Prelude.{◌≡◌, ◌++◌, [], ◌∷◌, All, IfOk, IsOk, IsTrue, OnOk, true, false};
-ghost use Rattle.partial_path.specs.declared.config.Spot.TheVariants.{Root};
-ghost use Rattle.partial_path.specs.Limits.{max_runs};
-ghost use Rattle.stitcher.specs.Joins.{is_bounded_counted, with_path};
-ghost use Rattle.stitcher.specs.Opens.{AreAdded, AreTaken, IsLanded, joined_run, kept_runs, opened_at, opens_of, run_of, those};
-ghost use Rattle.stitcher.specs.Trail.{Moves, paths_of, path_of};
+ghost use Rattle.partial_path.specs.{declared.config.Spot.TheVariants.{Root}, Limits.{max_runs}};
+ghost use Rattle.stitcher.specs.{Joins.{is_bounded_counted, with_path}, Opens.{AreAdded, AreTaken, IsLanded, joined_run, kept_runs, opened_at, opens_of, run_of, those}, Trail.{Moves, paths_of, path_of}};
 
 use crate::complete::{CompleteRun, RunPath};
 use crate::found::StitchFault;

@@ -1,13 +1,7 @@
 ghost use Rattle.std.specs.Prelude.{◌≡◌, ◌↔◌, [], All, IfOk, OnOk, IsTrue, IsSomeAnd, Some};
 ghost use Rattle.graph_nodes.specs.Whole.{is_reference_of};
-ghost use Rattle.partial_path.specs.Spots.{node_at};
-ghost use Rattle.partial_path.specs.Step.{start};
-ghost use Rattle.partial_path.specs.Counted.{IsCrowded, HasLimit};
-ghost use Rattle.partial_path.specs.Sources.{IsSourceFile, graphs_of};
-ghost use Rattle.stitcher.specs.Answers.{AreCompleteRuns};
-ghost use Rattle.stitcher.specs.Joins.{IsAsked, none_joined};
-ghost use Rattle.stitcher.specs.Opens.{AreAdded, IsEnded, IsExtended, IsOpen, IsOverfull, levels_of, opened};
-ghost use Rattle.stitcher.specs.Trail.{IsStanding, stood};
+ghost use Rattle.partial_path.specs.{Spots.{node_at}, Step.{start}, Counted.{IsCrowded, HasLimit}, Sources.{IsSourceFile, graphs_of}};
+ghost use Rattle.stitcher.specs.{Answers.{AreCompleteRuns}, Joins.{IsAsked, none_joined}, Opens.{AreAdded, IsEnded, IsExtended, IsOpen, IsOverfull, levels_of, opened}, Trail.{IsStanding, stood}};
 
 use crate::found::{StitchFault, Stitched};
 use crate::join::join;

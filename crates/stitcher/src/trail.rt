@@ -1,9 +1,6 @@
 //! The paths that are joined at the moment, in their order.
-ghost use Rattle.std.specs.Prelude.{◌≡◌, ◌↔◌, ◌++◌, map, IsTrue, IfOk};
-ghost use Rattle.std.specs.List.{list_any};
-ghost use Rattle.partial_path.specs.Same.{config_eq};
-ghost use Rattle.partial_path.specs.Laws.{IsAtStart};
-ghost use Rattle.partial_path.specs.Cutting.{edges_in};
+ghost use Rattle.std.specs.{Prelude.{◌≡◌, ◌↔◌, ◌++◌, map, IsTrue, IfOk}, List.{list_any}};
+ghost use Rattle.partial_path.specs.{Same.{config_eq}, Laws.{IsAtStart}, Cutting.{edges_in}};
 ghost use Rattle.stitcher.specs.Trail.{Moves, landed_at};
 
 use partial_path::{EdgeAt, LentConfig, Spot, Start, StoredPath};

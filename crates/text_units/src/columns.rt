@@ -1,7 +1,6 @@
 //! Columns in bytes and in UTF-16 code units.
 ghost use Rattle.std.specs.Prelude.{◌≡◌, ◌≤◌, ◌<◌, ◌^◌, length, take};
-ghost use Rattle.text_units.specs.Lines.{line_at, line_starts};
-ghost use Rattle.text_units.specs.Units.{IsColumn, IsBytesAt, IsUnitsAt, units_in, units_of};
+ghost use Rattle.text_units.specs.{Lines.{line_at, line_starts}, Units.{IsColumn, IsBytesAt, IsUnitsAt, units_in, units_of}};
 
 use crate::line_starts::LineStarts;
 

@@ -1,11 +1,9 @@
 //! What a session sees of a log of versions, and how it extends it.
-ghost use Rattle.std.specs.Prelude.{◌≡◌, ◌≤◌, ℕ, List, length, take, Err, OnOk, OnErr};
-ghost use Rattle.std.specs.Arc.{arc_value};
-ghost use Rattle.version_tree.specs.declared.edit.EditFault.{EditFault as Faults};
-ghost use Rattle.version_tree.specs.declared.entry.Entry.{Entry};
+ghost use Rattle.std.specs.{Prelude.{◌≡◌, ◌≤◌, ℕ, List, length, take, Err, OnOk, OnErr}, Arc.{arc_value}};
+ghost use Rattle.version_tree.specs.{declared.edit.EditFault.{EditFault as Faults}, declared.entry.Entry.{Entry}};
 ghost use Rattle.root_index.specs.Roots.{IsIndexOf};
-ghost use Rattle.version_board.specs.declared.fault.CommitFault.TheVariants as why;
 ghost use Rattle.version_board.specs.Logs.{version_of, IsLater, IsExtended, IsStale, IsRefused};
+ghost use Rattle.version_board.specs.declared.fault.CommitFault.TheVariants as why;
 
 use crate::fault::CommitFault;
 use root_index::RootIndex;

@@ -1,6 +1,5 @@
 //! A log that contracts alone see.
-ghost use Rattle.std.specs.Prelude.{◌≡◌, List, [], ◌∷◌, ◌++◌};
-ghost use Rattle.std.specs.Borrow.{ftrue};
+ghost use Rattle.std.specs.{Prelude.{◌≡◌, List, [], ◌∷◌, ◌++◌}, Borrow.{ftrue}};
 ghost use Rattle.version_tree.specs.declared.entry.Entry.{Entry};
 ghost use Rattle.version_board.specs.Logs.{entry};
 

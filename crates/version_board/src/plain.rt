@@ -1,13 +1,9 @@
 //! The board of one seat and one thread.
-ghost use Rattle.std.specs.Prelude.{◌≡◌, ◌≢◌, true, false, ◌<◌, ◌≤◌, ◌+◌, ℕ, [], ◌∷◌, ◌++◌, None, Some, Ok, Err, IfOk, IfErr, OnOk, OnErr, vec_len, vec_capacity, length};
-ghost use Rattle.std.specs.Arc.{arc_value};
-ghost use Rattle.version_tree.specs.declared.edit.EditFault.{EditFault as Faults};
+ghost use Rattle.std.specs.{Prelude.{◌≡◌, ◌≢◌, true, false, ◌<◌, ◌≤◌, ◌+◌, ℕ, [], ◌∷◌, ◌++◌, None, Some, Ok, Err, IfOk, IfErr, OnOk, OnErr, vec_len, vec_capacity, length}, Arc.{arc_value}};
+ghost use Rattle.version_tree.specs.{declared.edit.EditFault.{EditFault as Faults}, Contents.{edited_all}, Verdict.{edit_fault}};
 ghost use Rattle.version_tree.specs.declared.edit.EditFault.TheVariants as faults;
-ghost use Rattle.version_tree.specs.Contents.{edited_all};
-ghost use Rattle.version_tree.specs.Verdict.{edit_fault};
+ghost use Rattle.version_board.specs.{Logs.{version_of, own, entry, refusal, FitsHead, IsExtended, IsStale, IsRefused}, Ranked.{index_of}};
 ghost use Rattle.version_board.specs.declared.fault.CommitFault.TheVariants as why;
-ghost use Rattle.version_board.specs.Logs.{version_of, own, entry, refusal, FitsHead, IsExtended, IsStale, IsRefused};
-ghost use Rattle.version_board.specs.Ranked.{index_of};
 
 use crate::board::{Commits, Pinned, Pins};
 use crate::fault::CommitFault;
@@ -26,11 +22,9 @@ pub struct PlainBoard {
 }
 
 impl Model for PlainBoard {
-    ghost use Rattle.std.specs.Prelude.{◌≡◌, List};
-    ghost use Rattle.std.specs.Arc.{arc_value};
+    ghost use Rattle.std.specs.{Prelude.{◌≡◌, List}, Arc.{arc_value}};
     ghost use Rattle.version_tree.specs.declared.entry.Entry.{Entry};
-    ghost use Rattle.version_board.specs.Logs.{version_of, own};
-    ghost use Rattle.version_board.specs.Ranked.{index_of};
+    ghost use Rattle.version_board.specs.{Logs.{version_of, own}, Ranked.{index_of}};
 
     ghost Value = { List Entry };
 

@@ -16,10 +16,8 @@ pub(crate) struct Block {
 }
 
 impl Model for Block {
-    ghost use Rattle.std.specs.Prelude.{List};
-    ghost use Rattle.std.specs.Arc.{arc_value};
-    ghost use Rattle.version_tree.specs.Blocks.{IsBlock};
-    ghost use Rattle.version_tree.specs.Contents.{FileRow};
+    ghost use Rattle.std.specs.{Prelude.{List}, Arc.{arc_value}};
+    ghost use Rattle.version_tree.specs.{Blocks.{IsBlock}, Contents.{FileRow}};
 
     ghost Value = { List FileRow };
 
@@ -29,10 +27,8 @@ impl Model for Block {
 }
 
 impl Block {
-    ghost use Rattle.std.specs.Prelude.{◌≡◌, [], IfOk};
-    ghost use Rattle.std.specs.Option.{option_map_or};
-    ghost use Rattle.version_tree.specs.Blocks.{IsBlock, first_beside};
-    ghost use Rattle.version_tree.specs.Contents.{covered};
+    ghost use Rattle.std.specs.{Prelude.{◌≡◌, [], IfOk}, Option.{option_map_or}};
+    ghost use Rattle.version_tree.specs.{Blocks.{IsBlock, first_beside}, Contents.{covered}};
 
     /// The block of these rows. The one error is want of memory.
     pub(crate) fn of(alloc: Global, rows: SortedRows) -> Result<Block, AllocError>

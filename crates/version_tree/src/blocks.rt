@@ -1,7 +1,5 @@
-ghost use Rattle.std.specs.Prelude.{◌≡◌, ◌<◌, ◌≤◌, ◌+◌, ◌++◌, length, take, drop, IfOk, OnOk};
-ghost use Rattle.std.specs.List.{AllByRecursion};
-ghost use Rattle.version_tree.specs.Blocks.{IsBlock, all_rows};
-ghost use Rattle.version_tree.specs.Limits.{block_rows};
+ghost use Rattle.std.specs.{Prelude.{◌≡◌, ◌<◌, ◌≤◌, ◌+◌, ◌++◌, length, take, drop, IfOk, OnOk}, List.{AllByRecursion}};
+ghost use Rattle.version_tree.specs.{Blocks.{IsBlock, all_rows}, Limits.{block_rows}};
 
 use crate::block::{BLOCK_ROWS, Block};
 use crate::row_handle::RowHandle;
@@ -22,8 +20,7 @@ pub(crate) struct Blocks {
 
 impl Model for Blocks {
     ghost use Rattle.std.specs.Prelude.{◌≡◌, List, length};
-    ghost use Rattle.version_tree.specs.Contents.{FileRow};
-    ghost use Rattle.version_tree.specs.Blocks.{AreBlocks, all_rows};
+    ghost use Rattle.version_tree.specs.{Contents.{FileRow}, Blocks.{AreBlocks, all_rows}};
 
     ghost Value = { List (List FileRow) };
 
@@ -36,13 +33,8 @@ impl Model for Blocks {
 impl Blocks {
     ghost use Rattle.std.specs.Prelude.{◌≡◌, ◌<◌, ◌≤◌, ◌+◌, ◌++◌, [], length, take, drop, slice_get, IfOk, IfErr, MatchOption, Some, false, option_copied};
     ghost use Rattle.partial_path.specs.PathSets.{FileRules};
-    ghost use Rattle.version_tree.specs.Contents.{AreRows, IsInOrder, has_path, with_row, without_row, covered};
-    ghost use Rattle.version_tree.specs.Verdict.{weight_of};
+    ghost use Rattle.version_tree.specs.{Contents.{AreRows, IsInOrder, has_path, with_row, without_row, covered}, Verdict.{weight_of}, Places.{IsRowWith}, Views.{path_at}, Blocks.{AreBlocks, IsBlockFor, all_rows, first_beside}, Limits.{block_rows}};
     ghost use Rattle.list_facts.specs.Places.{IsAt, IsGapFor};
-    ghost use Rattle.version_tree.specs.Places.{IsRowWith};
-    ghost use Rattle.version_tree.specs.Views.{path_at};
-    ghost use Rattle.version_tree.specs.Blocks.{AreBlocks, IsBlockFor, all_rows, first_beside};
-    ghost use Rattle.version_tree.specs.Limits.{block_rows};
 
     /// No blocks. It takes no memory.
     pub(crate) fn new(alloc: Global) -> Blocks

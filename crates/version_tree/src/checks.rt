@@ -1,9 +1,5 @@
-ghost use Rattle.std.specs.Prelude.{◌≡◌, None, Some, MatchOption, MatchResult, OnOk};
-ghost use Rattle.std.specs.Option.{option_map};
-ghost use Rattle.version_tree.specs.Verdict.{absent, first_absent, removed};
-ghost use Rattle.version_tree.specs.Refused.{Refuses};
-ghost use Rattle.version_tree.specs.Passes.{size_fault, AreFew};
-ghost use Rattle.version_tree.specs.declared.edit.EditFault.TheVariants.{Absent};
+ghost use Rattle.std.specs.{Prelude.{◌≡◌, None, Some, MatchOption, MatchResult, OnOk}, Option.{option_map}};
+ghost use Rattle.version_tree.specs.{Verdict.{absent, first_absent, removed}, Refused.{Refuses}, Passes.{size_fault, AreFew}, declared.edit.EditFault.TheVariants.{Absent}};
 
 use crate::edit::{Edit, EditFault, MAX_FILES, MAX_VERSION_WEIGHT};
 use crate::store::Store;

@@ -1,10 +1,5 @@
-ghost use Rattle.std.specs.Prelude.{◌≡◌, None, IfOk, OnOk, MatchResult};
-ghost use Rattle.std.specs.List.{list_any};
-ghost use Rattle.std.specs.Option.{option_map};
-ghost use Rattle.version_tree.specs.Contents.{ruled, rowed};
-ghost use Rattle.version_tree.specs.Verdict.{misses_grant, misses_deny, no_grant, no_deny, first_of};
-ghost use Rattle.version_tree.specs.Passes.{is_of_rules, ruled_all, rowed_all, rule_fault};
-ghost use Rattle.version_tree.specs.Refused.{Refuses};
+ghost use Rattle.std.specs.{Prelude.{◌≡◌, None, IfOk, OnOk, MatchResult}, List.{list_any}, Option.{option_map}};
+ghost use Rattle.version_tree.specs.{Contents.{ruled, rowed}, Verdict.{misses_grant, misses_deny, no_grant, no_deny, first_of}, Passes.{is_of_rules, ruled_all, rowed_all, rule_fault}, Refused.{Refuses}};
 
 use crate::edit::{Edit, EditFault};
 use crate::shared_rules::SharedRules;

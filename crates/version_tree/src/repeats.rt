@@ -1,12 +1,5 @@
-ghost use Rattle.std.specs.Prelude.{◌≡◌, ◌++◌, List, ℕ, map, None, Some, IfOk, OnOk, MatchOption, MatchResult};
-ghost use Rattle.std.specs.Option.{option_map};
-ghost use Rattle.std.specs.List.Sorted.{IsPermutation, IsSortedBy};
-ghost use Rattle.std.specs.Ordering.{is_lt};
-ghost use Rattle.version_tree.specs.Contents.{path_cmp};
-ghost use Rattle.version_tree.specs.Verdict.{twice, touched, all_touched};
-ghost use Rattle.version_tree.specs.Refused.{Refuses};
-ghost use Rattle.version_tree.specs.Repeats.{is_again, repeat_from};
-ghost use Rattle.version_tree.specs.declared.edit.EditFault.TheVariants.{Twice};
+ghost use Rattle.std.specs.{Prelude.{◌≡◌, ◌++◌, List, ℕ, map, None, Some, IfOk, OnOk, MatchOption, MatchResult}, Option.{option_map}, List.Sorted.{IsPermutation, IsSortedBy}, Ordering.{is_lt}};
+ghost use Rattle.version_tree.specs.{Contents.{path_cmp}, Verdict.{twice, touched, all_touched}, Refused.{Refuses}, Repeats.{is_again, repeat_from}, declared.edit.EditFault.TheVariants.{Twice}};
 
 use crate::edit::{Edit, EditFault};
 use crate::text::PathText;

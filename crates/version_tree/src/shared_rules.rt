@@ -12,9 +12,7 @@ pub(crate) struct SharedRules {
 }
 
 impl Model for SharedRules {
-    ghost use Rattle.std.specs.Prelude.{◌≡◌, []};
-    ghost use Rattle.std.specs.Arc.{arc_value};
-    ghost use Rattle.std.specs.Option.{option_map_or};
+    ghost use Rattle.std.specs.{Prelude.{◌≡◌, []}, Arc.{arc_value}, Option.{option_map_or}};
     ghost use Rattle.grants.specs.Covers.{Rules};
 
     ghost Value = { Rules };

@@ -25,11 +25,9 @@ impl Model for SortedRows {
 
 impl SortedRows {
     ghost use Rattle.std.specs.Prelude.{◌≡◌, ◌<◌, ◌≤◌, ◌+◌, ◌++◌, [], length, take, drop, slice_get, Some, IfOk, IfErr, IsTrue, OnOk, OnErr, MatchOption, false};
-    ghost use Rattle.version_tree.specs.Contents.{FileRow, AreRows, has_path, with_row, without_row, covered};
-    ghost use Rattle.version_tree.specs.Verdict.{weight_of};
+    ghost use Rattle.version_tree.specs.{Contents.{FileRow, AreRows, has_path, with_row, without_row, covered}, Verdict.{weight_of}, Places.{beside, IsRowWith}};
     ghost use Rattle.partial_path.specs.PathSets.{FileRules};
     ghost use Rattle.list_facts.specs.Places.{IsAt, IsGapFor};
-    ghost use Rattle.version_tree.specs.Places.{beside, IsRowWith};
 
     /// No rows. It takes no memory.
     pub(crate) fn new(alloc: Global) -> SortedRows

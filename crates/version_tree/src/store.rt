@@ -14,9 +14,7 @@ pub(crate) struct Store {
 
 impl Model for Store {
     ghost use Rattle.std.specs.Prelude.{◌≡◌, List};
-    ghost use Rattle.version_tree.specs.Blocks.{all_rows};
-    ghost use Rattle.version_tree.specs.Contents.{FileRow};
-    ghost use Rattle.version_tree.specs.Verdict.{weight_of};
+    ghost use Rattle.version_tree.specs.{Blocks.{all_rows}, Contents.{FileRow}, Verdict.{weight_of}};
 
     ghost Value = { List FileRow };
 
@@ -27,9 +25,7 @@ impl Model for Store {
 
 impl Store {
     ghost use Rattle.std.specs.Prelude.{◌≡◌, [], IfOk};
-    ghost use Rattle.version_tree.specs.Blocks.{all_rows};
-    ghost use Rattle.version_tree.specs.Contents.{with_row, without_row};
-    ghost use Rattle.version_tree.specs.Verdict.{weight_of};
+    ghost use Rattle.version_tree.specs.{Blocks.{all_rows}, Contents.{with_row, without_row}, Verdict.{weight_of}};
 
     /// No rows. It takes no memory.
     pub(crate) fn new(alloc: Global) -> Store

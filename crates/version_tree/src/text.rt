@@ -9,8 +9,7 @@ pub struct PathText {
 }
 
 impl Model for PathText {
-    ghost use Rattle.std.specs.Prelude.{ℕ, List};
-    ghost use Rattle.std.specs.String.{string_bytes};
+    ghost use Rattle.std.specs.{Prelude.{ℕ, List}, String.{string_bytes}};
 
     ghost Value = { List ℕ };
 
@@ -18,8 +17,7 @@ impl Model for PathText {
 }
 
 impl PathText {
-    ghost use Rattle.std.specs.Prelude.{◌≡◌, IfOk};
-    ghost use Rattle.std.specs.Str.{IsUtf8};
+    ghost use Rattle.std.specs.{Prelude.{◌≡◌, IfOk}, Str.{IsUtf8}};
 
     /// A path of this text; the one error is want of memory.
     pub fn of(alloc: Global, text: &str) -> Result<PathText, AllocError>
@@ -54,8 +52,7 @@ pub struct UserText {
 }
 
 impl Model for UserText {
-    ghost use Rattle.std.specs.Prelude.{ℕ, List};
-    ghost use Rattle.std.specs.String.{string_bytes};
+    ghost use Rattle.std.specs.{Prelude.{ℕ, List}, String.{string_bytes}};
 
     ghost Value = { List ℕ };
 
@@ -63,8 +60,7 @@ impl Model for UserText {
 }
 
 impl UserText {
-    ghost use Rattle.std.specs.Prelude.{◌≡◌, IfOk};
-    ghost use Rattle.std.specs.Str.{IsUtf8};
+    ghost use Rattle.std.specs.{Prelude.{◌≡◌, IfOk}, Str.{IsUtf8}};
 
     /// A user of this text; the one error is want of memory.
     pub fn of(alloc: Global, text: &str) -> Result<UserText, AllocError>

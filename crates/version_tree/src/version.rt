@@ -19,8 +19,7 @@ pub struct Version {
 }
 
 impl Model for Version {
-    ghost use Rattle.version_tree.specs.Contents.{Numbered, content};
-    ghost use Rattle.version_tree.specs.Passes.{AreFew};
+    ghost use Rattle.version_tree.specs.{Contents.{Numbered, content}, Passes.{AreFew}};
 
     ghost Value = { Numbered };
 
@@ -31,11 +30,7 @@ impl Model for Version {
 
 impl Version {
     ghost use Rattle.std.specs.Prelude.{◌≡◌, ◌+◌, ◌≤◌, length, None, slice_get, IfOk, IfErr, option_map, option_copied};
-    ghost use Rattle.version_tree.specs.Contents.{AreRows, file_row, no_content, edited_all, granted_rows};
-    ghost use Rattle.version_tree.specs.Limits.{max_files};
-    ghost use Rattle.version_tree.specs.Views.{file_with};
-    ghost use Rattle.version_tree.specs.Verdict.{edit_fault};
-    ghost use Rattle.version_tree.specs.Refused.{Refuses};
+    ghost use Rattle.version_tree.specs.{Contents.{AreRows, file_row, no_content, edited_all, granted_rows}, Limits.{max_files}, Views.{file_with}, Verdict.{edit_fault}, Refused.{Refuses}};
 
     /// The version of this number that holds nothing. It takes no memory.
     pub fn empty(alloc: Global, number: u32) -> Version

@@ -26,10 +26,7 @@ pub struct View {
 
 impl Model for View {
     ghost use Rattle.std.specs.Prelude.{List, ◌≡◌, ◌≤◌, length};
-    ghost use Rattle.version_tree.specs.Blocks.{all_rows};
-    ghost use Rattle.version_tree.specs.Contents.{FileRow};
-    ghost use Rattle.version_tree.specs.Limits.{max_files};
-    ghost use Rattle.version_tree.specs.Placed.{places_from, starts_from};
+    ghost use Rattle.version_tree.specs.{Blocks.{all_rows}, Contents.{FileRow}, Limits.{max_files}, Placed.{places_from, starts_from}};
 
     ghost Value = { List FileRow };
 
@@ -41,10 +38,7 @@ impl Model for View {
 
 impl View {
     ghost use Rattle.std.specs.Prelude.{◌≡◌, ◌<◌, ◌≤◌, false, Some, length, slice_get, IfOk, MatchOption};
-    ghost use Rattle.version_tree.specs.Blocks.{all_rows};
-    ghost use Rattle.version_tree.specs.Contents.{AreRows, has_path};
-    ghost use Rattle.version_tree.specs.Limits.{max_files};
-    ghost use Rattle.version_tree.specs.Views.{path_at, file_at};
+    ghost use Rattle.version_tree.specs.{Blocks.{all_rows}, Contents.{AreRows, has_path}, Limits.{max_files}, Views.{path_at, file_at}};
 
     /// The view of the rows of these blocks. The one error is want of memory.
     pub(crate) fn of(alloc: Global, blocks: Blocks) -> Result<View, AllocError>
@@ -113,8 +107,7 @@ impl View {
 }
 
 ghost use Rattle.std.specs.Prelude.{◌≡◌, ◌<◌, ◌≤◌, ◌^◌, ◌++◌, OnOk};
-ghost use Rattle.version_tree.specs.Limits.{block_rows};
-ghost use Rattle.version_tree.specs.Placed.{places_in};
+ghost use Rattle.version_tree.specs.{Limits.{block_rows}, Placed.{places_in}};
 
 /// Adds where so many rows of the block stand. The one error is want of memory.
 fn add_places(places: &mut Vec<RowPlace>, block: u16, count: usize) -> Result<(), AllocError>

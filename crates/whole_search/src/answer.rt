@@ -1,9 +1,6 @@
 ghost use Rattle.std.specs.Prelude.{◌≡◌, ◌<◌, ◌^◌, ◌↔◌, length, All, IsTrue, IsSomeAnd, IfOk, OnOk};
-ghost use Rattle.graph_nodes.specs.Checked.{IsChecked};
-ghost use Rattle.graph_nodes.specs.Whole.{is_reference_of};
-ghost use Rattle.partial_path.specs.Spots.{node_at};
-ghost use Rattle.partial_path.specs.Step.{start};
-ghost use Rattle.partial_path.specs.Counted.{IsCrowded, HasLimit};
+ghost use Rattle.graph_nodes.specs.{Checked.{IsChecked}, Whole.{is_reference_of}};
+ghost use Rattle.partial_path.specs.{Spots.{node_at}, Step.{start}, Counted.{IsCrowded, HasLimit}};
 ghost use Rattle.whole_search.specs.Answers.{AreDefinitions};
 
 use crate::found::{Found, Hits, SearchFault};

@@ -1,7 +1,5 @@
 ghost use Rattle.std.specs.Prelude.{◌≡◌, ◌<◌, ◌^◌, ◌∷◌, [], ◌++◌, ◌&&◌, length, nat_le, All, OnOk};
-ghost use Rattle.whole_search.specs.Walk.{out};
-ghost use Rattle.whole_search.specs.Open.{runs_of};
-ghost use Rattle.whole_search.specs.Query.{IsOpenIn, longer_in};
+ghost use Rattle.whole_search.specs.{Walk.{out}, Open.{runs_of}, Query.{IsOpenIn, longer_in}};
 
 use crate::edges::edges_out;
 use crate::open::{Open, keeps_straight};

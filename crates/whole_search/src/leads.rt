@@ -1,7 +1,5 @@
-ghost use Rattle.std.specs.Prelude.{◌≡◌, ℕ, ◌<◌, length, IfOk, IsTrue};
-ghost use Rattle.std.specs.List.{list_any};
-ghost use Rattle.graph_nodes.specs.Graph.{has_place};
-ghost use Rattle.graph_nodes.specs.Out.{edges_from};
+ghost use Rattle.std.specs.{Prelude.{◌≡◌, ℕ, ◌<◌, length, IfOk, IsTrue}, List.{list_any}};
+ghost use Rattle.graph_nodes.specs.{Graph.{has_place}, Out.{edges_from}};
 ghost use Rattle.whole_search.specs.Leads.{is_landing, mark_at, leads_on, leads_by, AreMarks};
 
 use graph_nodes::{FileGraph, Place};
@@ -28,8 +26,7 @@ impl Model for Leads {
 
 impl Leads {
     ghost use Rattle.std.specs.Prelude.{◌≡◌, IfOk};
-    ghost use Rattle.whole_search.specs.Leads.{AreTables, live_at};
-    ghost use Rattle.whole_search.specs.Walk.{IsLive};
+    ghost use Rattle.whole_search.specs.{Leads.{AreTables, live_at}, Walk.{IsLive}};
 
     /// The table of these files; the one error is want of memory. It takes time and memory that follow the
     /// number of nodes and edges.

@@ -1,8 +1,5 @@
-ghost use Rattle.std.specs.Prelude.{◌≡◌, ◌∷◌, ◌&&◌, IfOk};
-ghost use Rattle.std.specs.List.{list_any};
-ghost use Rattle.partial_path.specs.Runs.{after_cuts};
-ghost use Rattle.partial_path.specs.Step.{is_cut_edge};
-ghost use Rattle.partial_path.specs.Same.{config_eq};
+ghost use Rattle.std.specs.{Prelude.{◌≡◌, ◌∷◌, ◌&&◌, IfOk}, List.{list_any}};
+ghost use Rattle.partial_path.specs.{Runs.{after_cuts}, Step.{is_cut_edge}, Same.{config_eq}};
 ghost use Rattle.whole_search.specs.Walk.{keeps_straight};
 
 use crate::run::Run;

@@ -1,9 +1,6 @@
-ghost use Rattle.std.specs.Prelude.{◌≡◌, ◌↔◌, ◌++◌, map, IfOk, OnOk, Contains};
-ghost use Rattle.std.specs.Option.{option_to_list};
+ghost use Rattle.std.specs.{Prelude.{◌≡◌, ◌↔◌, ◌++◌, map, IfOk, OnOk, Contains}, Option.{option_to_list}};
 ghost use Rattle.shadowing.specs.Shadow.{unshadowed};
-ghost use Rattle.whole_search.specs.declared.found.Hit.{Hit};
-ghost use Rattle.whole_search.specs.Answers.{IsRising, path_of};
-ghost use Rattle.whole_search.specs.Ends.{hit_at, path_end, path_ends};
+ghost use Rattle.whole_search.specs.{declared.found.Hit.{Hit}, Answers.{IsRising, path_of}, Ends.{hit_at, path_end, path_ends}};
 
 use crate::found::Hit;
 use crate::paths::paths_of;

@@ -1,10 +1,6 @@
 ghost use Rattle.std.specs.Prelude.{◌≡◌, ◌≤◌, ◌<◌, ◌^◌, ◌&&◌, ◌||◌, not, length, All, IsTrue, IfOk, OnOk};
 ghost use Rattle.partial_path.specs.declared.bounds.TheConstants.{MAX_RUNS};
-ghost use Rattle.whole_search.specs.Leads.{live_at};
-ghost use Rattle.whole_search.specs.Walk.{IsLive, longest};
-ghost use Rattle.whole_search.specs.Open.{IsNoted, open_lands};
-ghost use Rattle.whole_search.specs.Query.{IsOpenIn, complete_met, counted_met, meets_past, goes_on_in, IsFollowedIn};
-ghost use Rattle.whole_search.specs.Refusals.{IsDeadEnd};
+ghost use Rattle.whole_search.specs.{Leads.{live_at}, Walk.{IsLive, longest}, Open.{IsNoted, open_lands}, Query.{IsOpenIn, complete_met, counted_met, meets_past, goes_on_in, IsFollowedIn}, Refusals.{IsDeadEnd}};
 
 use crate::follow::push_longer;
 use crate::found::SearchFault;

@@ -1,7 +1,5 @@
 ghost use Rattle.std.specs.Prelude.{◌≡◌, ◌<◌, ◌^◌, length, All, IsTrue, IfOk};
-ghost use Rattle.whole_search.specs.Leads.{live_at};
-ghost use Rattle.whole_search.specs.Refusals.{IsDeadEnd, IsRefusedAt, LeadsNowhere};
-ghost use Rattle.whole_search.specs.Walk.{IsLive};
+ghost use Rattle.whole_search.specs.{Leads.{live_at}, Refusals.{IsDeadEnd, IsRefusedAt, LeadsNowhere}, Walk.{IsLive}};
 
 use crate::dead_ends::{DeadEnds, ROOM, weight_of};
 use crate::edges::edges_out;
@@ -43,9 +41,7 @@ struct Place {
 
 impl Watch {
     ghost use Rattle.std.specs.Prelude.{◌≡◌, ◌<◌, ◌^◌, [], length, All, IfSome, OnOk};
-    ghost use Rattle.whole_search.specs.Leads.{live_at};
-    ghost use Rattle.whole_search.specs.Refusals.{IsDeadEnd};
-    ghost use Rattle.whole_search.specs.Walk.{IsLive};
+    ghost use Rattle.whole_search.specs.{Leads.{live_at}, Refusals.{IsDeadEnd}, Walk.{IsLive}};
 
     /// Nothing watched, and no dead ends. It takes no memory.
     pub fn new(alloc: Global) -> Watch

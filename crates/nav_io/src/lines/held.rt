@@ -1,10 +1,6 @@
 //! The bytes that a line reader holds: taking what is wanting of a line, and lending it.
-ghost use Rattle.std.specs.Prelude.{◌≡◌, ◌≢◌, ◌+◌, ◌<◌, ◌≤◌, ◌++◌, length, vec_len, drop, IfOk, IfErr, OnOk, OnErr, MatchOption, ◌⊎◌, true, false};
-ghost use Rattle.std.specs.Io.KnownBytes.{prepend_known, IsAtEnd};
-ghost use Rattle.std.specs.Option.{option_copied};
-ghost use Rattle.nav_io.specs.Faults.{HasRisen};
-ghost use Rattle.nav_io.specs.Lines.{line_max, line_len, line_at_front, after_line};
-ghost use Rattle.nav_io.specs.Reading.{is_whole, has_bytes, bytes_at_front};
+ghost use Rattle.std.specs.{Prelude.{◌≡◌, ◌≢◌, ◌+◌, ◌<◌, ◌≤◌, ◌++◌, length, vec_len, drop, IfOk, IfErr, OnOk, OnErr, MatchOption, ◌⊎◌, true, false}, Io.KnownBytes.{prepend_known, IsAtEnd}, Option.{option_copied}};
+ghost use Rattle.nav_io.specs.{Faults.{HasRisen}, Lines.{line_max, line_len, line_at_front, after_line}, Reading.{is_whole, has_bytes, bytes_at_front}};
 
 use super::search::{find_newline, newline_after, within_limit};
 use super::{LINE_MAX, LineError, NoMemory};

@@ -1,9 +1,6 @@
 //! Where the first line of the bytes ends that a line reader holds.
-ghost use Rattle.std.specs.Prelude.{◌≡◌, ◌≤◌, ◌<◌, vec_len, drop, IfOk, OnOk, OnErr, MatchOption, true, false};
-ghost use Rattle.std.specs.List.{position};
-ghost use Rattle.nav_io.specs.Lines.{line_max, line_len, is_newline};
-ghost use Rattle.nav_io.specs.Reading.{is_whole};
-ghost use Rattle.nav_io.specs.Search.{FindsNewline};
+ghost use Rattle.std.specs.{Prelude.{◌≡◌, ◌≤◌, ◌<◌, vec_len, drop, IfOk, OnOk, OnErr, MatchOption, true, false}, List.{position}};
+ghost use Rattle.nav_io.specs.{Lines.{line_max, line_len, is_newline}, Reading.{is_whole}, Search.{FindsNewline}};
 
 use super::{LINE_MAX, TooLong};
 

@@ -1,9 +1,6 @@
 //! Doors and houses in memory.
 ghost use Rattle.std.specs.Prelude.{◌≡◌, ◌+◌, ◌<◌, ◌≤◌, ◌↔◌, [], ◌∷◌, ◌++◌, Some, length, take, vec_len, IfOk, OnOk, OnErr, IsTrue, false, ◌⊎◌};
-ghost use Rattle.nav_io.specs.Faults.{HasRisen, counted};
-ghost use Rattle.nav_io.specs.Told.{append_told, HasOut};
-ghost use Rattle.nav_io.specs.Lending.{lend, take_back};
-ghost use Rattle.nav_io.specs.Doors.{DoorState, HouseState};
+ghost use Rattle.nav_io.specs.{Faults.{HasRisen, counted}, Told.{append_told, HasOut}, Lending.{lend, take_back}, Doors.{DoorState, HouseState}};
 
 use super::lent::Lent;
 use super::{MemSink, MemSource};

@@ -1,8 +1,6 @@
 //! A sink in memory.
-ghost use Rattle.std.specs.Prelude.{◌≡◌, ◌+◌, ◌-◌, ◌^◌, ◌<◌, ◌≤◌, ◌↔◌, [], ◌++◌, Some, min, length, take, IsTrue, IfOk, OnErr};
-ghost use Rattle.std.specs.Io.KnownBytes.{append_known};
-ghost use Rattle.nav_io.specs.Faults.{HasRisen, counted};
-ghost use Rattle.nav_io.specs.Mem.{Store, fails_now};
+ghost use Rattle.std.specs.{Prelude.{◌≡◌, ◌+◌, ◌-◌, ◌^◌, ◌<◌, ◌≤◌, ◌↔◌, [], ◌++◌, Some, min, length, take, IsTrue, IfOk, OnErr}, Io.KnownBytes.{append_known}};
+ghost use Rattle.nav_io.specs.{Faults.{HasRisen, counted}, Mem.{Store, fails_now}};
 
 use super::is_failing;
 use crate::{Sink, SinkError};

@@ -1,9 +1,6 @@
 //! A source in memory.
-ghost use Rattle.std.specs.Prelude.{◌≡◌, ◌+◌, ◌-◌, ◌^◌, ◌<◌, ◌≤◌, Some, min, length, vec_len, take, drop, is_err, IfOk, OnErr};
-ghost use Rattle.std.specs.Io.KnownBytes.{prepend_known, IsAtEnd};
-ghost use Rattle.std.specs.List.{list_any};
-ghost use Rattle.nav_io.specs.Faults.{HasRisen, counted};
-ghost use Rattle.nav_io.specs.Mem.{Supply, fails_now};
+ghost use Rattle.std.specs.{Prelude.{◌≡◌, ◌+◌, ◌-◌, ◌^◌, ◌<◌, ◌≤◌, Some, min, length, vec_len, take, drop, is_err, IfOk, OnErr}, Io.KnownBytes.{prepend_known, IsAtEnd}, List.{list_any}};
+ghost use Rattle.nav_io.specs.{Faults.{HasRisen, counted}, Mem.{Supply, fails_now}};
 
 use super::is_failing;
 use crate::{Failed, Source};
