@@ -1,12 +1,12 @@
 -- What a source that goes over all paths of its files still gives.
-use Rattle.std.specs.Prelude.{ℕ, ◌+◌, ◌^◌, ◌≤◌, List, [], ◌++◌, map, filter, drop, length, Bool, slice_get, All}
+use Rattle.std.specs.Prelude.{ℕ, ◌+◌, List, [], ◌++◌, map, filter, drop, Bool, slice_get}
 use Rattle.std.specs.Option.{option_map_or}
 use Rattle.stacks_vars.specs.declared.patterns.SymPat.{SymPat}
 use Rattle.partial_path.specs.declared.config.Spot.{Spot}
 use Rattle.partial_path.specs.Rules.{Rule}
 use Rattle.partial_path.specs.Moved.{moved}
 use Rattle.partial_path.specs.PathSets.{FileRules}
-use Rattle.partial_path.specs.Sources.{IsSourceFile, graphs_of, numbered}
+use Rattle.partial_path.specs.Sources.{graphs_of, numbered}
 use Rattle.back_stitch.specs.declared.plain.PlainEnds.{PlainEnds}
 use Rattle.back_stitch.specs.Sources.{may_end_at, rules_to_after, agrees}
 
