@@ -153,7 +153,7 @@ fn is_right(alloc: Global, index: &RootIndex, version: &Version) -> Result<bool,
 {
     for text in &STACKS {
         let stacks = stacks_of(alloc, text)?;
-        let symbols = LentStack::of(alloc, &stacks.symbols)?;
+        let symbols = LentStack::lending(alloc, &stacks.symbols)?;
         for user in &["operator", "ann"] {
             let found = offered(alloc, index, version, user, &symbols)?;
             if found.as_slice() != filtered(alloc, version, user, &symbols)?.as_slice() {

@@ -1,7 +1,7 @@
 use crate::scopes::ScopeStack;
+use crate::stack::Stack;
 use crate::symbol::Symbol;
 use std::alloc::{AllocError, Global};
-use std::marker::Model;
 
 /// A symbol on a stack: plain, or with an attached scope stack.
 #[derive(Debug, Drop)]
@@ -63,89 +63,11 @@ pub(crate) fn same_scopes(left: &Option<ScopeStack>, right: &Option<ScopeStack>)
 }
 
 /// A stack of symbols. A contract sees it as a list, its front first.
-#[derive(Debug, Drop)]
-pub struct SymbolStack {
-    /// The front is last, so that it comes and goes at no cost.
-    items: Vec<SymbolItem>,
-}
+pub type SymbolStack = Stack<SymbolItem>;
 
-impl Model for SymbolStack {
-    ghost use Rattle.std.specs.Prelude.{List, reverse};
-    ghost use Rattle.stacks_vars.specs.declared.items.SymbolItem.{SymbolItem};
-
-    ghost Value = { List SymbolItem };
-
-    ghost view = { λ s. reverse s.items.items };
-}
-
-impl SymbolStack {
-    ghost use Rattle.std.specs.{Prelude.{◌≡◌, ◌↔◌, List, [], ◌∷◌, drop, length, reverse, IfOk, MatchOption, OnErr, IsTrue}, Cmp.Lexicographic.{pointwise}};
+impl Stack<SymbolItem> {
+    ghost use Rattle.std.specs.{Prelude.{◌≡◌, ◌↔◌, IfOk, IsTrue}, Cmp.Lexicographic.{pointwise}};
     ghost use Rattle.stacks_vars.specs.Same.{item_eq};
-
-    /// The empty stack. It takes no memory.
-    pub fn new(alloc: Global) -> SymbolStack
-        ensures { result ≡ [] }
-    {
-        SymbolStack {
-            items: Vec::new(alloc),
-        }
-    }
-
-    /// The stack of these, the front first. It takes no memory, and time that follows their number.
-    pub fn of(items: Vec<SymbolItem>) -> SymbolStack
-        ensures { result ≡ items.items }
-    {
-        let mut items = items;
-        items.reverse();
-        SymbolStack { items }
-    }
-
-    /// Its symbols from the last to the front, which they are kept in.
-    pub fn reversed(&self) -> &[SymbolItem]
-        ensures { result.now ≡ reverse self.now }
-    {
-        self.items.as_slice()
-    }
-
-    /// The vector of its symbols, the front first. It takes no memory, and time that follows their number.
-    pub fn into_items(self) -> Vec<SymbolItem>
-        ensures { result.items ≡ self }
-    {
-        let mut items = self.items;
-        items.reverse();
-        items
-    }
-
-    /// How many symbols it has.
-    pub fn len(&self) -> usize
-        ensures { result ≡ length self.now }
-    {
-        self.items.len()
-    }
-
-    /// Whether it has no symbols.
-    pub fn is_empty(&self) -> bool
-        ensures { IsTrue result ↔ (self.now ≡ []) }
-    {
-        self.items.is_empty()
-    }
-
-    /// Puts the symbol in front; the one error is want of memory, and leaves the stack as it was.
-    pub fn push(&mut self, item: SymbolItem) -> Result<(), AllocError>
-        ensures ok { IfOk result (λ _. self.new ≡ item ∷ self.old) }
-        ensures err { OnErr result (self.new ≡ self.old) }
-    {
-        self.items.push(item)?;
-        Ok(())
-    }
-
-    /// Takes the front off; None where the stack is empty.
-    pub fn pop(&mut self) -> Option<SymbolItem>
-        ensures cases { MatchOption result (self.old ≡ []) (λ front. self.old ≡ front ∷ self.new) }
-        ensures rest { self.new ≡ drop 1 self.old }
-    {
-        self.items.pop()
-    }
 
     /// The same stack once more, at the cost of all that it holds; the one error is want of memory.
     pub fn copy(&self, alloc: Global) -> Result<SymbolStack, AllocError>
@@ -155,7 +77,7 @@ impl SymbolStack {
         for item in &self.items {
             copies.push(item.copy(alloc)?)?;
         }
-        Ok(SymbolStack { items: copies })
+        Ok(Stack { items: copies })
     }
 
     /// Whether both have the same symbols, with the same scopes, in the same order. It begins at the

@@ -1,6 +1,7 @@
 //! Symbols on the stacks of a search, lent by the files whose paths make them.
 use crate::items::{Equal, SymbolItem, SymbolStack, copy_scopes, same_items, same_scopes};
 use crate::scopes::ScopeStack;
+use crate::stack::Stack;
 use crate::symbol::Symbol;
 use std::alloc::{AllocError, Global};
 use std::marker::Model;
@@ -65,72 +66,21 @@ impl<'a> LentItem<'a> {
 }
 
 /// A stack of symbols that are lent. A contract sees a list, its front first.
-#[derive(Drop)]
-pub struct LentStack<'a> {
-    /// The front is last, so that it comes and goes at no cost.
-    items: Vec<LentItem<'a>>,
-}
+pub type LentStack<'a> = Stack<LentItem<'a>>;
 
-impl<'a> Model for LentStack<'a> {
-    ghost use Rattle.std.specs.Prelude.{List, reverse};
-    ghost use Rattle.stacks_vars.specs.declared.items.SymbolItem.{SymbolItem};
-
-    ghost Value = { List SymbolItem };
-
-    ghost view = { λ s. reverse s.items.items };
-}
-
-impl<'a> LentStack<'a> {
-    ghost use Rattle.std.specs.{Prelude.{◌≡◌, ◌↔◌, ◌+◌, [], ◌∷◌, drop, length, reverse, IfOk, OnOk, IsTrue}, Cmp.Lexicographic.{pointwise}};
+impl<'a> Stack<LentItem<'a>> {
+    ghost use Rattle.std.specs.{Prelude.{◌≡◌, ◌↔◌, drop, IfOk, OnOk, IsTrue}, Cmp.Lexicographic.{pointwise}};
     ghost use Rattle.stacks_vars.specs.Same.{item_eq};
 
-    /// The empty stack. It takes no memory.
-    pub fn new(alloc: Global) -> LentStack<'a>
-        ensures { result ≡ [] }
-    {
-        LentStack {
-            items: Vec::new(alloc),
-        }
-    }
-
     /// The stack with its symbols lent; the one error is want of memory.
-    pub fn of(alloc: Global, stack: &'a SymbolStack) -> Result<LentStack<'a>, AllocError>
+    pub fn lending(alloc: Global, stack: &'a SymbolStack) -> Result<LentStack<'a>, AllocError>
         ensures { IfOk result (λ lent. lent ≡ stack.now) }
     {
         let mut items = Vec::with_capacity(alloc, stack.len())?;
         for item in stack.reversed() {
             items.push(lent(alloc, item)?)?;
         }
-        Ok(LentStack { items })
-    }
-
-    /// Its symbols from the last to the front, which they are kept in.
-    pub fn reversed(&self) -> &[LentItem<'a>]
-        ensures { result.now ≡ reverse self.now }
-    {
-        self.items.as_slice()
-    }
-
-    /// How many symbols it has.
-    pub fn len(&self) -> usize
-        ensures { result ≡ length self.now }
-    {
-        self.items.len()
-    }
-
-    /// Whether it has no symbols.
-    pub fn is_empty(&self) -> bool
-        ensures { IsTrue result ↔ (self.now ≡ []) }
-    {
-        self.items.is_empty()
-    }
-
-    /// Puts the symbol in front; the one error is want of memory.
-    pub fn push(&mut self, item: LentItem<'a>) -> Result<(), AllocError>
-        ensures { OnOk result (self.new ≡ item.entry ∷ self.old) }
-    {
-        self.items.push(item)?;
-        Ok(())
+        Ok(Stack { items })
     }
 
     /// Becomes the other stack without its first symbols, so many, in the room that it has, and with room for `room`
@@ -155,13 +105,6 @@ impl<'a> LentStack<'a> {
         }
         self.items = items;
         Ok(())
-    }
-
-    /// Takes all symbols off.
-    pub fn clear(&mut self)
-        ensures { self.new ≡ [] }
-    {
-        self.items.clear();
     }
 
     /// Whether both have the same symbols, with the same scopes, in the same order. It begins at the front, where two

@@ -8,6 +8,7 @@ mod items;
 mod lent;
 mod patterns;
 mod scopes;
+mod stack;
 mod stacks;
 mod symbol;
 
@@ -19,5 +20,6 @@ pub use items::{SymbolItem, SymbolStack};
 pub use lent::{LentItem, LentStack};
 pub use patterns::{Post, Pre, ScopeOut, ScopePat, SymOut, SymPat, Tail};
 pub use scopes::{NodeAt, ScopeStack};
+pub use stack::Stack;
 pub use stacks::Stacks;
 pub use symbol::Symbol;

@@ -1,5 +1,5 @@
+use crate::stack::Stack;
 use std::alloc::{AllocError, Global};
-use std::marker::Model;
 
 /// A node of the whole graph: its file's place in the list of files, and its position in that file.
 #[derive(Clone, Copy, Debug, PartialEq, Eq, PartialOrd, Ord)]
@@ -9,95 +9,17 @@ pub struct NodeAt {
 }
 
 /// A stack of scopes. A contract sees it as a list, its front first.
-#[derive(Debug, Drop)]
-pub struct ScopeStack {
-    /// The front is last, so that it comes and goes at no cost.
-    items: Vec<NodeAt>,
-}
+pub type ScopeStack = Stack<NodeAt>;
 
-impl Model for ScopeStack {
-    ghost use Rattle.std.specs.Prelude.{List, reverse};
-    ghost use Rattle.stacks_vars.specs.declared.scopes.NodeAt.{NodeAt};
-
-    ghost Value = { List NodeAt };
-
-    ghost view = { λ s. reverse s.items.items };
-}
-
-impl ScopeStack {
-    ghost use Rattle.std.specs.Prelude.{◌≡◌, ◌↔◌, List, [], ◌∷◌, drop, reverse, IfOk, MatchOption, OnErr, IsTrue};
+impl Stack<NodeAt> {
+    ghost use Rattle.std.specs.Prelude.{◌≡◌, ◌↔◌, drop, IfOk, IsTrue};
     ghost use Rattle.stacks_vars.specs.Same.{scopes_eq};
-
-    /// The empty stack. It takes no memory.
-    pub fn new(alloc: Global) -> ScopeStack
-        ensures { result ≡ [] }
-    {
-        ScopeStack {
-            items: Vec::new(alloc),
-        }
-    }
-
-    /// The stack of these, the front first. It takes no memory, and time that follows their number.
-    pub fn of(items: Vec<NodeAt>) -> ScopeStack
-        ensures { result ≡ items.items }
-    {
-        let mut items = items;
-        items.reverse();
-        ScopeStack { items }
-    }
-
-    /// Its scopes from the last to the front, which they are kept in.
-    pub fn reversed(&self) -> &[NodeAt]
-        ensures { result.now ≡ reverse self.now }
-    {
-        self.items.as_slice()
-    }
-
-    /// The vector of its scopes, the front first. It takes no memory, and time that follows their number.
-    pub fn into_items(self) -> Vec<NodeAt>
-        ensures { result.items ≡ self }
-    {
-        let mut items = self.items;
-        items.reverse();
-        items
-    }
-
-    /// Whether it has no scopes.
-    pub fn is_empty(&self) -> bool
-        ensures { IsTrue result ↔ (self.now ≡ []) }
-    {
-        self.items.is_empty()
-    }
-
-    /// Puts the scope in front; the one error is want of memory, and leaves the stack as it was.
-    pub fn push(&mut self, scope: NodeAt) -> Result<(), AllocError>
-        ensures ok { IfOk result (λ _. self.new ≡ scope ∷ self.old) }
-        ensures err { OnErr result (self.new ≡ self.old) }
-    {
-        self.items.push(scope)?;
-        Ok(())
-    }
-
-    /// Takes the front off; None where the stack is empty.
-    pub fn pop(&mut self) -> Option<NodeAt>
-        ensures cases { MatchOption result (self.old ≡ []) (λ front. self.old ≡ front ∷ self.new) }
-        ensures rest { self.new ≡ drop 1 self.old }
-    {
-        self.items.pop()
-    }
-
-    /// Takes all scopes off.
-    pub fn clear(&mut self)
-        ensures { self.new ≡ [] }
-    {
-        self.items.clear();
-    }
 
     /// The same stack once more, at the cost of its length; the one error is want of memory.
     pub fn copy(&self, alloc: Global) -> Result<ScopeStack, AllocError>
         ensures { IfOk result (λ copy. copy ≡ self.now) }
     {
-        Ok(ScopeStack {
+        Ok(Stack {
             items: Vec::from_slice(alloc, self.items.as_slice())?,
         })
     }
@@ -111,7 +33,7 @@ impl ScopeStack {
         if left == 0 {
             return Ok(ScopeStack::new(alloc));
         }
-        Ok(ScopeStack {
+        Ok(Stack {
             items: Vec::from_slice(alloc, &self.items[..left])?,
         })
     }

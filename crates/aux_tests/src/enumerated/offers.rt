@@ -97,7 +97,7 @@ fn told(alloc: Global, files: &FileList, row: &str) -> Result<String, Fail> {
     let (asked, _) = row.split_once(" =>").unwrap_or((row, ""));
     let (start, stack) = asked.split_once(' ').unwrap_or((asked, ""));
     let stacks = stacks_of(alloc, stack)?;
-    let symbols = LentStack::of(alloc, &stacks.symbols)?;
+    let symbols = LentStack::lending(alloc, &stacks.symbols)?;
     let found = offered(alloc, files, start_of(start), &symbols)?;
     Ok(format!(in alloc; "{asked} =>{}", found.as_str())?)
 }

@@ -1,7 +1,7 @@
 use Rattle.std.proofs.Common.{rules, ◌≡◌, ◌∙◌, ap, sym, drop, reverse}
 use Rattle.std.proofs.lemmas.List.{take_all}
 use Rattle.stacks_vars.proofs.Turned.{behind_stored}
-use Rattle.stacks_vars.proofs.lent.LentStack.fill_rest.Goals as goal
+use Rattle.stacks_vars.proofs.lent.Stack+LentItem.fill_rest.Goals as goal
 
 -- what is copied is what stands before those that go
 pub returns : goal.returns

@@ -1,7 +1,7 @@
 use Rattle.std.proofs.lemmas.Bool.Decides.{same_from_decides}
 use Rattle.stacks_vars.specs.Same.{scopes_eq}
 use Rattle.stacks_vars.proofs.SameLaws.{scopes_told, scopes_eq-Decides}
-use Rattle.stacks_vars.proofs.scopes.ScopeStack.same.Goals as goal
+use Rattle.stacks_vars.proofs.scopes.Stack+NodeAt.same.Goals as goal
 
 pub returns-clause-eq : goal.returns-clause-eq
 returns-clause-eq c =

@@ -1,6 +1,6 @@
 use Rattle.std.proofs.Common.{rules, ◌≡◌, ◌∙◌, ap, sym, drop, reverse}
 use Rattle.stacks_vars.proofs.Turned.{behind_stored}
-use Rattle.stacks_vars.proofs.scopes.ScopeStack.rest.Goals as goal
+use Rattle.stacks_vars.proofs.scopes.Stack+NodeAt.rest.Goals as goal
 
 -- what is copied is what stands before those that go
 pub returns : goal.returns

@@ -2,7 +2,7 @@ use Rattle.std.proofs.lemmas.Bool.Decides.{same_from_decides}
 use Rattle.std.specs.Cmp.Lexicographic.{pointwise}
 use Rattle.stacks_vars.specs.Same.{item_eq}
 use Rattle.stacks_vars.proofs.SameLaws.{items_told, items_eq-Decides}
-use Rattle.stacks_vars.proofs.lent.LentStack.same.Goals as goal
+use Rattle.stacks_vars.proofs.items.Stack+SymbolItem.same.Goals as goal
 
 pub returns-clause-eq : goal.returns-clause-eq
 returns-clause-eq c =
