@@ -1,5 +1,6 @@
 -- Where the first element fails a test that holds first, looked for by halving.
-use Rattle.std.proofs.Common.{◌≡◌, zero, sym, ◌∙◌, ap, ℕ, suc, ◌+◌, ◌<◌, ◌≤◌, List, [], ◌∷◌, length, get_or, Bool, true, false, cond, arith}
+use Rattle.std.proofs.Common.{◌≡◌, zero, sym, ◌∙◌, ap, ℕ, suc, ◌+◌, ◌-◌, ◌<◌, ◌≤◌, List, [], ◌∷◌, length, take, drop, get_or, Bool, true, false, cond, arith}
+use Rattle.std.proofs.lemmas.List.{take_rest}
 use Rattle.std.specs.List.{prefix_len}
 use Rattle.std.specs.List.Sorted.{IsPartitionedBy}
 
@@ -63,3 +64,14 @@ between_down p xs low high middle x h below is e =
 
 pub between_end : {X : Type 0} (p : X → Bool) (xs : List X) (low high : ℕ) → IsBetween p xs low high → high ≤ low → low ≡ prefix_len p xs
 between_end p xs low high h over = omega (arith, h.passed, h.failed, over)
+
+-- The elements that pass one test come first, and those that pass another right behind them.
+module _ {X : Type 0} (before there : X → Bool) (xs rest : List X) (low : ℕ) (first : low ≡ prefix_len before xs) where
+  pub rest_is : (size : ℕ) → rest ≡ take (size - low) (drop low xs) → size ≡ length xs → rest ≡ drop (prefix_len before xs) xs
+  rest_is size cut all = cut ∙ ap (λ n. take (n - low) (drop low xs)) all ∙ take_rest xs low ∙ ap (λ n. drop n xs) first
+
+  pub run_cut : (many : ℕ) → rest ≡ drop (prefix_len before xs) xs → many ≡ prefix_len there rest
+      → take ((low + many) - low) (drop low xs) ≡ take (prefix_len there (drop (prefix_len before xs) xs)) (drop (prefix_len before xs) xs)
+  run_cut many is next =
+      let count : (low + many) - low ≡ many = omega arith in
+      ap (λ n. take n (drop low xs)) (count ∙ next ∙ ap (prefix_len there) is) ∙ ap (λ n. take (prefix_len there (drop (prefix_len before xs) xs)) (drop n xs)) first

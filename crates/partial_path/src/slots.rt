@@ -2,7 +2,7 @@
 ghost use Rattle.std.specs.{Prelude.{◌≡◌, ◌≤◌, ◌<◌, ◌-◌, false, length, take, drop, slice_get, option_copied, All, MatchOption}, Ordering.{nat_cmp}, Option.{option_cmp}, Cmp.Lexicographic.{slice_cmp}, List.{prefix_len}, List.Sorted.{IsPartitionedBy}};
 ghost use Rattle.partial_path.specs.{Keys.{IsByKey, key, key_cmp, key_size, rules_asking, slot_cmp, slot_of, texts}, Inside.{IsFirstAtSlot, asked_key, slot_side, is_before_slot, is_at_slot, meets_text}, Sources.{stand_first}};
 
-use crate::halving::middle_of;
+use crate::halving::count_first;
 use crate::path::PartialPath;
 use crate::rule::Start;
 use crate::stored::StoredPath;
@@ -189,17 +189,7 @@ fn count_before(
         ≡ prefix_len (is_before_slot start (take count (texts symbols.now))) paths.now }
     ensures bound { result ≤ length paths.now }
 {
-    let mut low = 0;
-    let mut high = paths.len();
-    while low < high {
-        let middle = middle_of(low, high);
-        if slot_side(&paths.at(middle), start, symbols, count).is_lt() {
-            low = middle + 1;
-            continue;
-        }
-        high = middle;
-    }
-    low
+    count_first(paths, |path| slot_side(path, start, symbols, count).is_lt())
 }
 
 /// How many of the first paths stand in that slot, of paths of which none stands there after one that
@@ -212,15 +202,5 @@ fn count_at(paths: &StoredPaths<'_>, start: Start, symbols: &LentStack<'_>, coun
         ≡ prefix_len (is_at_slot start (take count (texts symbols.now))) paths.now }
     ensures bound { result ≤ length paths.now }
 {
-    let mut low = 0;
-    let mut high = paths.len();
-    while low < high {
-        let middle = middle_of(low, high);
-        if slot_side(&paths.at(middle), start, symbols, count).is_eq() {
-            low = middle + 1;
-            continue;
-        }
-        high = middle;
-    }
-    low
+    count_first(paths, |path| slot_side(path, start, symbols, count).is_eq())
 }

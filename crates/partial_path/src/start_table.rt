@@ -3,7 +3,7 @@ ghost use Rattle.std.specs.{Prelude.{◌≡◌, ◌≤◌, ◌<◌, ◌-◌, ◌
 ghost use Rattle.partial_path.specs.{Starts.{IsByStart, begins_at, is_before, rules_at}, Tables.{AreTold, IsTable, IsTold, has_node, has_place, place_in}};
 
 use crate::config::Spot;
-use crate::halving::middle_of;
+use crate::halving::count_first;
 use crate::heads::heads_or_none;
 use crate::rule::Start;
 use crate::stored::StoredPath;
@@ -218,17 +218,7 @@ pub fn count_before(paths: &StoredPaths<'_>, start: Start) -> usize
     ensures value { result ≡ prefix_len (is_before start) paths.now }
     ensures bound { result ≤ length paths.now }
 {
-    let mut low = 0;
-    let mut high = paths.len();
-    while low < high {
-        let middle = middle_of(low, high);
-        if begins_before(&paths.at(middle), start) {
-            low = middle + 1;
-            continue;
-        }
-        high = middle;
-    }
-    low
+    count_first(paths, |path| begins_before(path, start))
 }
 
 /// How many of the first paths begin there, of paths of which none begins there after one that doesn't.
@@ -237,17 +227,7 @@ fn count_at(paths: &StoredPaths<'_>, start: Start) -> usize
     ensures value { result ≡ prefix_len (begins_at start) paths.now }
     ensures bound { result ≤ length paths.now }
 {
-    let mut low = 0;
-    let mut high = paths.len();
-    while low < high {
-        let middle = middle_of(low, high);
-        if begins_at(&paths.at(middle), start) {
-            low = middle + 1;
-            continue;
-        }
-        high = middle;
-    }
-    low
+    count_first(paths, |path| begins_at(path, start))
 }
 
 /// Whether the path begins before the start, in the order of starts.

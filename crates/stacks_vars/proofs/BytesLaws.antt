@@ -16,12 +16,12 @@ step (x ∷ xs) [] i h k = absurd (omega (arith, k))
 step (x ∷ xs) (y ∷ ys) zero h k = refl
 step (x ∷ xs) (y ∷ ys) (suc i) h k = step xs ys i (omega (arith, h)) (omega (arith, k))
 
-decided_here : (o p : Ordering) → is_ne o ≡ true → ordering_then o p ≡ o
+pub decided_here : (o p : Ordering) → is_ne o ≡ true → ordering_then o p ≡ o
 decided_here Less p e = refl
 decided_here Equal p e = absurd (false≢true e)
 decided_here Greater p e = refl
 
-decided_later : (o p : Ordering) → is_ne o ≡ false → ordering_then o p ≡ p
+pub decided_later : (o p : Ordering) → is_ne o ≡ false → ordering_then o p ≡ p
 decided_later Less p e = absurd (false≢true (sym e))
 decided_later Equal p e = refl
 decided_later Greater p e = absurd (false≢true (sym e))

@@ -1,31 +1,12 @@
-use Rattle.std.proofs.Common.{◌≡◌, sym, ◌∙◌, ap, take, true, false, arith}
-use Rattle.std.specs.Ordering.{is_lt}
+use Rattle.std.proofs.Common.{rules, take}
 use Rattle.partial_path.specs.Keys.{texts}
 use Rattle.partial_path.specs.Inside.{slot_side, is_before_slot}
 use Rattle.partial_path.proofs.Halved.{parted_before}
 use Rattle.partial_path.proofs.KeyOrders.{slots_rise}
-use Rattle.partial_path.proofs.Points.{between_all, between_up, between_down, between_end}
 use Rattle.partial_path.proofs.slots.count_before.Goals as goal
-
-pub loop-low-init : goal.loop-low-init
-loop-low-init c = between_all (is_before_slot c.args.start (take c.args.count (texts c.args.symbols.now))) c.args.paths.now c.len-high.result c.len-high.ensures
-
-pub loop-low-preserved-then-is_lt : goal.loop-low-preserved-then-is_lt
-loop-low-preserved-then-is_lt c =
-    let asked = take c.args.count (texts c.args.symbols.now) in
-    let passed : is_before_slot c.args.start asked c.at.result ≡ true = ap is_lt (sym c.slot_side.ensures) ∙ sym c.is_lt.ensures ∙ c.if-is_lt.true in
-    between_up (is_before_slot c.args.start asked) c.args.paths.now c.loop-low.low c.loop-low.high c.middle_of-middle.result c.at.result
-    (parted_before (slot_side c.args.start asked) _ (slots_rise c.args.paths.now c.args.start asked c.requires.order))
-    c.loop-low.invariant c.middle_of-middle.ensures.high c.at.ensures.is passed
-
-pub loop-low-preserved : goal.loop-low-preserved
-loop-low-preserved c =
-    let asked = take c.args.count (texts c.args.symbols.now) in
-    let failed : is_before_slot c.args.start asked c.at.result ≡ false = ap is_lt (sym c.slot_side.ensures) ∙ sym c.is_lt.ensures ∙ c.if-is_lt.false in
-    between_down (is_before_slot c.args.start asked) c.args.paths.now c.loop-low.low c.loop-low.high c.middle_of-middle.result c.at.result
-    c.loop-low.invariant c.middle_of-middle.ensures.high c.at.ensures.is failed
 
 pub returns-clause-value : goal.returns-clause-value
 returns-clause-value c =
-    between_end (is_before_slot c.args.start (take c.args.count (texts c.args.symbols.now))) c.args.paths.now c.loop-low.low c.loop-low.high
-    c.loop-low.invariant (omega (arith, c.loop-low-test.false))
+    let asked = take c.args.count (texts c.args.symbols.now) in
+    c.count_first.ensures.value (is_before_slot c.args.start asked) (λ path passed k. search rules)
+    (parted_before (slot_side c.args.start asked) _ (slots_rise c.args.paths.now c.args.start asked c.requires.order))
