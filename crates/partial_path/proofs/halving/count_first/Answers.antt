@@ -1,4 +1,4 @@
-use Rattle.std.proofs.Common.{rules, sym, arith, true, false}
+use Rattle.std.proofs.Common.{sym, arith, true, false}
 use Rattle.partial_path.proofs.Points.{between_all, between_up, between_down, between_end}
 use Rattle.partial_path.proofs.halving.count_first.Goals as goal
 
