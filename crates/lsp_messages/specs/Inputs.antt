@@ -1,7 +1,7 @@
 -- Which messages of an input are to be answered, and why no more are. A message is the body of a frame.
 use Rattle.std.specs.Prelude.{◌≡◌, ℕ, zero, suc, ◌&&◌, Bool, true, false, is_none, List, [], ◌∷◌, if◌then◌else◌, Option, None, Some}
 use Rattle.lsp_wire.specs.declared.message.Asks.{Asks}
-use Rattle.lsp_wire.specs.declared.message.Asks.TheVariants.{Initialize, Initialized, Shutdown, Exit, DidOpen, DidChange, DidClose, Definition, References, Unknown, WrongParams}
+use Rattle.lsp_wire.specs.declared.message.Asks.TheVariants.{Exit}
 use Rattle.lsp_wire.specs.declared.message.Body.{Body}
 use Rattle.lsp_wire.specs.declared.message.Body.TheVariants as body
 use Rattle.lsp_wire.specs.Messages.{body_from}
@@ -13,24 +13,13 @@ max_messages = 1000000
 
 -- whether a message asks to end
 abbrev pub asks_exit : Asks → Bool
-asks_exit (Initialize root) = false
-asks_exit Initialized = false
-asks_exit Shutdown = false
 asks_exit Exit = true
-asks_exit (DidOpen uri text) = false
-asks_exit (DidChange uri text) = false
-asks_exit (DidClose uri) = false
-asks_exit (Definition uri at) = false
-asks_exit (References uri at declaration) = false
-asks_exit Unknown = false
-asks_exit (WrongParams method) = false
+asks_exit _ = false
 
 -- whether it is the notification `exit`: with an id it is a request, and ends nothing
 abbrev pub is_exit_body : Body → Bool
-is_exit_body body.NotJson = false
-is_exit_body body.Invalid = false
-is_exit_body body.Passed = false
 is_exit_body (body.Message m) = is_none m.id && asks_exit m.asks
+is_exit_body _ = false
 
 -- the same of the bytes of a body
 abbrev pub is_exit : List ℕ → Bool
@@ -38,11 +27,8 @@ is_exit bytes = is_exit_body (body_from bytes)
 
 -- the message of a whole frame
 abbrev pub whole_body : Cut → Option (List ℕ)
-whole_body Nothing = None
-whole_body Malformed = None
-whole_body Large = None
-whole_body Unfinished = None
 whole_body (Frame bytes rest) = Some bytes
+whole_body _ = None
 
 -- a message and those behind it, of which there are none behind `exit`
 abbrev pub up_to_exit : Option (List ℕ) → List (List ℕ) → List (List ℕ)
@@ -67,10 +53,7 @@ pub data Ending : Type 0 where
 -- behind as many as may be
 abbrev pub ending_full : Cut → Ending
 ending_full Nothing = AtEnd
-ending_full Malformed = AtMost
-ending_full Large = AtMost
-ending_full Unfinished = AtMost
-ending_full (Frame bytes rest) = AtMost
+ending_full _ = AtMost
 
 -- where another may be, and behind it that ending comes
 abbrev pub ending_with : Cut → Ending → Ending

@@ -60,6 +60,4 @@ LooksOn old new left left' (Ok more.Bytes) =
     ⊎ ((bytes : List ℕ) × ReadsFrame old new left left' (Some bytes)))
 LooksOn old new left left' (Err SourceFailed) = FailsToRead old new left left' frame.ReadFault
 LooksOn old new left left' (Err NoMemory) = FailsToRead old new left left' frame.NoMemory
-LooksOn old new left left' (Err Broken) = ⊥
-LooksOn old new left left' (Err Large) = ⊥
-LooksOn old new left left' (Err SinkFailed) = ⊥
+LooksOn old new left left' _ = ⊥
