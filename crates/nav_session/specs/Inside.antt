@@ -8,6 +8,10 @@ use Rattle.nav_proto.specs.declared.request.FileEdit.{FileEdit}
 use Rattle.nav_proto.specs.declared.request.FileEdit.TheVariants as asked
 use Rattle.nav_proto.specs.declared.reply.PlainError.{PlainError}
 use Rattle.nav_proto.specs.declared.reply.PlainError.TheVariants.{NoUser, Forbidden}
+use Rattle.nav_answers.specs.declared.found.At.{At}
+use Rattle.nav_answers.specs.Replies.{IsDefineReply, IsReferencesReply}
+use Rattle.nav_session.specs.declared.asking.Query.{Query}
+use Rattle.nav_session.specs.declared.asking.Query.TheVariants.{Define, References, Callers}
 use Rattle.nav_session.specs.declared.drafts.Draft.{Draft}
 use Rattle.nav_session.specs.declared.drafts.Draft.TheVariants.{Put, Remove}
 use Rattle.path_store.specs.Store.{Kept, swept}
@@ -18,7 +22,7 @@ use Rattle.nav_proto.specs.declared.request.Request.{Request}
 use Rattle.nav_proto.specs.declared.reply.Reply.{Reply}
 use Rattle.nav_proto.specs.Replies.{reply_text}
 use Rattle.nav_session.specs.Requests.{docs_in, is_operator}
-use Rattle.nav_session.specs.Sessions.{Session, Asker, asker_of, IfNamed, IsJudged, IsCommitted, IsAnswered}
+use Rattle.nav_session.specs.Sessions.{Session, Asker, asker_of, Finds, FindsCallers, IfNamed, IsJudged, IsCommitted, IsAnswered}
 use Rattle.nav_session.specs.Transcripts.{with_newline}
 use Rattle.nav_session.specs.Desks.{Moment, session_of, GoesOn, HasItsView, IsLeftOff, AddsDocs, KeepsDocs, Replies, is_accepted, is_indexed}
 
@@ -40,6 +44,12 @@ pub record Asks {E : Type 0} (result : Result Reply E) (Found : List Entry → S
   pub reply : IfOk result (Replies (λ log before reply after. IfNamed before reply after (λ asker. Found log before asker reply after)) old new)
   pub store : new.desk.store ≡ old.desk.store
   pub keeps : new.desk.keeps ≡ old.desk.keeps
+
+-- what the query of a user is replied
+abbrev pub IsFound : Query → List Entry → Session → Asker → List ℕ → At → Reply → Session → Type 0
+IsFound (Define bounds) log before asker path at reply after = Finds IsDefineReply log before asker path at bounds reply after
+IsFound (References bounds) log before asker path at reply after = Finds IsReferencesReply log before asker path at bounds reply after
+IsFound Callers log before asker path at reply after = FindsCallers log before asker path at reply after
 
 -- why the user may change nothing
 abbrev pub change_refusal : Option (List ℕ) → Option PlainError

@@ -3,7 +3,7 @@ ghost use Rattle.index_gate.specs.Indexed.{AreDocWeights, docs_of, missing};
 ghost use Rattle.nav_proto.specs.Replies.{reply_text};
 ghost use Rattle.nav_session.specs.{Requests.{docs_of_line, docs_of_request, quits, is_quit}, Sessions.{IsAnswered}, Transcripts.{with_newline}, Desks.{HasItsView, KeepsDocs, Answers, Replies, GoesOn, IsLeftOff, moment_at}, Inside.{AnswersWith, ComesOf, Counts}};
 
-use crate::asking::{at_of, callers, define, references};
+use crate::asking::{Query, ask};
 use crate::committing::commit;
 use crate::desk::Desk;
 use crate::judging::rule;
@@ -147,22 +147,12 @@ pub fn reply_to<R: Threads + Sync, B: Commits<R>, G: Gate + Sync, L: Ledger>(
         Request::Revoke { user, prefix } => rule(means, desk, board, Edit::Revoke { user, prefix }),
         Request::Deny { user, prefix } => rule(means, desk, board, Edit::Deny { user, prefix }),
         Request::Undeny { user, prefix } => rule(means, desk, board, Edit::Undeny { user, prefix }),
-        Request::Define { path, at, bounds } => define(
-            means.alloc,
-            desk,
-            board,
-            path.as_str(),
-            at_of(at),
-            bounds,
-        ),
-        Request::References { path, at, bounds } => references(
-            means,
-            desk,
-            board,
-            path.as_str(),
-            at_of(at),
-            bounds,
-        ),
-        Request::Callers { path, at } => { callers(means, desk, board, path.as_str(), at_of(at)) }
+        Request::Define { path, at, bounds } => {
+            ask(means, desk, board, &path, at, Query::Define(bounds))
+        }
+        Request::References { path, at, bounds } => {
+            ask(means, desk, board, &path, at, Query::References(bounds))
+        }
+        Request::Callers { path, at } => ask(means, desk, board, &path, at, Query::Callers),
     }
 }

@@ -1,7 +1,6 @@
 ghost use Rattle.std.specs.Prelude.{◌≡◌};
-ghost use Rattle.nav_answers.specs.Replies.{IsDefineReply, IsReferencesReply};
 ghost use Rattle.partial_path.specs.Limits.{IsInRange};
-ghost use Rattle.nav_session.specs.{Requests.{at_of}, Sessions.{Finds, FindsCallers}, Desks.{HasItsView, moment_at}, Inside.{Asks}};
+ghost use Rattle.nav_session.specs.{Requests.{at_of}, Desks.{HasItsView, moment_at}, Inside.{Asks, IsFound}};
 
 use crate::desk::Desk;
 use crate::means::Means;
@@ -9,12 +8,13 @@ use crate::refusals::{callers_reply, query_reply};
 use nav_answers::{At, Over};
 use nav_io::Gate;
 use nav_proto::{Bounds, PlainError, Point, Reply};
-use std::alloc::{AllocError, Global};
+use std::alloc::AllocError;
 use std::thread::Threads;
 use version_board::Pins;
+use version_tree::PathText;
 
 /// Where a query stands in its file.
-pub fn at_of(point: Point) -> At
+fn at_of(point: Point) -> At
     ensures { result ≡ at_of point }
 {
     match point {
@@ -23,51 +23,38 @@ pub fn at_of(point: Point) -> At
     }
 }
 
-/// The reply to `define`, where a user is named: what the reference there is defined by, among the files that the user
-/// may see of the pinned version. The one error is want of memory.
-pub fn define<B: Pins>(
-    alloc: Global,
-    desk: &mut Desk,
-    board: &B,
-    path: &str,
-    at: At,
-    bounds: Bounds,
-) -> Result<Reply, AllocError>
-    requires view { HasItsView desk.old (B.log board.now) (B.pin_at board.now) }
-    ensures asks { Asks result
-        (λ log before asker reply after.
-        Finds IsDefineReply log before asker path.now at bounds reply after)
-        (moment_at B.Pins board.now desk.old) (moment_at B.Pins board.now desk.new) }
-{
-    if !desk.has_user() {
-        return Ok(Reply::Plain(PlainError::NoUser));
-    }
-    let pinned = board.pinned();
-    let view = desk.take_view(alloc, &pinned.version)?;
-    let found = nav_answers::define(alloc, view.view(), &pinned.index, path, at, bounds);
-    desk.keep_view(view);
-    query_reply(found)
+/// What is asked of the place in a file.
+#[derive(Clone, Copy, Debug)]
+pub enum Query {
+    /// What the reference there is defined by, within the bounds.
+    Define(Bounds),
+    /// Who refers to the definition there, within the bounds.
+    References(Bounds),
+    /// Who refers to the definition there, where only what leads to it decides whether it is refused as crowded.
+    Callers,
 }
 
-/// The reply to `references`, where a user is named: who refers to the definition there, among the files that the user
-/// may see of the pinned version. The one error is want of memory.
-pub fn references<R: Threads + Sync, B: Pins, G: Gate + Sync>(
+/// The reply to the query, where a user is named: what is found among the files that the user may see of the pinned
+/// version. The one error is want of memory.
+pub fn ask<R: Threads + Sync, B: Pins, G: Gate + Sync>(
     means: &Means<'_, R, G>,
     desk: &mut Desk,
     board: &B,
-    path: &str,
-    at: At,
-    bounds: Bounds,
+    path: &PathText,
+    point: Point,
+    query: Query,
 ) -> Result<Reply, AllocError>
     requires view { HasItsView desk.old (B.log board.now) (B.pin_at board.now) }
     ensures asks { Asks result
         (λ log before asker reply after.
-        Finds IsReferencesReply log before asker path.now at bounds reply after)
+        IsFound query log before asker path.now (at_of point) reply after)
         (moment_at B.Pins board.now desk.old) (moment_at B.Pins board.now desk.new) }
 {
     if !desk.has_user() {
         return Ok(Reply::Plain(PlainError::NoUser));
     }
+    let path = path.as_str();
+    let at = at_of(point);
     let Means { rt, alloc, gate } = *means;
     let pinned = board.pinned();
     let mut view = desk.take_view(alloc, &pinned.version)?;
@@ -77,39 +64,21 @@ pub fn references<R: Threads + Sync, B: Pins, G: Gate + Sync>(
         index: &pinned.index,
         gate,
     };
-    let found = nav_answers::references(&over, &mut view, path, at, bounds);
-    desk.keep_view(view);
-    query_reply(found)
-}
-
-/// The reply to `callers`, where a user is named: who refers to the definition there, among the files that the user may
-/// see of the pinned version, where only what leads to it decides whether it is refused as crowded. The one error is want
-/// of memory.
-pub fn callers<R: Threads + Sync, B: Pins, G: Gate + Sync>(
-    means: &Means<'_, R, G>,
-    desk: &mut Desk,
-    board: &B,
-    path: &str,
-    at: At,
-) -> Result<Reply, AllocError>
-    requires view { HasItsView desk.old (B.log board.now) (B.pin_at board.now) }
-    ensures asks { Asks result
-        (λ log before asker reply after. FindsCallers log before asker path.now at reply after)
-        (moment_at B.Pins board.now desk.old) (moment_at B.Pins board.now desk.new) }
-{
-    if !desk.has_user() {
-        return Ok(Reply::Plain(PlainError::NoUser));
+    match query {
+        Query::Define(bounds) => {
+            let found = nav_answers::define(alloc, view.view(), &pinned.index, path, at, bounds);
+            desk.keep_view(view);
+            query_reply(found)
+        }
+        Query::References(bounds) => {
+            let found = nav_answers::references(&over, &mut view, path, at, bounds);
+            desk.keep_view(view);
+            query_reply(found)
+        }
+        Query::Callers => {
+            let found = nav_answers::callers(&over, &mut view, path, at);
+            desk.keep_view(view);
+            callers_reply(found)
+        }
     }
-    let Means { rt, alloc, gate } = *means;
-    let pinned = board.pinned();
-    let mut view = desk.take_view(alloc, &pinned.version)?;
-    let over = Over {
-        rt,
-        alloc,
-        index: &pinned.index,
-        gate,
-    };
-    let found = nav_answers::callers(&over, &mut view, path, at);
-    desk.keep_view(view);
-    callers_reply(found)
 }
