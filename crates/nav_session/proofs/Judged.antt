@@ -103,13 +103,7 @@ extended_moment seat seat' base edits log log' pin pin' desk desk' e x same = re
 -- a commit that edits refuse had its documents indexed
 pub edits_indexed : (fault : EditFault) → is_indexed (edit_reply fault) ≡ true
 edits_indexed (edit.Twice path) = refl
-edits_indexed (edit.Absent path) = refl
-edits_indexed (edit.GrantAbsent user prefix) = refl
-edits_indexed (edit.DenyAbsent user prefix) = refl
-edits_indexed (edit.TooManyFiles n) = refl
-edits_indexed (edit.TooHeavy n) = refl
-edits_indexed edit.Spent = refl
-edits_indexed edit.NoMemory = refl
+edits_indexed _ = refl
 
 -- what is told of a commit that the board refuses is the verdict
 refused_so : (seat : ℕ) (log log' : List Entry) (user : List ℕ) (pin pin' : ℕ) (base : Option ℕ) (edits : List Edit) (fault : CommitFault) (o : Option (List ℕ))

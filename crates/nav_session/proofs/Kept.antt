@@ -10,10 +10,11 @@ use Rattle.nav_proto.specs.declared.request.Request.{Request}
 use Rattle.nav_proto.specs.declared.request.Request.TheVariants as request
 use Rattle.nav_session.specs.Requests.{docs_in}
 use Rattle.nav_session.specs.declared.halt.Halt.{Halt}
-use Rattle.nav_session.specs.declared.halt.Halt.TheVariants.{SourceFailed, SinkFailed, NoMemory, LongLine}
+use Rattle.nav_session.specs.declared.halt.Halt.TheVariants.{NoMemory}
 use Rattle.nav_session.specs.Halts.{status_of}
 use Rattle.nav_session.specs.Desks.{AddsDocs, AddsOnly, AreKept, KeepsDocs, KeepsDocsOf, is_accepted, is_indexed}
 use Rattle.nav_session.specs.Turns.{LeavesStore}
+use Rattle.nav_session.proofs.Chains.{chain_more}
 
 swept_if : (b : Bool) (k : Kept) (ks rest : List Kept) → AreIndexed (k ∷ ks) → AreIndexed rest → AreIndexed (cond b (k ∷ ks) rest)
 swept_if true k ks rest a r = a
@@ -38,30 +39,22 @@ pub ruleset adds = (adds_none, adds_some, adds_missing)
 
 -- where no line was answered
 pub stays_at : (reason : Halt) (ks : List Kept) → LeavesStore (Err reason) ks ks
-stays_at SourceFailed ks = refl
-stays_at SinkFailed ks = refl
-stays_at LongLine ks = refl
 stays_at NoMemory ks = adds_none ks ks refl
+stays_at _ ks = refl
 
 pub left_by : (reason : Halt) (old new : List Kept) → LeavesStore (Err reason) old new → AddsOnly old new
-left_by SourceFailed old new h = adds_none old new h
-left_by SinkFailed old new h = adds_none old new h
-left_by LongLine old new h = adds_none old new h
 left_by NoMemory old new h = h
+left_by _ old new h = adds_none old new h
 
 pub stays_by : (reason : Halt) (old new : List Kept) → LeavesStore (Err reason) old new → (status_of reason ≡ 5 → ⊥) → new ≡ old
-stays_by SourceFailed old new h other = h
-stays_by SinkFailed old new h other = h
-stays_by LongLine old new h other = h
 stays_by NoMemory old new h other = absurd (other refl)
+stays_by _ old new h other = h
 
 -- one line more
 pub kept_more : (keeps : ℕ) (lines : List (List ℕ)) (replies : List Reply) (line : List ℕ) (reply : Reply) (a b c : List Kept)
     → AreKept keeps lines replies a b → KeepsDocsOf keeps (request_from line) reply b c → AreKept keeps (lines ++ line ∷ []) (replies ++ reply ∷ []) a c
-kept_more keeps [] [] line reply a b c h one = (c, subst (λ (ks : List Kept). KeepsDocsOf keeps (request_from line) reply ks c) h one, refl)
-kept_more keeps [] (r ∷ replies) line reply a b c h one = absurd h
-kept_more keeps (l ∷ lines) [] line reply a b c h one = absurd h
-kept_more keeps (l ∷ lines) (r ∷ replies) line reply a b c h one = (h.0, h.1, kept_more keeps lines replies line reply h.0 b c h.2 one)
+kept_more keeps lines replies line reply a b c h one =
+    chain_more (λ was line reply is. KeepsDocsOf keeps (request_from line) reply was is) a lines replies b line reply c h one
 
 -- a reply that accepts nothing drops no document
 all_added : (keeps : ℕ) (b : Bool) (docs : List Doc) (reply : Reply) (old new : List Kept) → is_accepted reply ≡ false
@@ -75,13 +68,4 @@ all_added keeps false docs reply old new none h = adds_none old new h
 pub kept_adds : (keeps : ℕ) (request : Request) (reply : Reply) (old new : List Kept) → KeepsDocs keeps request reply old new → is_accepted reply ≡ false
     → AddsOnly old new
 kept_adds keeps (request.Commit base edits) reply old new h none = all_added keeps (is_indexed reply) (docs_in edits) reply old new none h
-kept_adds keeps (request.Hello user) reply old new h none = adds_none old new h
-kept_adds keeps request.Pin reply old new h none = adds_none old new h
-kept_adds keeps (request.Grant user prefix) reply old new h none = adds_none old new h
-kept_adds keeps (request.Revoke user prefix) reply old new h none = adds_none old new h
-kept_adds keeps (request.Deny user prefix) reply old new h none = adds_none old new h
-kept_adds keeps (request.Undeny user prefix) reply old new h none = adds_none old new h
-kept_adds keeps (request.Define path point bounds) reply old new h none = adds_none old new h
-kept_adds keeps (request.References path point bounds) reply old new h none = adds_none old new h
-kept_adds keeps (request.Callers path point) reply old new h none = adds_none old new h
-kept_adds keeps request.Quit reply old new h none = adds_none old new h
+kept_adds keeps _ reply old new h none = adds_none old new h

@@ -3,8 +3,9 @@
 -- `serve_session`: served and seat on Keeping, which says what is left of the store beside what UnderWay says, with
 -- Turned where no line was answered; Seen, Longer, Passed and Reached serve UnderWay.
 -- `queries_are_answered_at_the_pin`: session on AskedAtPin. The other laws on OneScript, which Plain and Alike serve.
--- CallerLemmas is for `nav_demo`, `nav_lsp` and `nav_serve`, and OneScript and Plain are for their laws too. UnderWay,
+-- CallerLemmas and Chains are for `nav_demo`, `nav_lsp` and `nav_serve`, and OneScript and Plain are for their laws too. UnderWay,
 -- Reached and Turned are also for `nav_poll`, whose session has the same lines over a link.
+pub mod Chains
 mod Kept
 mod Seen
 mod Judged

@@ -25,6 +25,7 @@ use Rattle.nav_session.specs.Refusals.{fault_reply, verdict}
 use Rattle.nav_session.specs.Sessions.{Session, Asker, Sees, Stays, Refuses, Accepts, IsJudged, HasFiles, IsCommitted, QueryReply, Finds, FindsCallers, IfNamed, IfOperator, IsAnswered, IsReplyTo}
 use Rattle.nav_session.specs.Sessions as sessions
 use Rattle.nav_session.specs.Transcripts.{AreReplies}
+use Rattle.nav_session.proofs.Chains.{chain_by}
 
 -- the first entries stay
 first_stay : (n : ℕ) (log more : List Entry) → n ≤ length log → take n (log ++ more) ≡ take n log
@@ -184,27 +185,8 @@ reply_longer : (seat : ℕ) (log more : List Entry) (before : Session) (line : L
     → IsReplyTo seat log before line reply after → IsReplyTo seat (log ++ more) before line reply after
 reply_longer seat log more before line reply after h = read_longer (request_from line) seat log more before reply after h
 
-replies_longer_by : (seat : ℕ) (log more : List Entry) (before : Session) (lines : List (List ℕ)) (replies : List Reply) (after : Session)
-    → AreReplies seat log before lines replies after → AreReplies seat (log ++ more) before lines replies after
-replies_longer_by seat log more before [] [] after h = h
-replies_longer_by seat log more before [] (reply ∷ replies) after h = h
-replies_longer_by seat log more before (line ∷ lines) [] after h = h
-replies_longer_by seat log more before (line ∷ lines) (reply ∷ replies) after h =
-    (h.0, reply_longer seat log more before line reply h.0 h.1, replies_longer_by seat log more h.0 lines replies after h.2)
-
 pub replies_longer : (seat : ℕ) (log log' : List Entry) (before : Session) (lines : List (List ℕ)) (replies : List Reply) (after : Session)
     → Begins log log' → AreReplies seat log before lines replies after → AreReplies seat log' before lines replies after
 replies_longer seat log log' before lines replies after (more, e) h =
-    subst (λ (l : List Entry). AreReplies seat l before lines replies after) e (replies_longer_by seat log more before lines replies after h)
-
--- one reply more
-pub replies_more : (seat : ℕ) (log : List Entry) (before : Session) (lines : List (List ℕ)) (replies : List Reply) (mid : Session)
-    (line : List ℕ) (reply : Reply) (after : Session)
-    → AreReplies seat log before lines replies mid → IsReplyTo seat log mid line reply after
-    → AreReplies seat log before (lines ++ line ∷ []) (replies ++ reply ∷ []) after
-replies_more seat log before [] [] mid line reply after h one =
-    (after, subst (λ (s : Session). IsReplyTo seat log s line reply after) h one, refl)
-replies_more seat log before [] (r ∷ replies) mid line reply after h one = absurd h
-replies_more seat log before (l ∷ lines) [] mid line reply after h one = absurd h
-replies_more seat log before (l ∷ lines) (r ∷ replies) mid line reply after h one =
-    (h.0, h.1, replies_more seat log h.0 lines replies mid line reply after h.2 one)
+    subst (λ (l : List Entry). AreReplies seat l before lines replies after) e
+    (chain_by (IsReplyTo seat log) (IsReplyTo seat (log ++ more)) (reply_longer seat log more) before lines replies after h)

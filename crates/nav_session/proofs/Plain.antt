@@ -10,7 +10,7 @@ use Rattle.grants.specs.Covers.{Rules, with_grant, without_grant, with_deny, wit
 use Rattle.graph_nodes.specs.Graph.{Graph}
 use Rattle.partial_path.specs.PathSets.{FileRules}
 use Rattle.version_tree.specs.declared.edit.Edit.{Edit}
-use Rattle.version_tree.specs.declared.edit.Edit.TheVariants.{Put, Remove, Grant, Revoke, Deny, Undeny}
+use Rattle.version_tree.specs.declared.edit.Edit.TheVariants.{Put, Remove}
 use Rattle.version_tree.specs.declared.edit.EditFault.{EditFault}
 use Rattle.version_tree.specs.declared.edit.EditFault.TheVariants.{Twice, Absent, TooManyFiles, TooHeavy}
 use Rattle.version_tree.specs.declared.entry.Entry.{Entry}
@@ -30,11 +30,7 @@ plain row = record { path = row.path; graph = row.file.graph; weight = row.file.
 
 abbrev weight_in : Edit → ℕ
 weight_in (Put path file) = file.weight
-weight_in (Remove path) = 0
-weight_in (Grant user prefix) = 0
-weight_in (Revoke user prefix) = 0
-weight_in (Deny user prefix) = 0
-weight_in (Undeny user prefix) = 0
+weight_in _ = 0
 
 abbrev pub plain_edit : Edit → GraphEdit × ℕ
 plain_edit e = (graph_edit e, weight_in e)
@@ -90,10 +86,7 @@ plain_edited (Put path file) v =
     (both ∙ ap (λ (rows : List Plain). rows ++ record { path = path; graph = file.graph; weight = file.weight } ∷ map plain (filter (λ (row : FileRow). is_gt (path_cmp row.path path)) v.rows)) low
     ∙ ap (λ (rows : List Plain). filter (λ (row : Plain). is_lt (path_cmp row.path path)) (map plain v.rows) ++ record { path = path; graph = file.graph; weight = file.weight } ∷ rows) high)
 plain_edited (Remove path) v = ap (λ (rows : List Plain). held_of rows v.rules) (filter_plain (λ (row : Plain). not (is_eq (path_cmp row.path path))) v.rows)
-plain_edited (Grant user prefix) v = refl
-plain_edited (Revoke user prefix) v = refl
-plain_edited (Deny user prefix) v = refl
-plain_edited (Undeny user prefix) v = refl
+plain_edited _ v = refl
 
 pub plain_edited_all : (es : List Edit) (v : Content) → held (edited_all es v) ≡ changed_all (map plain_edit es) (held v)
 plain_edited_all [] v = refl
@@ -133,21 +126,14 @@ alike_views a b user e =
 abbrev touched_by : GraphEdit → List (List ℕ)
 touched_by (put_graph path g) = path ∷ []
 touched_by (remove_path path) = path ∷ []
-touched_by (grant_prefix user prefix) = []
-touched_by (revoke_prefix user prefix) = []
-touched_by (deny_prefix user prefix) = []
-touched_by (undeny_prefix user prefix) = []
+touched_by _ = []
 
 abbrev touched_all : List (GraphEdit × ℕ) → List (List ℕ)
 touched_all es = flat_map (λ (e : GraphEdit × ℕ). touched_by e.0) es
 
 abbrev removed_by : GraphEdit → List (List ℕ)
-removed_by (put_graph path g) = []
 removed_by (remove_path path) = path ∷ []
-removed_by (grant_prefix user prefix) = []
-removed_by (revoke_prefix user prefix) = []
-removed_by (deny_prefix user prefix) = []
-removed_by (undeny_prefix user prefix) = []
+removed_by _ = []
 
 abbrev removed_all : List (GraphEdit × ℕ) → List (List ℕ)
 removed_all es = flat_map (λ (e : GraphEdit × ℕ). removed_by e.0) es
@@ -168,20 +154,12 @@ ruled_by (deny_prefix user prefix) rules = with_deny (pair user prefix) rules
 ruled_by (undeny_prefix user prefix) rules = without_deny (pair user prefix) rules
 
 abbrev lacks_grant : Rules → GraphEdit → Option Pair
-lacks_grant rules (put_graph path g) = None
-lacks_grant rules (remove_path path) = None
-lacks_grant rules (grant_prefix user prefix) = None
 lacks_grant rules (revoke_prefix user prefix) = if has_pair (pair user prefix) rules.granted then None else Some (pair user prefix)
-lacks_grant rules (deny_prefix user prefix) = None
-lacks_grant rules (undeny_prefix user prefix) = None
+lacks_grant rules _ = None
 
 abbrev lacks_deny : Rules → GraphEdit → Option Pair
-lacks_deny rules (put_graph path g) = None
-lacks_deny rules (remove_path path) = None
-lacks_deny rules (grant_prefix user prefix) = None
-lacks_deny rules (revoke_prefix user prefix) = None
-lacks_deny rules (deny_prefix user prefix) = None
 lacks_deny rules (undeny_prefix user prefix) = if has_pair (pair user prefix) rules.denied then None else Some (pair user prefix)
+lacks_deny rules _ = None
 
 abbrev grant_lacked : Rules → List (GraphEdit × ℕ) → Option Pair
 grant_lacked rules [] = None
@@ -203,11 +181,7 @@ plain_fault number v es =
 
 touched_one : (e : Edit) → touched e ≡ touched_by (graph_edit e)
 touched_one (Put path file) = refl
-touched_one (Remove path) = refl
-touched_one (Grant user prefix) = refl
-touched_one (Revoke user prefix) = refl
-touched_one (Deny user prefix) = refl
-touched_one (Undeny user prefix) = refl
+touched_one _ = refl
 
 touched_plain : (es : List Edit) → all_touched es ≡ touched_all (map plain_edit es)
 touched_plain [] = refl
@@ -215,11 +189,7 @@ touched_plain (e ∷ es) = ap (λ (ps : List (List ℕ)). ps ++ all_touched es) 
 
 removed_one : (e : Edit) → removed e ≡ removed_by (graph_edit e)
 removed_one (Put path file) = refl
-removed_one (Remove path) = refl
-removed_one (Grant user prefix) = refl
-removed_one (Revoke user prefix) = refl
-removed_one (Deny user prefix) = refl
-removed_one (Undeny user prefix) = refl
+removed_one _ = refl
 
 removed_plain : (es : List Edit) → flat_map removed es ≡ removed_all (map plain_edit es)
 removed_plain [] = refl
@@ -237,27 +207,15 @@ absent_plain rows (path ∷ paths) =
 
 ruled_one : (e : Edit) (rules : Rules) → ruled e rules ≡ ruled_by (graph_edit e) rules
 ruled_one (Put path file) rules = refl
-ruled_one (Remove path) rules = refl
-ruled_one (Grant user prefix) rules = refl
-ruled_one (Revoke user prefix) rules = refl
-ruled_one (Deny user prefix) rules = refl
-ruled_one (Undeny user prefix) rules = refl
+ruled_one _ rules = refl
 
 grant_one : (rules : Rules) (e : Edit) → misses_grant rules e ≡ lacks_grant rules (graph_edit e)
 grant_one rules (Put path file) = refl
-grant_one rules (Remove path) = refl
-grant_one rules (Grant user prefix) = refl
-grant_one rules (Revoke user prefix) = refl
-grant_one rules (Deny user prefix) = refl
-grant_one rules (Undeny user prefix) = refl
+grant_one rules _ = refl
 
 deny_one : (rules : Rules) (e : Edit) → misses_deny rules e ≡ lacks_deny rules (graph_edit e)
 deny_one rules (Put path file) = refl
-deny_one rules (Remove path) = refl
-deny_one rules (Grant user prefix) = refl
-deny_one rules (Revoke user prefix) = refl
-deny_one rules (Deny user prefix) = refl
-deny_one rules (Undeny user prefix) = refl
+deny_one rules _ = refl
 
 grant_plain : (rules : Rules) (es : List Edit) → grant_absent rules es ≡ grant_lacked rules (map plain_edit es)
 grant_plain rules [] = refl

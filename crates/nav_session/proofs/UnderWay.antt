@@ -30,7 +30,8 @@ use Rattle.nav_session.specs.Serving.{AreFirst, AreTaken, AreAllTaken, OnlyLastQ
 use Rattle.nav_session.specs.Turns.{Spot, spot, ReadsLine, AnswersNext, HasNoEntry, FindsEnd, HasStopReason, StopsNext, FindsByte, LooksOn, end_before, status_of_end, status_at_end}
 use Rattle.nav_session.specs.UnderWay.{IsShort, IsNoQuit, ArePassed, HasRead, IsUnderWay}
 use Rattle.nav_session.proofs.Seen.{taken_first, begins_after}
-use Rattle.nav_session.proofs.Longer.{replies_longer, replies_more}
+use Rattle.nav_session.proofs.Chains.{chain_more}
+use Rattle.nav_session.proofs.Longer.{replies_longer}
 use Rattle.nav_session.proofs.Passed.{AreAll, passed_first, answered_first, all_at_end, all_at_quit, all_at_long_line, all_at_most, one_line_more}
 use Rattle.nav_session.proofs.Turned.{no_entry}
 use Rattle.nav_session.proofs.Reached.{ahead-there, of_ahead, read_on, read_nothing, taken_of, taken_less, all_taken_of, all_more}
@@ -312,7 +313,7 @@ one_more count seat log left held held' old new step u a =
       short = a.read.short;
       quit = a.quit;
       read = read_on u.done a.line left old.reader new.reader old.left new.left a.read u.read;
-      replied = replies_more seat new.session.log (opened (length log)) u.done u.replies (session_of old.session) a.line a.answers.reply (session_of new.session)
+      replied = chain_more (IsReplyTo seat new.session.log) (opened (length log)) u.done u.replies (session_of old.session) a.line a.answers.reply (session_of new.session)
           (replies_longer seat old.session.log new.session.log (opened (length log)) u.done u.replies (session_of old.session) a.goes_on.begins u.replied) due;
       printed = a.answers.printed;
       holds = u.holds;

@@ -10,14 +10,15 @@ use Rattle.version_board.specs.Logs.{Begins, own}
 use Rattle.index_gate.specs.Indexed.{AddsMissing}
 use Rattle.nav_proto.specs.declared.proto_fault.ProtoFault.{ProtoFault}
 use Rattle.nav_proto.specs.declared.reply.Reply.{Reply}
-use Rattle.nav_proto.specs.declared.reply.Reply.TheVariants.{Version, Done, Rows, Callers, Plain, BadRequest, Stale, Twice, AbsentFile, AbsentGrant, TooManyFiles, TooHeavy, BadFile}
+use Rattle.nav_proto.specs.declared.reply.Reply.TheVariants.{Version, Plain, Stale, Twice, AbsentFile, AbsentGrant, TooManyFiles, TooHeavy}
 use Rattle.nav_proto.specs.declared.reply.PlainError.{PlainError}
-use Rattle.nav_proto.specs.declared.reply.PlainError.TheVariants.{BadJson, NoUser, Forbidden, Spent, NoFile, NoReference, NoDefinition, Crowded}
+use Rattle.nav_proto.specs.declared.reply.PlainError.TheVariants.{Spent}
 use Rattle.nav_proto.specs.declared.request.Request.{Request}
 use Rattle.nav_proto.specs.declared.request.Request.TheVariants as request
 use Rattle.nav_proto.specs.Replies.{reply_text}
 use Rattle.nav_proto.specs.Requests.{request_from}
 use Rattle.nav_session.specs.Requests.{docs_in}
+use Rattle.nav_session.specs.Chains.{IsChain}
 use Rattle.nav_session.specs.Sessions.{Session, asker_of, IsReplyTo}
 use Rattle.nav_session.specs.Transcripts.{with_newline}
 
@@ -53,45 +54,24 @@ share desks = shared_cost / desks
 -- whether a commit with this reply was accepted, and whether its documents were indexed
 abbrev pub is_accepted : Reply → Bool
 is_accepted (Version n) = true
-is_accepted Done = false
-is_accepted (Rows answer) = false
-is_accepted (Callers rows) = false
-is_accepted (Plain error) = false
-is_accepted (BadRequest field) = false
-is_accepted (Stale head) = false
-is_accepted (Twice path) = false
-is_accepted (AbsentFile path) = false
-is_accepted (AbsentGrant user prefix) = false
-is_accepted (TooManyFiles files) = false
-is_accepted (TooHeavy weight) = false
-is_accepted (BadFile path fault) = false
+is_accepted _ = false
 
 -- whether the error is that the numbers of versions are used up
 abbrev pub is_spent : PlainError → Bool
-is_spent BadJson = false
-is_spent NoUser = false
-is_spent Forbidden = false
 is_spent Spent = true
-is_spent NoFile = false
-is_spent NoReference = false
-is_spent NoDefinition = false
-is_spent Crowded = false
+is_spent _ = false
 
 -- whether the documents of a commit with this reply were indexed: it was accepted, or its edits were refused
 abbrev pub is_indexed : Reply → Bool
 is_indexed (Version n) = true
-is_indexed Done = false
-is_indexed (Rows answer) = false
-is_indexed (Callers rows) = false
 is_indexed (Plain error) = is_spent error
-is_indexed (BadRequest field) = false
 is_indexed (Stale head) = true
 is_indexed (Twice path) = true
 is_indexed (AbsentFile path) = true
 is_indexed (AbsentGrant user prefix) = true
 is_indexed (TooManyFiles files) = true
 is_indexed (TooHeavy weight) = true
-is_indexed (BadFile path fault) = false
+is_indexed _ = false
 
 -- the store with the documents that it lacked, and without the oldest ones where the commit was accepted, so that the
 -- others cost at most what the desk keeps
@@ -103,18 +83,9 @@ pub record AddsDocs (keeps : ℕ) (docs : List Doc) (reply : Reply) (old new : L
 -- what a request with this reply makes of the store of a desk that keeps so much: nothing, but where a commit's documents
 -- were indexed
 abbrev pub KeepsDocs : ℕ → Request → Reply → List Kept → List Kept → Type 0
-KeepsDocs keeps (request.Hello user) reply old new = new ≡ old
-KeepsDocs keeps request.Pin reply old new = new ≡ old
 KeepsDocs keeps (request.Commit base edits) reply old new =
     MatchBool (is_indexed reply) (AddsDocs keeps (docs_in edits) reply old new) (new ≡ old)
-KeepsDocs keeps (request.Grant user prefix) reply old new = new ≡ old
-KeepsDocs keeps (request.Revoke user prefix) reply old new = new ≡ old
-KeepsDocs keeps (request.Deny user prefix) reply old new = new ≡ old
-KeepsDocs keeps (request.Undeny user prefix) reply old new = new ≡ old
-KeepsDocs keeps (request.Define path point bounds) reply old new = new ≡ old
-KeepsDocs keeps (request.References path point bounds) reply old new = new ≡ old
-KeepsDocs keeps (request.Callers path point) reply old new = new ≡ old
-KeepsDocs keeps request.Quit reply old new = new ≡ old
+KeepsDocs keeps _ reply old new = new ≡ old
 
 -- the same of a line that was read: one that is no request makes nothing of the store
 abbrev pub KeepsDocsOf : ℕ → Result Request ProtoFault → Reply → List Kept → List Kept → Type 0
@@ -128,11 +99,8 @@ pub record AddsOnly (old new : List Kept) : Type 0 where
 
 -- what lines with these replies make of the store of a desk that keeps so much, one after the other
 abbrev pub AreKept : ℕ → List (List ℕ) → List Reply → List Kept → List Kept → Type 0
-AreKept keeps [] [] old new = new ≡ old
-AreKept keeps [] (reply ∷ replies) old new = ⊥
-AreKept keeps (line ∷ lines) [] old new = ⊥
-AreKept keeps (line ∷ lines) (reply ∷ replies) old new =
-    (next : List Kept) × KeepsDocsOf keeps (request_from line) reply old next × AreKept keeps lines replies next new
+AreKept keeps lines replies old new =
+    IsChain (λ was line reply is. KeepsDocsOf keeps (request_from line) reply was is) old lines replies new
 
 -- a session at one moment: its seat, what the seat has seen of the log and how much of it is pinned, and the desk
 pub record Moment : Type 0 where

@@ -9,7 +9,7 @@ use Rattle.nav_answers.specs.declared.found.AskFault.{AskFault}
 use Rattle.nav_answers.specs.Replies.{IsDefineReply, IsReferencesReply}
 use Rattle.nav_answers.specs.Callers.{IsCallersReply}
 use Rattle.nav_proto.specs.declared.request.Request.{Request}
-use Rattle.nav_proto.specs.declared.request.Request.TheVariants.{Hello, Pin, Commit, Grant, Revoke, Deny, Undeny, Define, References, Callers, Quit}
+use Rattle.nav_proto.specs.declared.request.Request.TheVariants.{Define, References, Callers}
 use Rattle.nav_proto.specs.declared.reply.Reply.{Reply}
 use Rattle.nav_session.specs.declared.exchange.Replied.{Replied}
 use Rattle.nav_session.specs.Requests.{at_of}
@@ -24,14 +24,7 @@ IsDueReply rows (References path point bounds) reply =
     (found : Result Answer AskFault) × IsReferencesReply bounds rows path (at_of point) found × (reply ≡ query_reply found)
 IsDueReply rows (Callers path point) reply =
     (found : Result (List Row) AskFault) × IsCallersReply rows path (at_of point) found × (reply ≡ callers_reply found)
-IsDueReply rows (Hello user) reply = ⊥
-IsDueReply rows Pin reply = ⊥
-IsDueReply rows (Commit base edits) reply = ⊥
-IsDueReply rows (Grant user prefix) reply = ⊥
-IsDueReply rows (Revoke user prefix) reply = ⊥
-IsDueReply rows (Deny user prefix) reply = ⊥
-IsDueReply rows (Undeny user prefix) reply = ⊥
-IsDueReply rows Quit reply = ⊥
+IsDueReply rows _ reply = ⊥
 
 -- that of a request with its reply
 abbrev pub IsDue : List GraphRow → Replied → Type 0
@@ -42,14 +35,7 @@ abbrev pub IsQuery : Request → Type 0
 IsQuery (Define path point bounds) = ⊤
 IsQuery (References path point bounds) = ⊤
 IsQuery (Callers path point) = ⊤
-IsQuery (Hello user) = ⊥
-IsQuery Pin = ⊥
-IsQuery (Commit base edits) = ⊥
-IsQuery (Grant user prefix) = ⊥
-IsQuery (Revoke user prefix) = ⊥
-IsQuery (Deny user prefix) = ⊥
-IsQuery (Undeny user prefix) = ⊥
-IsQuery Quit = ⊥
+IsQuery _ = ⊥
 
 -- What a session whose user pins so many entries is replied to a query is due over the files that the user sees of their
 -- version.

@@ -2,6 +2,7 @@ pub mod BadFiles
 pub mod Requests
 pub mod Refusals
 pub mod Sessions
+pub mod Chains
 pub mod Exchanges
 pub mod Transcripts
 pub mod Serving

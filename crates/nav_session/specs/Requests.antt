@@ -35,17 +35,8 @@ edits_with (Remove path ∷ edits) files = edit.Remove path ∷ edits_with edits
 
 -- the documents that the request puts
 abbrev pub docs_of_request : Request → List Doc
-docs_of_request (request.Hello user) = []
-docs_of_request request.Pin = []
 docs_of_request (request.Commit base edits) = docs_in edits
-docs_of_request (request.Grant user prefix) = []
-docs_of_request (request.Revoke user prefix) = []
-docs_of_request (request.Deny user prefix) = []
-docs_of_request (request.Undeny user prefix) = []
-docs_of_request (request.Define path point bounds) = []
-docs_of_request (request.References path point bounds) = []
-docs_of_request (request.Callers path point) = []
-docs_of_request request.Quit = []
+docs_of_request _ = []
 
 -- those that a line puts, which are none where it is no commit
 abbrev pub docs_of_read : Result Request ProtoFault → List Doc
@@ -58,17 +49,8 @@ docs_of_line line = docs_of_read (request_from line)
 
 -- whether the request ends the session
 abbrev pub quits : Request → Bool
-quits (request.Hello user) = false
-quits request.Pin = false
-quits (request.Commit base edits) = false
-quits (request.Grant user prefix) = false
-quits (request.Revoke user prefix) = false
-quits (request.Deny user prefix) = false
-quits (request.Undeny user prefix) = false
-quits (request.Define path point bounds) = false
-quits (request.References path point bounds) = false
-quits (request.Callers path point) = false
 quits request.Quit = true
+quits _ = false
 
 -- whether the line is an accepted `quit`
 abbrev pub is_quit_read : Result Request ProtoFault → Bool

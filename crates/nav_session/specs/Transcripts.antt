@@ -8,14 +8,11 @@ use Rattle.nav_proto.specs.declared.reply.Reply.{Reply}
 use Rattle.nav_proto.specs.Replies.{reply_text}
 use Rattle.nav_session.specs.Requests.{is_quit}
 use Rattle.nav_session.specs.Sessions.{Session, opened, IsReplyTo}
+use Rattle.nav_session.specs.Chains.{IsChain}
 
 -- the replies to lines, one after the other
 abbrev pub AreReplies : ℕ → List Entry → Session → List (List ℕ) → List Reply → Session → Type 0
-AreReplies seat log before [] [] after = after ≡ before
-AreReplies seat log before [] (reply ∷ replies) after = ⊥
-AreReplies seat log before (line ∷ lines) [] after = ⊥
-AreReplies seat log before (line ∷ lines) (reply ∷ replies) after =
-    (next : Session) × IsReplyTo seat log before line reply next × AreReplies seat log next lines replies after
+AreReplies seat log = IsChain (IsReplyTo seat log)
 
 -- A transcript of a seat over a log, where the session begins with so many entries seen. Each line that was accepted has
 -- its entry, as its reply says, and the seat has no entry but these from there on.

@@ -76,11 +76,8 @@ TakesTurn old new (Err reason) = StopsNext old new reason
 -- what a turn that answers no line makes of the store: nothing, but where memory is refused
 abbrev pub LeavesStore : Result (Option Step) Halt → List Kept → List Kept → Type 0
 LeavesStore (Ok (Some step)) old new = ⊤
-LeavesStore (Ok None) old new = new ≡ old
-LeavesStore (Err SourceFailed) old new = new ≡ old
-LeavesStore (Err SinkFailed) old new = new ≡ old
-LeavesStore (Err LongLine) old new = new ≡ old
 LeavesStore (Err NoMemory) old new = AddsOnly old new
+LeavesStore _ old new = new ≡ old
 
 -- how a session ends behind its last line, where a byte or none is next
 abbrev pub end_before : Option (List ℕ) → End
