@@ -14,10 +14,7 @@ impl LineStarts {
         requires short { length text.now < 2 ^ 31 }
         ensures { IsBytesAt (line_at text.now line) units result }
     {
-        match self.line(text, line) {
-            Some(found) => Some(to_bytes(found, units)),
-            None => None,
-        }
+        Some(to_bytes(self.line(text, line)?, units))
     }
 
     /// How many UTF-16 code units the characters have that begin before a column in bytes, on a line of the text whose
@@ -27,10 +24,7 @@ impl LineStarts {
         requires short { length text.now < 2 ^ 31 }
         ensures { IsUnitsAt (line_at text.now line) column result }
     {
-        match self.line(text, line) {
-            Some(found) => Some(to_units(found, column)),
-            None => None,
-        }
+        Some(to_units(self.line(text, line)?, column))
     }
 }
 
