@@ -1,10 +1,10 @@
 //! The board of one seat and one thread.
-ghost use Rattle.std.specs.{Prelude.{◌≡◌, ◌≢◌, true, false, ◌<◌, ◌≤◌, ◌+◌, ℕ, [], ◌∷◌, ◌++◌, None, Some, Ok, Err, IfOk, IfErr, OnOk, OnErr, vec_len, vec_capacity, length}, Arc.{arc_value}};
-ghost use Rattle.version_tree.specs.{declared.edit.EditFault.{EditFault as Faults}, Contents.{edited_all}, Verdict.{edit_fault}};
-ghost use Rattle.version_tree.specs.declared.edit.EditFault.TheVariants as faults;
-ghost use Rattle.version_board.specs.{Logs.{version_of, own, entry, refusal, FitsHead, IsExtended, IsStale, IsRefused}, Ranked.{index_of}};
+ghost use Rattle.std.specs.{Prelude.{◌≡◌, ◌+◌, ℕ, [], None, Err, IfOk, OnOk, OnErr, length}, Arc.{arc_value}};
+ghost use Rattle.version_tree.specs.{declared.edit.EditFault.{EditFault as Faults}, Contents.{edited_all}};
+ghost use Rattle.version_board.specs.{Logs.{version_of, own, refusal, FitsHead, IsExtended, IsStale, IsRefused}, Ranked.{index_of}};
 ghost use Rattle.version_board.specs.declared.fault.CommitFault.TheVariants as why;
 
+use crate::amending::{amended, fitting};
 use crate::board::{Commits, Pinned, Pins};
 use crate::fault::CommitFault;
 use crate::history::History;
@@ -12,7 +12,7 @@ use root_index::{RootIndex, rows_have_one_index};
 use std::alloc::{AllocError, Global};
 use std::marker::Model;
 use std::sync::Arc;
-use version_tree::{Edit, EditFault, Version};
+use version_tree::{Edit, Version};
 
 /// The board of one seat, whose name is 0. It sees all of its log, and pins the newest version. A contract sees its log.
 #[derive(Drop)]
@@ -55,58 +55,6 @@ impl PlainBoard {
     {
         self.pinned.version.number()
     }
-}
-
-/// Refuses a base that is given and isn't the head, which is told.
-fn fitting(base: Option<u32>, head: u32) -> Result<(), CommitFault>
-    ensures fits { OnOk result (FitsHead base head) }
-    ensures stale { IfErr result (λ fault. (fault ≡ why.Stale head) × ¬ FitsHead base head) }
-{
-    match base {
-        Some(base) if base != head => Err(CommitFault::Stale(head)),
-        _ => Ok(()),
-    }
-}
-
-/// The refusal of a commit by its edits.
-fn refused_by(fault: EditFault) -> CommitFault
-    ensures edit { (e : Faults) → result ≡ why.Edit e → (e ≡ fault) × (e ≢ faults.NoMemory) }
-    ensures stale { (n : ℕ) → result ≢ why.Stale n }
-    ensures memory { result ≡ why.NoMemory → fault ≡ faults.NoMemory }
-{
-    match fault {
-        EditFault::NoMemory => CommitFault::NoMemory,
-        fault => CommitFault::Edit(fault),
-    }
-}
-
-/// What edits make of a version, as a commit tells it.
-fn as_commit(made: Result<Version, EditFault>) -> Result<Version, CommitFault>
-    ensures ok { IfOk result (λ version. made ≡ Ok version) }
-    ensures edit { (e : Faults) → result ≡ Err (why.Edit e)
-        → (made ≡ Err e) × (e ≢ faults.NoMemory) }
-    ensures stale { (n : ℕ) → result ≢ Err (why.Stale n) }
-    ensures memory { result ≡ Err why.NoMemory → made ≡ Err faults.NoMemory }
-{
-    match made {
-        Ok(version) => Ok(version),
-        Err(fault) => Err(refused_by(fault)),
-    }
-}
-
-/// The version that the edits make of the head.
-fn amended(alloc: Global, head: &Version, edits: &[Edit]) -> Result<Version, CommitFault>
-    ensures fit { IfOk result (λ _. edit_fault head.now.number head.now.content edits.now ≡ None) }
-    ensures version { IfOk result (λ version. version
-        ≡ record {
-          number = head.now.number + 1;
-          content = edited_all edits.now head.now.content;
-        }) }
-    ensures refused { (e : Faults) → result ≡ Err (why.Edit e)
-        → (edit_fault head.now.number head.now.content edits.now ≡ Some e) × (e ≢ faults.NoMemory) }
-    ensures stale { (n : ℕ) → result ≢ Err (why.Stale n) }
-{
-    as_commit(head.amend(alloc, edits))
 }
 
 impl PlainBoard {
