@@ -1,7 +1,7 @@
 ghost use Rattle.std.specs.Prelude.{◌≡◌};
 ghost use Rattle.back_stitch.specs.declared.fault.BackFault.TheVariants.{NoMemory};
 
-use std::alloc::{AllocError, AllocFailed};
+use std::alloc::AllocError;
 use std::fmt;
 
 /// Why the references that lead to a definition aren't told.
@@ -26,14 +26,6 @@ impl From<AllocError> for BackFault {
     ghost from_gives = { λ _ fault. fault ≡ NoMemory };
 
     fn from(_: AllocError) -> BackFault {
-        BackFault::NoMemory
-    }
-}
-
-impl<T: Drop> From<AllocFailed<T>> for BackFault {
-    ghost from_gives = { λ _ fault. fault ≡ NoMemory };
-
-    fn from(_: AllocFailed<T>) -> BackFault {
         BackFault::NoMemory
     }
 }
