@@ -4,7 +4,7 @@ use Rattle.std.specs.Option.{option_map_or}
 use Rattle.graph_nodes.specs.declared.node.Node.{Node}
 use Rattle.graph_nodes.specs.declared.node.Edge.{Edge}
 use Rattle.graph_nodes.specs.declared.node.NodeKind.{NodeKind}
-use Rattle.graph_nodes.specs.declared.node.NodeKind.TheVariants.{Scope, Push, PushScoped, Pop, PopScoped, Drops}
+use Rattle.graph_nodes.specs.declared.node.NodeKind.TheVariants.{Scope, Push, PushScoped, Pop, PopScoped}
 use Rattle.graph_nodes.specs.declared.node.Place.{Place}
 use Rattle.graph_nodes.specs.declared.node.Place.TheVariants.{Root, Jump, At}
 
@@ -22,29 +22,19 @@ has_place count (At n) = nat_lt n count
 -- whether a node of this kind is an exported scope
 abbrev pub is_exported_kind : NodeKind → Bool
 is_exported_kind (Scope exported) = exported
-is_exported_kind (Push symbol reference) = false
-is_exported_kind (PushScoped symbol scope reference) = false
-is_exported_kind (Pop symbol definition) = false
-is_exported_kind (PopScoped symbol definition) = false
-is_exported_kind Drops = false
+is_exported_kind _ = false
 
 -- whether a node of this kind is a reference
 abbrev pub is_reference_kind : NodeKind → Bool
-is_reference_kind (Scope exported) = false
 is_reference_kind (Push symbol reference) = reference
 is_reference_kind (PushScoped symbol scope reference) = reference
-is_reference_kind (Pop symbol definition) = false
-is_reference_kind (PopScoped symbol definition) = false
-is_reference_kind Drops = false
+is_reference_kind _ = false
 
 -- whether a node of this kind is a definition
 abbrev pub is_definition_kind : NodeKind → Bool
-is_definition_kind (Scope exported) = false
-is_definition_kind (Push symbol reference) = false
-is_definition_kind (PushScoped symbol scope reference) = false
 is_definition_kind (Pop symbol definition) = definition
 is_definition_kind (PopScoped symbol definition) = definition
-is_definition_kind Drops = false
+is_definition_kind _ = false
 
 -- whether a test of the node's kind holds at a position of the list; false past its end
 abbrev pub kind_at : (NodeKind → Bool) → List Node → ℕ → Bool

@@ -4,47 +4,31 @@ use Rattle.graph_nodes.specs.declared.node.Node.{Node}
 use Rattle.graph_nodes.specs.declared.node.Edge.{Edge}
 use Rattle.graph_nodes.specs.declared.node.NodeKind.{NodeKind}
 use Rattle.graph_nodes.specs.declared.marks.Mark.{Mark}
-use Rattle.graph_nodes.specs.declared.marks.Mark.TheVariants.{Plain, Turning, Exported, Reference, TurningReference, Definition, TurningDefinition}
+use Rattle.graph_nodes.specs.declared.marks.Mark.TheVariants.{Plain, Exported, Reference, TurningReference, Definition, TurningDefinition}
 use Rattle.graph_nodes.specs.Graph.{is_exported_kind, is_reference_kind, is_definition_kind, is_exported, is_reference, is_definition}
 use Rattle.graph_nodes.specs.Cut.{is_turning}
 
 -- whether the mark says that paths are cut at the node
 abbrev pub is_cut_mark : Mark → Bool
 is_cut_mark Plain = false
-is_cut_mark Turning = true
-is_cut_mark Exported = true
 is_cut_mark Reference = false
-is_cut_mark TurningReference = true
 is_cut_mark Definition = false
-is_cut_mark TurningDefinition = true
+is_cut_mark _ = true
 
 -- whether it says that the node is an exported scope, a reference, a definition
 abbrev pub is_exported_mark : Mark → Bool
-is_exported_mark Plain = false
-is_exported_mark Turning = false
 is_exported_mark Exported = true
-is_exported_mark Reference = false
-is_exported_mark TurningReference = false
-is_exported_mark Definition = false
-is_exported_mark TurningDefinition = false
+is_exported_mark _ = false
 
 abbrev pub is_reference_mark : Mark → Bool
-is_reference_mark Plain = false
-is_reference_mark Turning = false
-is_reference_mark Exported = false
 is_reference_mark Reference = true
 is_reference_mark TurningReference = true
-is_reference_mark Definition = false
-is_reference_mark TurningDefinition = false
+is_reference_mark _ = false
 
 abbrev pub is_definition_mark : Mark → Bool
-is_definition_mark Plain = false
-is_definition_mark Turning = false
-is_definition_mark Exported = false
-is_definition_mark Reference = false
-is_definition_mark TurningReference = false
 is_definition_mark Definition = true
 is_definition_mark TurningDefinition = true
+is_definition_mark _ = false
 
 -- the mark says this of the node: whether paths are cut there, and what it is
 pub record Marks (mark : Mark) (cut exported reference definition : Bool) : Type 0 where

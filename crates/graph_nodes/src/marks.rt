@@ -32,51 +32,28 @@ impl Mark {
     pub fn is_cut(self) -> bool
         ensures { result ≡ is_cut_mark self }
     {
-        match self {
-            Mark::Turning | Mark::Exported | Mark::TurningReference | Mark::TurningDefinition =>
-                true,
-            Mark::Plain | Mark::Reference | Mark::Definition => false,
-        }
+        matches!(
+            self,
+            Mark::Turning | Mark::Exported | Mark::TurningReference | Mark::TurningDefinition
+        )
     }
 
     fn is_exported(self) -> bool
         ensures { result ≡ is_exported_mark self }
     {
-        match self {
-            Mark::Exported => true,
-            Mark::Plain
-            | Mark::Turning
-            | Mark::Reference
-            | Mark::TurningReference
-            | Mark::Definition
-            | Mark::TurningDefinition => false,
-        }
+        matches!(self, Mark::Exported)
     }
 
     fn is_reference(self) -> bool
         ensures { result ≡ is_reference_mark self }
     {
-        match self {
-            Mark::Reference | Mark::TurningReference => true,
-            Mark::Plain
-            | Mark::Turning
-            | Mark::Exported
-            | Mark::Definition
-            | Mark::TurningDefinition => false,
-        }
+        matches!(self, Mark::Reference | Mark::TurningReference)
     }
 
     fn is_definition(self) -> bool
         ensures { result ≡ is_definition_mark self }
     {
-        match self {
-            Mark::Definition | Mark::TurningDefinition => true,
-            Mark::Plain
-            | Mark::Turning
-            | Mark::Exported
-            | Mark::Reference
-            | Mark::TurningReference => false,
-        }
+        matches!(self, Mark::Definition | Mark::TurningDefinition)
     }
 }
 
