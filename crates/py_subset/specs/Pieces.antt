@@ -53,55 +53,35 @@ closing quote taken (b ∷ bs) =
     else (if (b == quote) && not taken then Some 1
     else option_map (λ n. 1 + n) (closing quote ((b == 92) && not taken) bs))
 
+-- the mark beside the first of these words that a name is
+abbrev pub mark_in : List (List ℕ × Mark) → List ℕ → Option Mark
+mark_in [] name = None
+mark_in (r ∷ more) name = if bytes_eq name r.0 then Some r.1 else mark_in more name
+
 -- keywords of two and three letters
 abbrev pub short_keyword : List ℕ → Option Mark
-short_keyword name =
-    if bytes_eq name (codes "as") then Some m.As
-    else (if bytes_eq name (codes "if") then Some m.If
-    else (if bytes_eq name (codes "in") then Some m.In
-    else (if bytes_eq name (codes "is") then Some m.Is
-    else (if bytes_eq name (codes "or") then Some m.Or
-    else (if bytes_eq name (codes "and") then Some m.And
-    else (if bytes_eq name (codes "def") then Some m.Def
-    else (if bytes_eq name (codes "for") then Some m.For
-    else (if bytes_eq name (codes "not") then Some m.Not
-    else None))))))))
+short_keyword = mark_in (
+    (codes "as", m.As) ∷ (codes "if", m.If) ∷ (codes "in", m.In) ∷ (codes "is", m.Is) ∷
+    (codes "or", m.Or) ∷ (codes "and", m.And) ∷ (codes "def", m.Def) ∷ (codes "for", m.For) ∷
+    (codes "not", m.Not) ∷ [])
 
 -- longer keywords that the grammar has
 abbrev pub long_keyword : List ℕ → Option Mark
-long_keyword name =
-    if bytes_eq name (codes "elif") then Some m.Elif
-    else (if bytes_eq name (codes "else") then Some m.Else
-    else (if bytes_eq name (codes "from") then Some m.From
-    else (if bytes_eq name (codes "pass") then Some m.Pass
-    else (if bytes_eq name (codes "True") then Some m.TrueWord
-    else (if bytes_eq name (codes "None") then Some m.NoneWord
-    else (if bytes_eq name (codes "break") then Some m.Break
-    else (if bytes_eq name (codes "class") then Some m.Class
-    else (if bytes_eq name (codes "False") then Some m.FalseWord
-    else (if bytes_eq name (codes "while") then Some m.While
-    else (if bytes_eq name (codes "import") then Some m.Import
-    else (if bytes_eq name (codes "return") then Some m.Return
-    else (if bytes_eq name (codes "continue") then Some m.Continue
-    else None))))))))))))
+long_keyword = mark_in (
+    (codes "elif", m.Elif) ∷ (codes "else", m.Else) ∷ (codes "from", m.From) ∷
+    (codes "pass", m.Pass) ∷ (codes "True", m.TrueWord) ∷ (codes "None", m.NoneWord) ∷
+    (codes "break", m.Break) ∷ (codes "class", m.Class) ∷ (codes "False", m.FalseWord) ∷
+    (codes "while", m.While) ∷ (codes "import", m.Import) ∷ (codes "return", m.Return) ∷
+    (codes "continue", m.Continue) ∷ [])
 
 -- keywords that the grammar doesn't have
 abbrev pub foreign_keyword : List ℕ → Option Mark
-foreign_keyword name =
-    if bytes_eq name (codes "assert") then Some m.Foreign
-    else (if bytes_eq name (codes "async") then Some m.Foreign
-    else (if bytes_eq name (codes "await") then Some m.Foreign
-    else (if bytes_eq name (codes "del") then Some m.Foreign
-    else (if bytes_eq name (codes "except") then Some m.Foreign
-    else (if bytes_eq name (codes "finally") then Some m.Foreign
-    else (if bytes_eq name (codes "global") then Some m.Foreign
-    else (if bytes_eq name (codes "lambda") then Some m.Foreign
-    else (if bytes_eq name (codes "nonlocal") then Some m.Foreign
-    else (if bytes_eq name (codes "raise") then Some m.Foreign
-    else (if bytes_eq name (codes "try") then Some m.Foreign
-    else (if bytes_eq name (codes "with") then Some m.Foreign
-    else (if bytes_eq name (codes "yield") then Some m.Foreign
-    else None))))))))))))
+foreign_keyword = mark_in (
+    (codes "assert", m.Foreign) ∷ (codes "async", m.Foreign) ∷ (codes "await", m.Foreign) ∷
+    (codes "del", m.Foreign) ∷ (codes "except", m.Foreign) ∷ (codes "finally", m.Foreign) ∷
+    (codes "global", m.Foreign) ∷ (codes "lambda", m.Foreign) ∷ (codes "nonlocal", m.Foreign) ∷
+    (codes "raise", m.Foreign) ∷ (codes "try", m.Foreign) ∷ (codes "with", m.Foreign) ∷
+    (codes "yield", m.Foreign) ∷ [])
 
 -- the keyword that a name is, if it is one
 abbrev pub keyword : List ℕ → Option Mark

@@ -9,75 +9,58 @@ use crate::block::{colon_suite, otherwise};
 use crate::expr::{expr, exprs};
 use crate::header::{bases, parameters};
 use crate::token::Mark;
-use crate::token_list::{Stop, Tokens};
+use crate::token_list::{Parsed, Stop, Tokens};
 use crate::tree::{Arm, Stmt};
-use std::alloc::Global;
 
 /// The blocks of a loop.
 #[tactic(auto, unfolding(crate::specs::Statements::bodies))]
 #[cycle(blocks)]
 fn bodies<'a>(
-    alloc: Global,
     tokens: &mut Tokens<'a>,
     turns: usize,
     depth: usize,
-) -> Result<(Items<Stmt<'a>>, Items<Stmt<'a>>), Stop>
+) -> Parsed<(Items<Stmt<'a>>, Items<Stmt<'a>>)>
     ensures { Gives result tokens.new (spec.bodies turns (spec.block turns depth) tokens.old) }
 {
-    let body = colon_suite(alloc, tokens, turns, depth)?;
-    let otherwise = otherwise(alloc, tokens, turns, depth)?;
+    let body = colon_suite(tokens, turns, depth)?;
+    let otherwise = otherwise(tokens, turns, depth)?;
     Ok((body, otherwise))
 }
 
 /// A condition and its block.
 #[tactic(auto, unfolding(crate::specs::Statements::arm))]
 #[cycle(blocks)]
-fn arm<'a>(
-    alloc: Global,
-    tokens: &mut Tokens<'a>,
-    turns: usize,
-    depth: usize,
-) -> Result<Arm<'a>, Stop>
+fn arm<'a>(tokens: &mut Tokens<'a>, turns: usize, depth: usize) -> Parsed<Arm<'a>>
     ensures { Gives result tokens.new (spec.arm turns (spec.block turns depth) tokens.old) }
 {
-    let condition = expr(alloc, tokens, turns, turns)?;
-    let body = colon_suite(alloc, tokens, turns, depth)?;
+    let condition = expr(tokens, turns, turns)?;
+    let body = colon_suite(tokens, turns, depth)?;
     Ok(Arm { condition, body })
 }
 
 /// A further one behind `elif`.
 #[cycle(blocks)]
-fn next_arm<'a>(
-    alloc: Global,
-    tokens: &mut Tokens<'a>,
-    turns: usize,
-    depth: usize,
-) -> Result<Arm<'a>, Stop>
+fn next_arm<'a>(tokens: &mut Tokens<'a>, turns: usize, depth: usize) -> Parsed<Arm<'a>>
     ensures { Gives result tokens.new
         ((Mark.Elif ▹ spec.arm turns (spec.block turns depth)) tokens.old) }
 {
     tokens.take(Mark::Elif)?;
-    arm(alloc, tokens, turns, depth)
+    arm(tokens, turns, depth)
 }
 
 /// All arms of an `if`.
 #[tactic(auto, using(crate::proofs::Turns::turns), unfolding(crate::specs::Statements::arms))]
 #[cycle(blocks)]
-fn arms<'a>(
-    alloc: Global,
-    tokens: &mut Tokens<'a>,
-    turns: usize,
-    depth: usize,
-) -> Result<Items<Arm<'a>>, Stop>
+fn arms<'a>(tokens: &mut Tokens<'a>, turns: usize, depth: usize) -> Parsed<Items<Arm<'a>>>
     ensures { Gives result tokens.new (spec.arms turns (spec.block turns depth) tokens.old) }
 {
-    let mut list = Items::new(alloc);
-    list.push(arm(alloc, tokens, turns, depth)?)?;
+    let mut list = tokens.list();
+    list.push(arm(tokens, turns, depth)?)?;
     for _turn in 0..turns {
         if !tokens.sees(Mark::Elif) {
             return Ok(list);
         }
-        list.push(next_arm(alloc, tokens, turns, depth)?)?;
+        list.push(next_arm(tokens, turns, depth)?)?;
     }
     Err(Stop::Refused)
 }
@@ -85,34 +68,24 @@ fn arms<'a>(
 /// `if ..`
 #[tactic(auto, unfolding(crate::specs::Statements::if_stmt))]
 #[cycle(blocks)]
-pub fn if_stmt<'a>(
-    alloc: Global,
-    tokens: &mut Tokens<'a>,
-    turns: usize,
-    depth: usize,
-) -> Result<Stmt<'a>, Stop>
+pub fn if_stmt<'a>(tokens: &mut Tokens<'a>, turns: usize, depth: usize) -> Parsed<Stmt<'a>>
     ensures { Gives result tokens.new (spec.if_stmt turns (spec.block turns depth) tokens.old) }
 {
     tokens.take(Mark::If)?;
-    let arms = arms(alloc, tokens, turns, depth)?;
-    let otherwise = otherwise(alloc, tokens, turns, depth)?;
+    let arms = arms(tokens, turns, depth)?;
+    let otherwise = otherwise(tokens, turns, depth)?;
     Ok(Stmt::If { arms, otherwise })
 }
 
 /// `while ..`
 #[tactic(auto, unfolding(crate::specs::Statements::while_stmt))]
 #[cycle(blocks)]
-pub fn while_stmt<'a>(
-    alloc: Global,
-    tokens: &mut Tokens<'a>,
-    turns: usize,
-    depth: usize,
-) -> Result<Stmt<'a>, Stop>
+pub fn while_stmt<'a>(tokens: &mut Tokens<'a>, turns: usize, depth: usize) -> Parsed<Stmt<'a>>
     ensures { Gives result tokens.new (spec.while_stmt turns (spec.block turns depth) tokens.old) }
 {
     tokens.take(Mark::While)?;
-    let condition = expr(alloc, tokens, turns, turns)?;
-    let (body, otherwise) = bodies(alloc, tokens, turns, depth)?;
+    let condition = expr(tokens, turns, turns)?;
+    let (body, otherwise) = bodies(tokens, turns, depth)?;
     Ok(Stmt::While {
         condition,
         body,
@@ -123,19 +96,14 @@ pub fn while_stmt<'a>(
 /// `for ..`
 #[tactic(auto, unfolding(crate::specs::Statements::for_stmt))]
 #[cycle(blocks)]
-pub fn for_stmt<'a>(
-    alloc: Global,
-    tokens: &mut Tokens<'a>,
-    turns: usize,
-    depth: usize,
-) -> Result<Stmt<'a>, Stop>
+pub fn for_stmt<'a>(tokens: &mut Tokens<'a>, turns: usize, depth: usize) -> Parsed<Stmt<'a>>
     ensures { Gives result tokens.new (spec.for_stmt turns (spec.block turns depth) tokens.old) }
 {
     tokens.take(Mark::For)?;
     let name = tokens.name()?;
     tokens.take(Mark::In)?;
-    let items = exprs(alloc, tokens, turns, turns)?;
-    let (body, otherwise) = bodies(alloc, tokens, turns, depth)?;
+    let items = exprs(tokens, turns, turns)?;
+    let (body, otherwise) = bodies(tokens, turns, depth)?;
     Ok(Stmt::For {
         name,
         items,
@@ -147,18 +115,13 @@ pub fn for_stmt<'a>(
 /// `def ..`
 #[tactic(auto, unfolding(crate::specs::Statements::def_stmt))]
 #[cycle(blocks)]
-pub fn def_stmt<'a>(
-    alloc: Global,
-    tokens: &mut Tokens<'a>,
-    turns: usize,
-    depth: usize,
-) -> Result<Stmt<'a>, Stop>
+pub fn def_stmt<'a>(tokens: &mut Tokens<'a>, turns: usize, depth: usize) -> Parsed<Stmt<'a>>
     ensures { Gives result tokens.new (spec.def_stmt turns (spec.block turns depth) tokens.old) }
 {
     tokens.take(Mark::Def)?;
     let name = tokens.name()?;
-    let parameters = parameters(alloc, tokens, turns)?;
-    let body = colon_suite(alloc, tokens, turns, depth)?;
+    let parameters = parameters(tokens, turns)?;
+    let body = colon_suite(tokens, turns, depth)?;
     Ok(Stmt::Def {
         name,
         parameters,
@@ -169,17 +132,12 @@ pub fn def_stmt<'a>(
 /// `class ..`
 #[tactic(auto, unfolding(crate::specs::Statements::class_stmt))]
 #[cycle(blocks)]
-pub fn class_stmt<'a>(
-    alloc: Global,
-    tokens: &mut Tokens<'a>,
-    turns: usize,
-    depth: usize,
-) -> Result<Stmt<'a>, Stop>
+pub fn class_stmt<'a>(tokens: &mut Tokens<'a>, turns: usize, depth: usize) -> Parsed<Stmt<'a>>
     ensures { Gives result tokens.new (spec.class_stmt turns (spec.block turns depth) tokens.old) }
 {
     tokens.take(Mark::Class)?;
     let name = tokens.name()?;
-    let bases = bases(alloc, tokens, turns)?;
-    let body = colon_suite(alloc, tokens, turns, depth)?;
+    let bases = bases(tokens, turns)?;
+    let body = colon_suite(tokens, turns, depth)?;
     Ok(Stmt::Class { name, bases, body })
 }

@@ -7,42 +7,31 @@ ghost use Rattle.py_subset.specs.Parsing as spec;
 
 use crate::Items;
 use crate::primaries::primary;
-use crate::symbols::{begins_expr, begins_joined, operator, signs};
+use crate::symbols::{begins_expr, begins_joined, op_of, signs};
 use crate::token::Mark;
-use crate::token_list::{Stop, Tokens};
+use crate::token_list::{Parsed, Stop, Tokens};
 use crate::tree::{BinOp, Expr, Exprs, Joined, Operand};
-use std::alloc::Global;
 
 /// A primary with the signs before it.
 #[tactic(auto, unfolding(crate::specs::Parsing::operand))]
 #[cycle(nested)]
-fn operand<'a>(
-    alloc: Global,
-    tokens: &mut Tokens<'a>,
-    turns: usize,
-    depth: usize,
-) -> Result<Operand<'a>, Stop>
+fn operand<'a>(tokens: &mut Tokens<'a>, turns: usize, depth: usize) -> Parsed<Operand<'a>>
     ensures { Gives result tokens.new (spec.operand turns (spec.exprs turns depth) tokens.old) }
 {
-    let signs = signs(alloc, tokens, turns)?;
-    let primary = primary(alloc, tokens, turns, depth)?;
+    let signs = signs(tokens, turns)?;
+    let primary = primary(tokens, turns, depth)?;
     Ok(Operand { signs, primary })
 }
 
 /// `not in` and its operand.
 #[tactic(auto, unfolding(crate::specs::Parsing::negated))]
 #[cycle(nested)]
-fn negated<'a>(
-    alloc: Global,
-    tokens: &mut Tokens<'a>,
-    turns: usize,
-    depth: usize,
-) -> Result<Joined<'a>, Stop>
+fn negated<'a>(tokens: &mut Tokens<'a>, turns: usize, depth: usize) -> Parsed<Joined<'a>>
     ensures { Gives result tokens.new (spec.negated turns (spec.exprs turns depth) tokens.old) }
 {
     tokens.take(Mark::Not)?;
     tokens.take(Mark::In)?;
-    let operand = operand(alloc, tokens, turns, depth)?;
+    let operand = operand(tokens, turns, depth)?;
     Ok(Joined {
         op: BinOp::NotIn,
         operand,
@@ -52,24 +41,19 @@ fn negated<'a>(
 /// `is` or `is not`, and its operand.
 #[tactic(auto, unfolding(crate::specs::Parsing::compared))]
 #[cycle(nested)]
-fn compared<'a>(
-    alloc: Global,
-    tokens: &mut Tokens<'a>,
-    turns: usize,
-    depth: usize,
-) -> Result<Joined<'a>, Stop>
+fn compared<'a>(tokens: &mut Tokens<'a>, turns: usize, depth: usize) -> Parsed<Joined<'a>>
     ensures { Gives result tokens.new (spec.compared turns (spec.exprs turns depth) tokens.old) }
 {
     tokens.take(Mark::Is)?;
     if tokens.sees(Mark::Not) {
         tokens.take(Mark::Not)?;
-        let operand = operand(alloc, tokens, turns, depth)?;
+        let operand = operand(tokens, turns, depth)?;
         return Ok(Joined {
             op: BinOp::IsNot,
             operand,
         });
     }
-    let operand = operand(alloc, tokens, turns, depth)?;
+    let operand = operand(tokens, turns, depth)?;
     Ok(Joined {
         op: BinOp::Is,
         operand,
@@ -79,43 +63,33 @@ fn compared<'a>(
 /// An operator and its operand.
 #[tactic(auto, unfolding(crate::specs::Parsing::joined))]
 #[cycle(nested)]
-fn joined<'a>(
-    alloc: Global,
-    tokens: &mut Tokens<'a>,
-    turns: usize,
-    depth: usize,
-) -> Result<Joined<'a>, Stop>
+fn joined<'a>(tokens: &mut Tokens<'a>, turns: usize, depth: usize) -> Parsed<Joined<'a>>
     ensures { Gives result tokens.new (spec.joined turns (spec.exprs turns depth) tokens.old) }
 {
     if tokens.sees(Mark::Not) {
-        return negated(alloc, tokens, turns, depth);
+        return negated(tokens, turns, depth);
     }
     if tokens.sees(Mark::Is) {
-        return compared(alloc, tokens, turns, depth);
+        return compared(tokens, turns, depth);
     }
-    let op = operator(tokens)?;
-    let operand = operand(alloc, tokens, turns, depth)?;
+    let op = tokens.told(op_of(tokens.peek()))?;
+    let operand = operand(tokens, turns, depth)?;
     Ok(Joined { op, operand })
 }
 
 /// Operators with their operands.
 #[tactic(auto, using(crate::proofs::Turns::turns))]
 #[cycle(nested)]
-fn joins<'a>(
-    alloc: Global,
-    tokens: &mut Tokens<'a>,
-    turns: usize,
-    depth: usize,
-) -> Result<Items<Joined<'a>>, Stop>
+fn joins<'a>(tokens: &mut Tokens<'a>, turns: usize, depth: usize) -> Parsed<Items<Joined<'a>>>
     ensures { Gives result tokens.new
         (star spec.begins_joined (spec.joined turns (spec.exprs turns depth)) turns tokens.old) }
 {
-    let mut rest = Items::new(alloc);
+    let mut rest = tokens.list();
     for _turn in 0..turns {
         if !begins_joined(tokens.peek()) {
             return Ok(rest);
         }
-        rest.push(joined(alloc, tokens, turns, depth)?)?;
+        rest.push(joined(tokens, turns, depth)?)?;
     }
     Err(Stop::Refused)
 }
@@ -123,16 +97,11 @@ fn joins<'a>(
 /// Operands with operators between.
 #[tactic(auto, unfolding(crate::specs::Parsing::expr))]
 #[cycle(nested)]
-pub fn expr<'a>(
-    alloc: Global,
-    tokens: &mut Tokens<'a>,
-    turns: usize,
-    depth: usize,
-) -> Result<Expr<'a>, Stop>
+pub fn expr<'a>(tokens: &mut Tokens<'a>, turns: usize, depth: usize) -> Parsed<Expr<'a>>
     ensures { Gives result tokens.new (spec.expr turns (spec.exprs turns depth) tokens.old) }
 {
-    let first = operand(alloc, tokens, turns, depth)?;
-    let rest = joins(alloc, tokens, turns, depth)?;
+    let first = operand(tokens, turns, depth)?;
+    let rest = joins(tokens, turns, depth)?;
     Ok(Expr { first, rest })
 }
 
@@ -140,16 +109,15 @@ pub fn expr<'a>(
 #[tactic(auto, using(crate::proofs::Turns::turns))]
 #[cycle(nested)]
 fn listed<'a>(
-    alloc: Global,
     tokens: &mut Tokens<'a>,
     turns: usize,
     depth: usize,
-) -> Result<(Items<Expr<'a>>, bool), Stop>
+) -> Parsed<(Items<Expr<'a>>, bool)>
     ensures { Gives result tokens.new
         (several spec.begins_expr (spec.expr turns (spec.exprs turns depth)) turns tokens.old) }
 {
-    let mut items = Items::new(alloc);
-    items.push(expr(alloc, tokens, turns, depth)?)?;
+    let mut items = tokens.list();
+    items.push(expr(tokens, turns, depth)?)?;
     for _turn in 0..turns {
         if !tokens.sees(Mark::Comma) {
             return Ok((items, false));
@@ -158,7 +126,7 @@ fn listed<'a>(
         if !begins_expr(tokens.peek()) {
             return Ok((items, true));
         }
-        items.push(expr(alloc, tokens, turns, depth)?)?;
+        items.push(expr(tokens, turns, depth)?)?;
     }
     Err(Stop::Refused)
 }
@@ -166,17 +134,12 @@ fn listed<'a>(
 /// Expressions with brackets nested no deeper than `depth`.
 #[tactic(auto, unfolding(crate::specs::Parsing::exprs_with))]
 #[cycle(nested)]
-pub fn exprs<'a>(
-    alloc: Global,
-    tokens: &mut Tokens<'a>,
-    turns: usize,
-    depth: usize,
-) -> Result<Exprs<'a>, Stop>
+pub fn exprs<'a>(tokens: &mut Tokens<'a>, turns: usize, depth: usize) -> Parsed<Exprs<'a>>
     ensures { Gives result tokens.new (spec.exprs turns depth tokens.old) }
 {
     let Some(inner) = depth.checked_sub(1) else {
         return Err(Stop::Refused);
     };
-    let (items, last_comma) = listed(alloc, tokens, turns, inner)?;
+    let (items, last_comma) = listed(tokens, turns, inner)?;
     Ok(Exprs { items, last_comma })
 }

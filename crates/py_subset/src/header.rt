@@ -9,9 +9,8 @@ use crate::lists::named_parts;
 use crate::primaries::in_round;
 use crate::symbols::{arguments, begins_expr};
 use crate::token::Mark;
-use crate::token_list::{Stop, Tokens};
+use crate::token_list::{Parsed, Tokens};
 use crate::tree::{Expr, Word};
-use std::alloc::Global;
 
 /// Whether a statement may begin with this token: with its first word, or as an expression.
 #[tactic(auto, unfolding(crate::specs::Statements::begins_stmt))]
@@ -36,35 +35,27 @@ pub fn begins_stmt(mark: Mark) -> bool
 
 /// The parameters of a function.
 #[tactic(auto, unfolding(crate::specs::Statements::parameters))]
-pub fn parameters<'a>(
-    alloc: Global,
-    tokens: &mut Tokens<'a>,
-    turns: usize,
-) -> Result<Items<Word<'a>>, Stop>
+pub fn parameters<'a>(tokens: &mut Tokens<'a>, turns: usize) -> Parsed<Items<Word<'a>>>
     ensures { Gives result tokens.new (spec.parameters turns tokens.old) }
 {
     tokens.take(Mark::OpenRound)?;
     if !tokens.sees(Mark::Name) {
         tokens.take(Mark::CloseRound)?;
-        return Ok(Items::new(alloc));
+        return Ok(tokens.list());
     }
-    let (list, _) = named_parts(alloc, tokens, turns)?;
+    let (list, _) = named_parts(tokens, turns)?;
     tokens.take(Mark::CloseRound)?;
     Ok(list)
 }
 
 /// The bases of a class.
 #[tactic(auto, unfolding(crate::specs::Statements::bases))]
-pub fn bases<'a>(
-    alloc: Global,
-    tokens: &mut Tokens<'a>,
-    turns: usize,
-) -> Result<Items<Expr<'a>>, Stop>
+pub fn bases<'a>(tokens: &mut Tokens<'a>, turns: usize) -> Parsed<Items<Expr<'a>>>
     ensures { Gives result tokens.new (spec.bases turns tokens.old) }
 {
     if !tokens.sees(Mark::OpenRound) {
-        return Ok(Items::new(alloc));
+        return Ok(tokens.list());
     }
-    let inside = in_round(alloc, tokens, turns, turns)?;
-    Ok(arguments(alloc, inside))
+    let inside = in_round(tokens, turns, turns)?;
+    Ok(arguments(tokens, inside))
 }

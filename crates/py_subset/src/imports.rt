@@ -7,21 +7,20 @@ ghost use Rattle.py_subset.specs.Statements as spec;
 use crate::Items;
 use crate::lists::{Part, named_parts, parts};
 use crate::token::Mark;
-use crate::token_list::{Stop, Tokens};
+use crate::token_list::{Parsed, Tokens};
 use crate::tree::{FromItem, ImportItem, Stmt, Word};
-use std::alloc::Global;
 
 /// Names with dots between.
 #[tactic(auto, unfolding(crate::specs::Statements::dotted))]
-fn dotted<'a>(alloc: Global, tokens: &mut Tokens<'a>, turns: usize) -> Result<Items<Word<'a>>, Stop>
+fn dotted<'a>(tokens: &mut Tokens<'a>, turns: usize) -> Parsed<Items<Word<'a>>>
     ensures { Gives result tokens.new (spec.dotted turns tokens.old) }
 {
-    parts(alloc, tokens, turns, Mark::Dot)
+    parts(tokens, turns, Mark::Dot)
 }
 
 /// The name behind `as`, if there is one.
 #[tactic(auto, unfolding(crate::specs::Statements::alias))]
-fn alias<'a>(tokens: &mut Tokens<'a>, turns: usize) -> Result<Option<Word<'a>>, Stop>
+fn alias<'a>(tokens: &mut Tokens<'a>, turns: usize) -> Parsed<Option<Word<'a>>>
     ensures { Gives result tokens.new (spec.alias turns tokens.old) }
 {
     if !tokens.sees(Mark::As) {
@@ -36,8 +35,8 @@ impl<'a> Part<'a> for ImportItem<'a> {
 
     /// An imported module and its name behind `as`.
     #[tactic(auto, unfolding(crate::specs::Statements::modas))]
-    fn read(alloc: Global, tokens: &mut Tokens<'a>, turns: usize) -> Result<ImportItem<'a>, Stop> {
-        let dotted = dotted(alloc, tokens, turns)?;
+    fn read(tokens: &mut Tokens<'a>, turns: usize) -> Parsed<ImportItem<'a>> {
+        let dotted = dotted(tokens, turns)?;
         let alias = alias(tokens, turns)?;
         Ok(ImportItem { dotted, alias })
     }
@@ -45,15 +44,11 @@ impl<'a> Part<'a> for ImportItem<'a> {
 
 /// `import ..`
 #[tactic(auto, unfolding(crate::specs::Statements::import_stmt, crate::specs::Statements::modas_list))]
-pub fn import_stmt<'a>(
-    alloc: Global,
-    tokens: &mut Tokens<'a>,
-    turns: usize,
-) -> Result<Stmt<'a>, Stop>
+pub fn import_stmt<'a>(tokens: &mut Tokens<'a>, turns: usize) -> Parsed<Stmt<'a>>
     ensures { Gives result tokens.new (spec.import_stmt turns tokens.old) }
 {
     tokens.take(Mark::Import)?;
-    Ok(Stmt::Import(parts(alloc, tokens, turns, Mark::Comma)?))
+    Ok(Stmt::Import(parts(tokens, turns, Mark::Comma)?))
 }
 
 impl<'a> Part<'a> for FromItem<'a> {
@@ -61,7 +56,7 @@ impl<'a> Part<'a> for FromItem<'a> {
 
     /// An imported name and its name behind `as`.
     #[tactic(auto, unfolding(crate::specs::Statements::item))]
-    fn read(_alloc: Global, tokens: &mut Tokens<'a>, turns: usize) -> Result<FromItem<'a>, Stop> {
+    fn read(tokens: &mut Tokens<'a>, turns: usize) -> Parsed<FromItem<'a>> {
         let name = tokens.name()?;
         let alias = alias(tokens, turns)?;
         Ok(FromItem { name, alias })
@@ -70,26 +65,18 @@ impl<'a> Part<'a> for FromItem<'a> {
 
 /// Imported names in brackets.
 #[tactic(auto, unfolding(crate::specs::Statements::enclosed))]
-fn enclosed<'a>(
-    alloc: Global,
-    tokens: &mut Tokens<'a>,
-    turns: usize,
-) -> Result<Option<Items<FromItem<'a>>>, Stop>
+fn enclosed<'a>(tokens: &mut Tokens<'a>, turns: usize) -> Parsed<Option<Items<FromItem<'a>>>>
     ensures { Gives result tokens.new (spec.enclosed turns tokens.old) }
 {
     tokens.take(Mark::OpenRound)?;
-    let (list, _) = named_parts(alloc, tokens, turns)?;
+    let (list, _) = named_parts(tokens, turns)?;
     tokens.take(Mark::CloseRound)?;
     Ok(Some(list))
 }
 
 /// What is imported: these names, or all.
 #[tactic(auto, unfolding(crate::specs::Statements::imported, crate::specs::Statements::items))]
-fn imported<'a>(
-    alloc: Global,
-    tokens: &mut Tokens<'a>,
-    turns: usize,
-) -> Result<Option<Items<FromItem<'a>>>, Stop>
+fn imported<'a>(tokens: &mut Tokens<'a>, turns: usize) -> Parsed<Option<Items<FromItem<'a>>>>
     ensures { Gives result tokens.new (spec.imported turns tokens.old) }
 {
     if tokens.sees(Mark::Star) {
@@ -97,20 +84,20 @@ fn imported<'a>(
         return Ok(None);
     }
     if tokens.sees(Mark::OpenRound) {
-        return enclosed(alloc, tokens, turns);
+        return enclosed(tokens, turns);
     }
-    Ok(Some(parts(alloc, tokens, turns, Mark::Comma)?))
+    Ok(Some(parts(tokens, turns, Mark::Comma)?))
 }
 
 /// `from .. import ..`
 #[tactic(auto, unfolding(crate::specs::Statements::from_stmt))]
-pub fn from_stmt<'a>(alloc: Global, tokens: &mut Tokens<'a>, turns: usize) -> Result<Stmt<'a>, Stop>
+pub fn from_stmt<'a>(tokens: &mut Tokens<'a>, turns: usize) -> Parsed<Stmt<'a>>
     ensures { Gives result tokens.new (spec.from_stmt turns tokens.old) }
 {
     tokens.take(Mark::From)?;
-    let dotted = dotted(alloc, tokens, turns)?;
+    let dotted = dotted(tokens, turns)?;
     tokens.take(Mark::Import)?;
-    match imported(alloc, tokens, turns)? {
+    match imported(tokens, turns)? {
         Some(items) => Ok(Stmt::From(dotted, items)),
         None => Ok(Stmt::FromAll(dotted)),
     }

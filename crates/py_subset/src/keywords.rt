@@ -19,101 +19,48 @@ fn is(name: &[u8], word: &str) -> bool
     name.len() == word.len() && name.first() == word.as_bytes().first() && is_same(name, word)
 }
 
+/// The mark beside the first of these words that a name is.
+macro_rules! mark_in {
+    ($name:expr;) => { None };
+    ($name:expr; $word:literal => $mark:ident, $($more:tt)*) => {
+        if is($name, $word) { Some(Mark::$mark) } else { mark_in!($name; $($more)*) }
+    };
+}
+
 /// Keywords of two and three letters.
 fn short_keyword(name: &[u8]) -> Option<Mark>
     ensures { result ≡ spec.short_keyword name.now }
 {
-    if is(name, "as") {
-        Some(Mark::As)
-    } else if is(name, "if") {
-        Some(Mark::If)
-    } else if is(name, "in") {
-        Some(Mark::In)
-    } else if is(name, "is") {
-        Some(Mark::Is)
-    } else if is(name, "or") {
-        Some(Mark::Or)
-    } else if is(name, "and") {
-        Some(Mark::And)
-    } else if is(name, "def") {
-        Some(Mark::Def)
-    } else if is(name, "for") {
-        Some(Mark::For)
-    } else if is(name, "not") {
-        Some(Mark::Not)
-    } else {
-        None
-    }
+    mark_in!(
+        name;
+        "as" => As, "if" => If, "in" => In, "is" => Is, "or" => Or, "and" => And, "def" => Def,
+        "for" => For, "not" => Not,
+    )
 }
 
 /// Longer keywords that the grammar has.
 fn long_keyword(name: &[u8]) -> Option<Mark>
     ensures { result ≡ spec.long_keyword name.now }
 {
-    if is(name, "elif") {
-        Some(Mark::Elif)
-    } else if is(name, "else") {
-        Some(Mark::Else)
-    } else if is(name, "from") {
-        Some(Mark::From)
-    } else if is(name, "pass") {
-        Some(Mark::Pass)
-    } else if is(name, "True") {
-        Some(Mark::TrueWord)
-    } else if is(name, "None") {
-        Some(Mark::NoneWord)
-    } else if is(name, "break") {
-        Some(Mark::Break)
-    } else if is(name, "class") {
-        Some(Mark::Class)
-    } else if is(name, "False") {
-        Some(Mark::FalseWord)
-    } else if is(name, "while") {
-        Some(Mark::While)
-    } else if is(name, "import") {
-        Some(Mark::Import)
-    } else if is(name, "return") {
-        Some(Mark::Return)
-    } else if is(name, "continue") {
-        Some(Mark::Continue)
-    } else {
-        None
-    }
+    mark_in!(
+        name;
+        "elif" => Elif, "else" => Else, "from" => From, "pass" => Pass, "True" => TrueWord,
+        "None" => NoneWord, "break" => Break, "class" => Class, "False" => FalseWord,
+        "while" => While, "import" => Import, "return" => Return, "continue" => Continue,
+    )
 }
 
 /// Keywords of Python that the grammar doesn't have. They are no names, so they are told as a form that is left out.
 fn foreign_keyword(name: &[u8]) -> Option<Mark>
     ensures { result ≡ spec.foreign_keyword name.now }
 {
-    if is(name, "assert") {
-        Some(Mark::Foreign)
-    } else if is(name, "async") {
-        Some(Mark::Foreign)
-    } else if is(name, "await") {
-        Some(Mark::Foreign)
-    } else if is(name, "del") {
-        Some(Mark::Foreign)
-    } else if is(name, "except") {
-        Some(Mark::Foreign)
-    } else if is(name, "finally") {
-        Some(Mark::Foreign)
-    } else if is(name, "global") {
-        Some(Mark::Foreign)
-    } else if is(name, "lambda") {
-        Some(Mark::Foreign)
-    } else if is(name, "nonlocal") {
-        Some(Mark::Foreign)
-    } else if is(name, "raise") {
-        Some(Mark::Foreign)
-    } else if is(name, "try") {
-        Some(Mark::Foreign)
-    } else if is(name, "with") {
-        Some(Mark::Foreign)
-    } else if is(name, "yield") {
-        Some(Mark::Foreign)
-    } else {
-        None
-    }
+    mark_in!(
+        name;
+        "assert" => Foreign, "async" => Foreign, "await" => Foreign, "del" => Foreign,
+        "except" => Foreign, "finally" => Foreign, "global" => Foreign, "lambda" => Foreign,
+        "nonlocal" => Foreign, "raise" => Foreign, "try" => Foreign, "with" => Foreign,
+        "yield" => Foreign,
+    )
 }
 
 /// The keyword that a name is, if it is one.

@@ -96,5 +96,5 @@ pub fn tokens<'a>(alloc: Global, text: &'a [u8]) -> Result<Tokens<'a>, PyFault>
         at += piece.len;
     }
     reading.finish(end_line(text))?;
-    Ok(Tokens::of(reading.tokens))
+    Ok(Tokens::of(alloc, reading.tokens))
 }

@@ -5,9 +5,8 @@ ghost use Rattle.py_subset.specs.{Parsers.{Gives, both, star, several, ◌▹◌
 
 use crate::Items;
 use crate::token::Mark;
-use crate::token_list::{Stop, Tokens};
+use crate::token_list::{Parsed, Stop, Tokens};
 use crate::tree::Word;
-use std::alloc::Global;
 
 /// What stands in a list with a mark between, by the rule of the grammar that reads it.
 pub(crate) trait Part<'a>: Drop {
@@ -16,7 +15,7 @@ pub(crate) trait Part<'a>: Drop {
 
     ghost rule: { ℕ → Parser Self };
 
-    fn read(alloc: Global, tokens: &mut Tokens<'a>, turns: usize) -> Result<Self, Stop>
+    fn read(tokens: &mut Tokens<'a>, turns: usize) -> Parsed<Self>
         ensures { Gives result tokens.new (rule turns tokens.old) };
 }
 
@@ -25,42 +24,36 @@ impl<'a> Part<'a> for Word<'a> {
 
     ghost rule = { λ _. name };
 
-    fn read(_alloc: Global, tokens: &mut Tokens<'a>, _turns: usize) -> Result<Word<'a>, Stop> {
+    fn read(tokens: &mut Tokens<'a>, _turns: usize) -> Parsed<Word<'a>> {
         tokens.name()
     }
 }
 
 /// A further part behind the mark.
-fn next_part<'a, T: Part<'a>>(
-    alloc: Global,
-    tokens: &mut Tokens<'a>,
-    turns: usize,
-    between: Mark,
-) -> Result<T, Stop>
+fn next_part<'a, T: Part<'a>>(tokens: &mut Tokens<'a>, turns: usize, between: Mark) -> Parsed<T>
     ensures { Gives result tokens.new ((between ▹ T.rule turns) tokens.old) }
 {
     tokens.take(between)?;
-    T::read(alloc, tokens, turns)
+    T::read(tokens, turns)
 }
 
 /// At least one part, with the mark between.
 #[tactic(auto, using(crate::proofs::Turns::turns))]
 pub(crate) fn parts<'a, T: Part<'a>>(
-    alloc: Global,
     tokens: &mut Tokens<'a>,
     turns: usize,
     between: Mark,
-) -> Result<Items<T>, Stop>
+) -> Parsed<Items<T>>
     ensures { Gives result tokens.new
         (both cons (T.rule turns) (star (is between) (between ▹ T.rule turns) turns) tokens.old) }
 {
-    let mut list = Items::new(alloc);
-    list.push(T::read(alloc, tokens, turns)?)?;
+    let mut list = tokens.list();
+    list.push(T::read(tokens, turns)?)?;
     for _turn in 0..turns {
         if !tokens.sees(between) {
             return Ok(list);
         }
-        list.push(next_part(alloc, tokens, turns, between)?)?;
+        list.push(next_part(tokens, turns, between)?)?;
     }
     Err(Stop::Refused)
 }
@@ -68,14 +61,13 @@ pub(crate) fn parts<'a, T: Part<'a>>(
 /// At least one part that begins with a name, with commas between, and whether a comma stands at the end.
 #[tactic(auto, using(crate::proofs::Turns::turns))]
 pub(crate) fn named_parts<'a, T: Part<'a>>(
-    alloc: Global,
     tokens: &mut Tokens<'a>,
     turns: usize,
-) -> Result<(Items<T>, bool), Stop>
+) -> Parsed<(Items<T>, bool)>
     ensures { Gives result tokens.new (several (is Mark.Name) (T.rule turns) turns tokens.old) }
 {
-    let mut list = Items::new(alloc);
-    list.push(T::read(alloc, tokens, turns)?)?;
+    let mut list = tokens.list();
+    list.push(T::read(tokens, turns)?)?;
     for _turn in 0..turns {
         if !tokens.sees(Mark::Comma) {
             return Ok((list, false));
@@ -84,7 +76,7 @@ pub(crate) fn named_parts<'a, T: Part<'a>>(
         if !tokens.sees(Mark::Name) {
             return Ok((list, true));
         }
-        list.push(T::read(alloc, tokens, turns)?)?;
+        list.push(T::read(tokens, turns)?)?;
     }
     Err(Stop::Refused)
 }

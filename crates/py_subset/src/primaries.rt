@@ -1,119 +1,102 @@
 //! Names, constants and brackets, with the members and calls after them.
 
 ghost use Rattle.std.specs.Prelude.{◌≡◌};
-ghost use Rattle.py_subset.specs.Parsers.{Gives, star};
+ghost use Rattle.py_subset.specs.Parsers.{Gives, opt, star, ◌▹◌, ◌◃◌};
 ghost use Rattle.py_subset.specs.Parsing as spec;
 
 use crate::Items;
 use crate::expr::exprs;
-use crate::symbols::{arguments, begins_expr, begins_postfix, constant};
+use crate::symbols::{arguments, begins_expr, begins_postfix, constant_of};
 use crate::token::Mark;
-use crate::token_list::{Stop, Tokens};
+use crate::token_list::{Parsed, Stop, Tokens};
 use crate::tree::{Atom, Exprs, Postfix, Primary};
-use std::alloc::Global;
+
+/// What stands in brackets, by their marks.
+#[cycle(nested)]
+fn bracketed<'a>(
+    tokens: &mut Tokens<'a>,
+    turns: usize,
+    depth: usize,
+    first: Mark,
+    last: Mark,
+) -> Parsed<Option<Exprs<'a>>>
+    ensures { Gives result tokens.new
+        ((first ▹ (opt spec.begins_expr (spec.exprs turns depth) ◃ last)) tokens.old) }
+{
+    tokens.take(first)?;
+    if !begins_expr(tokens.peek()) {
+        tokens.take(last)?;
+        return Ok(None);
+    }
+    let inner = exprs(tokens, turns, depth)?;
+    tokens.take(last)?;
+    Ok(Some(inner))
+}
 
 /// What stands in round brackets.
 #[tactic(auto, unfolding(crate::specs::Parsing::in_round))]
 #[cycle(nested)]
 pub fn in_round<'a>(
-    alloc: Global,
     tokens: &mut Tokens<'a>,
     turns: usize,
     depth: usize,
-) -> Result<Option<Exprs<'a>>, Stop>
+) -> Parsed<Option<Exprs<'a>>>
     ensures { Gives result tokens.new (spec.in_round turns (spec.exprs turns depth) tokens.old) }
 {
-    tokens.take(Mark::OpenRound)?;
-    if !begins_expr(tokens.peek()) {
-        tokens.take(Mark::CloseRound)?;
-        return Ok(None);
-    }
-    let inner = exprs(alloc, tokens, turns, depth)?;
-    tokens.take(Mark::CloseRound)?;
-    Ok(Some(inner))
-}
-
-/// What stands in square brackets.
-#[tactic(auto, unfolding(crate::specs::Parsing::in_square))]
-#[cycle(nested)]
-fn in_square<'a>(
-    alloc: Global,
-    tokens: &mut Tokens<'a>,
-    turns: usize,
-    depth: usize,
-) -> Result<Option<Exprs<'a>>, Stop>
-    ensures { Gives result tokens.new (spec.in_square turns (spec.exprs turns depth) tokens.old) }
-{
-    tokens.take(Mark::OpenSquare)?;
-    if !begins_expr(tokens.peek()) {
-        tokens.take(Mark::CloseSquare)?;
-        return Ok(None);
-    }
-    let inner = exprs(alloc, tokens, turns, depth)?;
-    tokens.take(Mark::CloseSquare)?;
-    Ok(Some(inner))
+    bracketed(tokens, turns, depth, Mark::OpenRound, Mark::CloseRound)
 }
 
 /// The innermost part of an expression.
-#[tactic(auto, unfolding(crate::specs::Parsing::atom))]
+#[tactic(auto, unfolding(crate::specs::Parsing::atom, crate::specs::Parsing::in_square))]
 #[cycle(nested)]
-fn atom<'a>(
-    alloc: Global,
-    tokens: &mut Tokens<'a>,
-    turns: usize,
-    depth: usize,
-) -> Result<Atom<'a>, Stop>
+fn atom<'a>(tokens: &mut Tokens<'a>, turns: usize, depth: usize) -> Parsed<Atom<'a>>
     ensures { Gives result tokens.new (spec.atom turns (spec.exprs turns depth) tokens.old) }
 {
     if tokens.sees(Mark::Name) {
         return Ok(Atom::Name(tokens.name()?));
     }
     if tokens.sees(Mark::OpenRound) {
-        return Ok(Atom::Round(in_round(alloc, tokens, turns, depth)?));
+        return Ok(Atom::Round(in_round(tokens, turns, depth)?));
     }
     if tokens.sees(Mark::OpenSquare) {
-        return Ok(Atom::Square(in_square(alloc, tokens, turns, depth)?));
+        return Ok(Atom::Square(bracketed(
+            tokens,
+            turns,
+            depth,
+            Mark::OpenSquare,
+            Mark::CloseSquare,
+        )?));
     }
-    constant(tokens)
+    tokens.told(constant_of(tokens.peek()))
 }
 
 /// A member or a call.
 #[tactic(auto, unfolding(crate::specs::Parsing::postfix))]
 #[cycle(nested)]
-fn postfix<'a>(
-    alloc: Global,
-    tokens: &mut Tokens<'a>,
-    turns: usize,
-    depth: usize,
-) -> Result<Postfix<'a>, Stop>
+fn postfix<'a>(tokens: &mut Tokens<'a>, turns: usize, depth: usize) -> Parsed<Postfix<'a>>
     ensures { Gives result tokens.new (spec.postfix turns (spec.exprs turns depth) tokens.old) }
 {
     if tokens.sees(Mark::Dot) {
         tokens.take(Mark::Dot)?;
         return Ok(Postfix::Member(tokens.name()?));
     }
-    let inside = in_round(alloc, tokens, turns, depth)?;
-    Ok(Postfix::Call(arguments(alloc, inside)))
+    let inside = in_round(tokens, turns, depth)?;
+    Ok(Postfix::Call(arguments(tokens, inside)))
 }
 
 /// Members and calls after an atom.
 #[tactic(auto, using(crate::proofs::Turns::turns))]
 #[cycle(nested)]
-fn postfixes<'a>(
-    alloc: Global,
-    tokens: &mut Tokens<'a>,
-    turns: usize,
-    depth: usize,
-) -> Result<Items<Postfix<'a>>, Stop>
+fn postfixes<'a>(tokens: &mut Tokens<'a>, turns: usize, depth: usize) -> Parsed<Items<Postfix<'a>>>
     ensures { Gives result tokens.new
         (star spec.begins_postfix (spec.postfix turns (spec.exprs turns depth)) turns tokens.old) }
 {
-    let mut posts = Items::new(alloc);
+    let mut posts = tokens.list();
     for _turn in 0..turns {
         if !begins_postfix(tokens.peek()) {
             return Ok(posts);
         }
-        posts.push(postfix(alloc, tokens, turns, depth)?)?;
+        posts.push(postfix(tokens, turns, depth)?)?;
     }
     Err(Stop::Refused)
 }
@@ -121,15 +104,10 @@ fn postfixes<'a>(
 /// An atom with the members and calls after it.
 #[tactic(auto, unfolding(crate::specs::Parsing::primary))]
 #[cycle(nested)]
-pub fn primary<'a>(
-    alloc: Global,
-    tokens: &mut Tokens<'a>,
-    turns: usize,
-    depth: usize,
-) -> Result<Primary<'a>, Stop>
+pub fn primary<'a>(tokens: &mut Tokens<'a>, turns: usize, depth: usize) -> Parsed<Primary<'a>>
     ensures { Gives result tokens.new (spec.primary turns (spec.exprs turns depth) tokens.old) }
 {
-    let atom = atom(alloc, tokens, turns, depth)?;
-    let posts = postfixes(alloc, tokens, turns, depth)?;
+    let atom = atom(tokens, turns, depth)?;
+    let posts = postfixes(tokens, turns, depth)?;
     Ok(Primary { atom, posts })
 }

@@ -9,9 +9,8 @@ use crate::expr::exprs;
 use crate::imports::{from_stmt, import_stmt};
 use crate::symbols::begins_expr;
 use crate::token::Mark;
-use crate::token_list::{Stop, Tokens};
+use crate::token_list::{Parsed, Stop, Tokens};
 use crate::tree::{Atom, Expr, Exprs, Operand, Postfix, Primary, Stmt, Target};
-use std::alloc::Global;
 
 /// The statement that one token is.
 fn jump_of<'a>(mark: Mark) -> Option<Stmt<'a>>
@@ -71,19 +70,19 @@ fn target_of<'a>(exprs: Exprs<'a>) -> Option<Target<'a>>
 
 /// An assignment, or expressions alone.
 #[tactic(auto, unfolding(crate::specs::Statements::assign))]
-fn assign<'a>(alloc: Global, tokens: &mut Tokens<'a>, turns: usize) -> Result<Stmt<'a>, Stop>
+fn assign<'a>(tokens: &mut Tokens<'a>, turns: usize) -> Parsed<Stmt<'a>>
     ensures { Gives result tokens.new (spec.assign turns tokens.old) }
 {
     // Only behind it is it known whether what is left of `=` is a target: with one token of lookahead it is read as
     // expressions first.
-    let left = exprs(alloc, tokens, turns, turns)?;
+    let left = exprs(tokens, turns, turns)?;
     if !tokens.sees(Mark::Assign) {
         return Ok(Stmt::Evaluate(left));
     }
     match target_of(left) {
         Some(target) => {
             tokens.take(Mark::Assign)?;
-            Ok(Stmt::Assign(target, exprs(alloc, tokens, turns, turns)?))
+            Ok(Stmt::Assign(target, exprs(tokens, turns, turns)?))
         }
         None => Err(Stop::Refused),
     }
@@ -91,49 +90,45 @@ fn assign<'a>(alloc: Global, tokens: &mut Tokens<'a>, turns: usize) -> Result<St
 
 /// `return ..`
 #[tactic(auto, unfolding(crate::specs::Statements::return_stmt))]
-fn return_stmt<'a>(alloc: Global, tokens: &mut Tokens<'a>, turns: usize) -> Result<Stmt<'a>, Stop>
+fn return_stmt<'a>(tokens: &mut Tokens<'a>, turns: usize) -> Parsed<Stmt<'a>>
     ensures { Gives result tokens.new (spec.return_stmt turns tokens.old) }
 {
     tokens.take(Mark::Return)?;
     if !begins_expr(tokens.peek()) {
         return Ok(Stmt::Return(None));
     }
-    Ok(Stmt::Return(Some(exprs(alloc, tokens, turns, turns)?)))
+    Ok(Stmt::Return(Some(exprs(tokens, turns, turns)?)))
 }
 
 /// A statement of one line, but for the line's end.
 #[tactic(auto, unfolding(crate::specs::Statements::simple, crate::specs::Statements::is_jump))]
-fn simple<'a>(alloc: Global, tokens: &mut Tokens<'a>, turns: usize) -> Result<Stmt<'a>, Stop>
+fn simple<'a>(tokens: &mut Tokens<'a>, turns: usize) -> Parsed<Stmt<'a>>
     ensures { Gives result tokens.new (spec.simple turns tokens.old) }
 {
     if tokens.sees(Mark::Import) {
-        return import_stmt(alloc, tokens, turns);
+        return import_stmt(tokens, turns);
     }
     if tokens.sees(Mark::From) {
-        return from_stmt(alloc, tokens, turns);
+        return from_stmt(tokens, turns);
     }
     if tokens.sees(Mark::Return) {
-        return return_stmt(alloc, tokens, turns);
+        return return_stmt(tokens, turns);
     }
     match jump_of(tokens.peek()) {
         Some(stmt) => {
             tokens.pass();
             Ok(stmt)
         }
-        None => assign(alloc, tokens, turns),
+        None => assign(tokens, turns),
     }
 }
 
 /// A statement of one line.
 #[tactic(auto, unfolding(crate::specs::Statements::simple_line))]
-pub fn simple_line<'a>(
-    alloc: Global,
-    tokens: &mut Tokens<'a>,
-    turns: usize,
-) -> Result<Stmt<'a>, Stop>
+pub fn simple_line<'a>(tokens: &mut Tokens<'a>, turns: usize) -> Parsed<Stmt<'a>>
     ensures { Gives result tokens.new (spec.simple_line turns tokens.old) }
 {
-    let stmt = simple(alloc, tokens, turns)?;
+    let stmt = simple(tokens, turns)?;
     tokens.take(Mark::Newline)?;
     Ok(stmt)
 }

@@ -8,9 +8,8 @@ ghost use Rattle.py_subset.specs.Parsing as spec;
 use crate::Items;
 use crate::mark::same;
 use crate::token::Mark;
-use crate::token_list::{Stop, Tokens};
+use crate::token_list::{Parsed, Stop, Tokens};
 use crate::tree::{Atom, BinOp, Expr, Exprs, Sign};
-use std::alloc::Global;
 
 /// Whether an expression may begin with this token.
 #[tactic(auto, unfolding(crate::specs::Parsing::begins_expr))]
@@ -48,7 +47,7 @@ fn sign_of(mark: Mark) -> Option<Sign>
 }
 
 /// The operators of one token but `is`, which may go on with `not`.
-fn op_of(mark: Mark) -> Option<BinOp>
+pub fn op_of(mark: Mark) -> Option<BinOp>
     ensures { result ≡ tree.op_of mark }
 {
     match mark {
@@ -78,7 +77,7 @@ fn op_of(mark: Mark) -> Option<BinOp>
 }
 
 /// The atoms of one token but a name.
-fn constant_of<'a>(mark: Mark) -> Option<Atom<'a>>
+pub fn constant_of<'a>(mark: Mark) -> Option<Atom<'a>>
     ensures { result ≡ tree.constant_of mark }
 {
     match mark {
@@ -109,11 +108,11 @@ pub fn begins_postfix(mark: Mark) -> bool
 
 /// The signs before an operand.
 #[tactic(auto, using(crate::proofs::Turns::turns))]
-pub fn signs<'a>(alloc: Global, tokens: &mut Tokens<'a>, turns: usize) -> Result<Items<Sign>, Stop>
+pub fn signs<'a>(tokens: &mut Tokens<'a>, turns: usize) -> Parsed<Items<Sign>>
     ensures { Gives result tokens.new
         (star spec.begins_sign (marked tree.sign_of) turns tokens.old) }
 {
-    let mut signs = Items::new(alloc);
+    let mut signs = tokens.list();
     for _turn in 0..turns {
         let Some(sign) = sign_of(tokens.peek()) else {
             return Ok(signs);
@@ -124,34 +123,8 @@ pub fn signs<'a>(alloc: Global, tokens: &mut Tokens<'a>, turns: usize) -> Result
     Err(Stop::Refused)
 }
 
-/// An atom of one token.
-pub fn constant<'a>(tokens: &mut Tokens<'a>) -> Result<Atom<'a>, Stop>
-    ensures { Gives result tokens.new (marked tree.constant_of tokens.old) }
-{
-    match constant_of(tokens.peek()) {
-        Some(atom) => {
-            tokens.pass();
-            Ok(atom)
-        }
-        None => Err(Stop::Refused),
-    }
-}
-
-/// An operator of one token.
-pub fn operator<'a>(tokens: &mut Tokens<'a>) -> Result<BinOp, Stop>
-    ensures { Gives result tokens.new (marked tree.op_of tokens.old) }
-{
-    match op_of(tokens.peek()) {
-        Some(op) => {
-            tokens.pass();
-            Ok(op)
-        }
-        None => Err(Stop::Refused),
-    }
-}
-
 /// The expressions of an argument list, without whether a comma stands at the end, which changes nothing there.
-pub fn arguments<'a>(alloc: Global, inside: Option<Exprs<'a>>) -> Items<Expr<'a>>
+pub fn arguments<'a>(tokens: &Tokens<'a>, inside: Option<Exprs<'a>>) -> Items<Expr<'a>>
     ensures { result ≡ tree.items_of inside.entry }
 {
     match inside {
@@ -161,6 +134,6 @@ pub fn arguments<'a>(alloc: Global, inside: Option<Exprs<'a>>) -> Items<Expr<'a>
                 last_comma: _,
             },
         ) => items,
-        None => Items::new(alloc),
+        None => tokens.list(),
     }
 }

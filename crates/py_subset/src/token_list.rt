@@ -4,7 +4,7 @@ use crate::Items;
 use crate::mark::same;
 use crate::token::{Mark, Token};
 use crate::tree::Word;
-use std::alloc::AllocError;
+use std::alloc::{AllocError, Global};
 use std::marker::Model;
 
 /// Why a rule of the grammar stops.
@@ -15,6 +15,9 @@ pub enum Stop {
     /// Memory ran out.
     NoMemory,
 }
+
+/// What a rule of the grammar reads.
+pub(crate) type Parsed<T> = Result<T, Stop>;
 
 impl From<AllocError> for Stop {
     ghost use Rattle.std.specs.Prelude.{◌≡◌};
@@ -27,11 +30,12 @@ impl From<AllocError> for Stop {
     }
 }
 
-/// Tokens in order, taken from the front. Contracts see them as a list.
+/// Tokens in order, taken from the front, and the allocator of what is read from them. Contracts see the list of tokens.
 #[derive(Drop)]
 pub struct Tokens<'a> {
     /// The tokens that are left, the next one last, so that one is taken without a move of the others.
     turned: Vec<Token<'a>>,
+    alloc: Global,
 }
 
 impl<'a> Model for Tokens<'a> {
@@ -44,19 +48,26 @@ impl<'a> Model for Tokens<'a> {
 }
 
 impl<'a> Tokens<'a> {
-    ghost use Rattle.std.specs.Prelude.{◌≡◌, length};
+    ghost use Rattle.std.specs.Prelude.{◌≡◌, [], length};
     ghost use Rattle.py_subset.specs.Marks as marks;
     ghost use Rattle.py_subset.specs.Language as language;
     ghost use Rattle.py_subset.specs.Parsers as parsers;
     ghost use Rattle.py_subset.specs.Refusals as refusals;
 
     /// The tokens of this list, in its order. It takes time that follows their number, and no memory.
-    pub(crate) fn of(tokens: Items<Token<'a>>) -> Tokens<'a>
+    pub(crate) fn of(alloc: Global, tokens: Items<Token<'a>>) -> Tokens<'a>
         ensures { result ≡ tokens.entry }
     {
         let mut turned = tokens.into_items();
         turned.reverse();
-        Tokens { turned }
+        Tokens { turned, alloc }
+    }
+
+    /// An empty list of what is read. It takes no memory.
+    pub(crate) fn list<T>(&self) -> Items<T>
+        ensures { result ≡ [] }
+    {
+        Items::new(self.alloc)
     }
 
     /// How many tokens there are.
@@ -100,8 +111,21 @@ impl<'a> Tokens<'a> {
         let _ = self.turned.pop();
     }
 
+    /// Takes the next token, where it stands for a value.
+    pub(crate) fn told<T>(&mut self, value: Option<T>) -> Parsed<T>
+        ensures { parsers.Gives result self.new (parsers.told value self.old) }
+    {
+        match value {
+            Some(value) => {
+                self.pass();
+                Ok(value)
+            }
+            None => Err(Stop::Refused),
+        }
+    }
+
     /// Takes a token with this mark.
-    pub(crate) fn take(&mut self, mark: Mark) -> Result<(), Stop>
+    pub(crate) fn take(&mut self, mark: Mark) -> Parsed<()>
         ensures { parsers.Gives result self.new (parsers.tok mark self.old) }
     {
         if self.sees(mark) {
@@ -113,7 +137,7 @@ impl<'a> Tokens<'a> {
     }
 
     /// Takes a name.
-    pub(crate) fn name(&mut self) -> Result<Word<'a>, Stop>
+    pub(crate) fn name(&mut self) -> Parsed<Word<'a>>
         ensures { parsers.Gives result self.new (parsers.name self.old) }
     {
         if !self.sees(Mark::Name) {

@@ -53,7 +53,7 @@ fn read<'a>(alloc: Global, text: &'a [u8]) -> Result<Module<'a>, PyFault>
     let mut left = tokens(alloc, text)?;
     // A turn takes a token, and so does a level of brackets or blocks: one more than all of them is never used up.
     let bound = left.len();
-    match module_body(alloc, &mut left, bound + 1, bound + 1) {
+    match module_body(&mut left, bound + 1, bound + 1) {
         Ok(body) if left.len() == 0 => Ok(Module { body }),
         Ok(_) => Err(refusal(end_line(text), &left)),
         Err(Stop::Refused) => Err(refusal(end_line(text), &left)),
