@@ -21,6 +21,9 @@ pub enum Stop {
     NoMemory,
 }
 
+/// What steps give.
+pub type Made<T> = Result<T, Stop>;
+
 impl From<AllocError> for Stop {
     ghost use Rattle.std.specs.Prelude.{◌≡◌};
     ghost use Rattle.py_graph.specs.declared.draft.Stop.TheVariants.{NoMemory};
@@ -36,7 +39,7 @@ impl From<AllocError> for Stop {
 /// larger one takes more as they come.
 const FIRST_ROOM: usize = 1_024;
 
-/// The nodes and edges made so far, and the names that many of the nodes share.
+/// The nodes and edges made so far, the names that many of the nodes share, and the allocator of all of them.
 #[derive(Drop)]
 pub struct Draft {
     nodes: Vec<Node>,
@@ -47,6 +50,7 @@ pub struct Draft {
     call: Name,
     /// Where the other names stand.
     seen: Seen,
+    alloc: Global,
 }
 
 impl Model for Draft {
@@ -63,7 +67,7 @@ impl Model for Draft {
 impl Draft {
     ghost use Rattle.std.specs.Prelude.{◌≡◌, ◌<◌, [], length, true, false, IfOk, codes};
     ghost use Rattle.graph_nodes.specs.Checked.{has_scope, has_ends, is_jump};
-    ghost use Rattle.py_graph.specs.{Inside.{Grows, IsNode, IsNodeIf, ArePair}, Nodes.{call_nodes}, Gives.{Gives}, Modules.{Translates, limited}};
+    ghost use Rattle.py_graph.specs.{Inside.{IsNode, IsNodeIf, ArePair}, Nodes.{call_nodes}, Gives.{Does, Makes}, Modules.{Translates, limited}};
     ghost use Rattle.py_graph.specs.Steps as steps;
 
     /// Nothing made yet but the two names, and the room for the first nodes and edges; the one error is want of
@@ -78,7 +82,13 @@ impl Draft {
             dot: Name::of(alloc, ".")?,
             call: Name::of(alloc, "()")?,
             seen: Seen::new(),
+            alloc,
         })
+    }
+
+    /// The allocator of the nodes and edges.
+    pub fn alloc(&self) -> Global {
+        self.alloc
     }
 
     /// The name of a dot, held once more. It takes no memory; the one error is want of room to count one
@@ -98,23 +108,23 @@ impl Draft {
 
     /// A name of this text for the next node, which shares that of a node before it where one is found. It takes
     /// time that follows the length of the text; the one error is want of memory, or of room to count one holder more.
-    pub fn name(&mut self, alloc: Global, text: &str) -> Result<Name, AllocError>
+    pub fn name(&mut self, text: &str) -> Result<Name, AllocError>
         ensures value { IfOk result (λ name. name ≡ text.now) }
         ensures same { self.new ≡ self.old }
     {
-        self.seen.name(alloc, self.nodes.as_slice(), text)
+        self.seen.name(self.alloc, self.nodes.as_slice(), text)
     }
 
     /// The graph of what was made, where it has no more edges than a file may have. It keeps no room that is not
     /// used.
     #[tactic(auto, using(crate::proofs::Sound::drafting))]
-    pub fn finish(self, alloc: Global) -> Result<FileGraph, TransFault>
+    pub fn finish(self) -> Result<FileGraph, TransFault>
         ensures { Translates result (limited self) }
     {
         if self.edges.len() > MAX_EDGES {
             return Err(TransFault::TooManyEdges(65_537));
         }
-        let (mut nodes, mut edges) = (self.nodes, self.edges);
+        let (mut nodes, mut edges, alloc) = (self.nodes, self.edges, self.alloc);
         nodes.shrink_to_fit();
         edges.shrink_to_fit();
         match FileGraph::check(alloc, nodes, edges) {
@@ -125,11 +135,9 @@ impl Draft {
 
     /// Makes a node, and gives its position.
     #[tactic(auto, using(crate::proofs::Sound::drafting))]
-    pub fn node(&mut self, kind: NodeKind, span: Option<Span>) -> Result<u32, Stop>
+    pub fn node(&mut self, kind: NodeKind, span: Option<Span>) -> Made<u32>
         requires scope { has_scope self.old.nodes kind ≡ true }
-        ensures gives { Gives result self.new (steps.node kind span self.old) }
-        ensures grows { Grows self.old self.new }
-        ensures inside { IfOk result (IsNode self.new) }
+        ensures { Makes IsNode result self.old self.new (steps.node kind span) }
     {
         // The limit stands here, so that the whole makes too many exactly where a step would.
         let at = self.nodes.len();
@@ -142,10 +150,8 @@ impl Draft {
 
     /// Makes the push of a call, and behind it the exported scope of its arguments.
     #[tactic(auto, using(crate::proofs::Sound::drafting))]
-    pub fn call_nodes(&mut self) -> Result<(u32, u32), Stop>
-        ensures gives { Gives result self.new (call_nodes self.old) }
-        ensures grows { Grows self.old self.new }
-        ensures inside { IfOk result (ArePair self.new) }
+    pub fn call_nodes(&mut self) -> Made<(u32, u32)>
+        ensures { Makes ArePair result self.old self.new call_nodes }
     {
         let symbol = self.call.share()?;
         let at = self.nodes.len();
@@ -173,12 +179,11 @@ impl Draft {
 
     /// Makes an edge.
     #[tactic(auto, using(crate::proofs::Sound::drafting))]
-    pub fn join(&mut self, source: Place, sink: Place, precedence: u16) -> Result<(), Stop>
+    pub fn join(&mut self, source: Place, sink: Place, precedence: u16) -> Made<()>
         requires ends { has_ends (length self.old.nodes)
             (record { source = source; sink = sink; precedence = precedence }) ≡ true }
         requires source { is_jump source ≡ false }
-        ensures gives { Gives result self.new (steps.join source sink precedence self.old) }
-        ensures grows { Grows self.old self.new }
+        ensures { Does result self.old self.new (steps.join source sink precedence) }
     {
         put_edge(
             &mut self.edges,
@@ -193,33 +198,30 @@ impl Draft {
 
     /// Makes an edge between two nodes.
     #[tactic(auto, using(crate::proofs::Sound::drafting))]
-    pub fn edge(&mut self, u: u32, v: u32, precedence: u16) -> Result<(), Stop>
+    pub fn edge(&mut self, u: u32, v: u32, precedence: u16) -> Made<()>
         requires u { u < length self.old.nodes }
         requires v { v < length self.old.nodes }
-        ensures gives { Gives result self.new (steps.edge u v precedence self.old) }
-        ensures grows { Grows self.old self.new }
+        ensures { Does result self.old self.new (steps.edge u v precedence) }
     {
         self.join(Place::At(u), Place::At(v), precedence)
     }
 
     /// Makes an edge of precedence 0 between two nodes.
     #[tactic(auto, using(crate::proofs::Sound::drafting))]
-    pub fn link(&mut self, u: u32, v: u32) -> Result<(), Stop>
+    pub fn link(&mut self, u: u32, v: u32) -> Made<()>
         requires u { u < length self.old.nodes }
         requires v { v < length self.old.nodes }
-        ensures gives { Gives result self.new (steps.edge u v 0 self.old) }
-        ensures grows { Grows self.old self.new }
+        ensures { Does result self.old self.new (steps.edge u v 0) }
     {
         self.edge(u, v, 0)
     }
 
     /// Makes an edge of precedence 0 to the second node, where there is one.
     #[tactic(auto, using(crate::proofs::Sound::drafting))]
-    pub fn link_if(&mut self, u: u32, v: Option<u32>) -> Result<(), Stop>
+    pub fn link_if(&mut self, u: u32, v: Option<u32>) -> Made<()>
         requires u { u < length self.old.nodes }
         requires v { IsNodeIf self.old v }
-        ensures gives { Gives result self.new (steps.◌▸?◌ u v self.old) }
-        ensures grows { Grows self.old self.new }
+        ensures { Does result self.old self.new (steps.◌▸?◌ u v) }
     {
         match v {
             Some(v) => self.link(u, v),

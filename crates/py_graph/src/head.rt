@@ -1,13 +1,12 @@
 //! The nodes of a module's name.
 
-ghost use Rattle.std.specs.{Prelude.{◌≡◌, ◌+◌, ◌<◌, length, map, drop, None}, Prelude.{IfOk}};
-ghost use Rattle.py_graph.specs.{Inside.{Grows, IsNode, IsNodeIf}, Gives.{Gives}};
+ghost use Rattle.std.specs.{Prelude.{◌≡◌, ◌+◌, ◌<◌, length, map, drop, None}};
+ghost use Rattle.py_graph.specs.{Inside.{IsNode, IsNodeIf}, Gives.{Does, Makes}};
 ghost use Rattle.py_graph.specs.Modules as row;
 
-use crate::draft::{Draft, Stop};
+use crate::draft::{Draft, Made};
 use crate::nodes::pop_dot;
 use graph_nodes::{NodeKind, Place, Span};
-use std::alloc::Global;
 
 /// Where a module is defined: at the start of its file, with no width.
 const START: Span = Span {
@@ -18,12 +17,10 @@ const START: Span = Span {
 };
 
 /// A part of the module's name; the last one is a definition at the start of the file.
-fn part(alloc: Global, draft: &mut Draft, x: &str, last: bool) -> Result<u32, Stop>
-    ensures gives { Gives result draft.new (row.part x.now last draft.old) }
-    ensures grows { Grows draft.old draft.new }
-    ensures inside { IfOk result (IsNode draft.new) }
+fn part(draft: &mut Draft, x: &str, last: bool) -> Made<u32>
+    ensures { Makes IsNode result draft.old draft.new (row.part x.now last) }
 {
-    let symbol = draft.name(alloc, x)?;
+    let symbol = draft.name(x)?;
     let span = if last { Some(START) } else { None };
     draft.node(
         NodeKind::Pop {
@@ -36,11 +33,10 @@ fn part(alloc: Global, draft: &mut Draft, x: &str, last: bool) -> Result<u32, St
 
 /// An edge to a node from the one before it, or from the root.
 #[tactic(auto, using(crate::proofs::Sound::standing))]
-fn arrive(draft: &mut Draft, before: Option<u32>, n: u32) -> Result<(), Stop>
+fn arrive(draft: &mut Draft, before: Option<u32>, n: u32) -> Made<()>
     requires n { n < length draft.old.nodes }
     requires before { IsNodeIf draft.old before }
-    ensures gives { Gives result draft.new (row.arrive before n draft.old) }
-    ensures grows { Grows draft.old draft.new }
+    ensures { Does result draft.old draft.new (row.arrive before n) }
 {
     match before {
         Some(t) => draft.link(t, n),
@@ -58,15 +54,13 @@ fn is_last(parts: &[&str], i: usize) -> bool
 
 /// The parts of the module's name, from the root to the module's scope.
 #[tactic(auto, using(crate::proofs::Sound::standing))]
-pub fn name_nodes(alloc: Global, draft: &mut Draft, parts: &[&str], s: u32) -> Result<(), Stop>
+pub fn name_nodes(draft: &mut Draft, parts: &[&str], s: u32) -> Made<()>
     requires s { s < length draft.old.nodes }
-    ensures gives { Gives result draft.new
-        (row.path None (map (λ x. x.now) parts.now) s draft.old) }
-    ensures grows { Grows draft.old draft.new }
+    ensures { Does result draft.old draft.new (row.path None (map (λ x. x.now) parts.now) s) }
 {
     let mut before = None;
     for (i, x) in parts.iter().enumerate() {
-        let n = part(alloc, draft, x, is_last(parts, i))?;
+        let n = part(draft, x, is_last(parts, i))?;
         let t = pop_dot(draft)?;
         arrive(draft, before, n)?;
         draft.link(n, t)?;

@@ -1,90 +1,74 @@
 //! The nodes that the table makes.
 
 ghost use Rattle.std.specs.Prelude.{◌≡◌, IfOk, IfSome, decimal};
-ghost use Rattle.py_graph.specs.{Gives.{Gives}, Inside.{Grows, IsNode}};
+ghost use Rattle.py_graph.specs.{Gives.{Makes}, Inside.{IsNode}};
 ghost use Rattle.py_graph.specs.Nodes as made;
 ghost use Rattle.py_graph.specs.Steps as steps;
 
-use crate::draft::{Draft, Stop, span_of};
+use crate::draft::{Draft, Made, span_of};
 use graph_nodes::{Name, NodeKind, Span};
 use py_subset::Word;
-use std::alloc::{AllocError, Global};
+use std::alloc::AllocError;
 
 /// A pop of a symbol.
-fn pop(draft: &mut Draft, symbol: Name, definition: bool, span: Option<Span>) -> Result<u32, Stop>
-    ensures gives { Gives result draft.new
-        (steps.node (NodeKind.Pop symbol definition) span draft.old) }
-    ensures grows { Grows draft.old draft.new }
-    ensures inside { IfOk result (IsNode draft.new) }
+fn pop(draft: &mut Draft, symbol: Name, definition: bool, span: Option<Span>) -> Made<u32>
+    ensures { Makes IsNode result draft.old draft.new
+        (steps.node (NodeKind.Pop symbol definition) span) }
 {
     draft.node(NodeKind::Pop { symbol, definition }, span)
 }
 
 /// A push of a symbol.
-fn push(draft: &mut Draft, symbol: Name, reference: bool, span: Option<Span>) -> Result<u32, Stop>
-    ensures gives { Gives result draft.new
-        (steps.node (NodeKind.Push symbol reference) span draft.old) }
-    ensures grows { Grows draft.old draft.new }
-    ensures inside { IfOk result (IsNode draft.new) }
+fn push(draft: &mut Draft, symbol: Name, reference: bool, span: Option<Span>) -> Made<u32>
+    ensures { Makes IsNode result draft.old draft.new
+        (steps.node (NodeKind.Push symbol reference) span) }
 {
     draft.node(NodeKind::Push { symbol, reference }, span)
 }
 
 /// A definition of a name, where it stands.
-pub fn definition(alloc: Global, draft: &mut Draft, x: &Word) -> Result<u32, Stop>
-    ensures gives { Gives result draft.new (made.definition x.now draft.old) }
-    ensures grows { Grows draft.old draft.new }
-    ensures inside { IfOk result (IsNode draft.new) }
+pub fn definition(draft: &mut Draft, x: &Word) -> Made<u32>
+    ensures { Makes IsNode result draft.old draft.new (made.definition x.now) }
 {
-    let symbol = draft.name(alloc, x.text.as_str())?;
+    let symbol = draft.name(x.text.as_str())?;
     pop(draft, symbol, true, Some(span_of(x)))
 }
 
 /// A binding of a name that isn't a definition, where the name stands.
-pub fn binding(alloc: Global, draft: &mut Draft, x: &Word) -> Result<u32, Stop>
-    ensures gives { Gives result draft.new (made.binding x.now draft.old) }
-    ensures grows { Grows draft.old draft.new }
-    ensures inside { IfOk result (IsNode draft.new) }
+pub fn binding(draft: &mut Draft, x: &Word) -> Made<u32>
+    ensures { Makes IsNode result draft.old draft.new (made.binding x.now) }
 {
-    let symbol = draft.name(alloc, x.text.as_str())?;
+    let symbol = draft.name(x.text.as_str())?;
     pop(draft, symbol, false, Some(span_of(x)))
 }
 
 /// A reference to a name, where it stands.
-pub fn reference(alloc: Global, draft: &mut Draft, x: &Word) -> Result<u32, Stop>
-    ensures gives { Gives result draft.new (made.reference x.now draft.old) }
-    ensures grows { Grows draft.old draft.new }
-    ensures inside { IfOk result (IsNode draft.new) }
+pub fn reference(draft: &mut Draft, x: &Word) -> Made<u32>
+    ensures { Makes IsNode result draft.old draft.new (made.reference x.now) }
 {
-    let symbol = draft.name(alloc, x.text.as_str())?;
+    let symbol = draft.name(x.text.as_str())?;
     push(draft, symbol, true, Some(span_of(x)))
 }
 
 /// The pop of a dot.
-pub fn pop_dot(draft: &mut Draft) -> Result<u32, Stop>
-    ensures gives { Gives result draft.new (made.pop_dot draft.old) }
-    ensures grows { Grows draft.old draft.new }
-    ensures inside { IfOk result (IsNode draft.new) }
+pub fn pop_dot(draft: &mut Draft) -> Made<u32>
+    ensures { Makes IsNode result draft.old draft.new made.pop_dot }
 {
     let symbol = draft.dot_name()?;
     pop(draft, symbol, false, None)
 }
 
 /// The push of a dot.
-pub fn push_dot(draft: &mut Draft) -> Result<u32, Stop>
-    ensures gives { Gives result draft.new (made.push_dot draft.old) }
-    ensures grows { Grows draft.old draft.new }
-    ensures inside { IfOk result (IsNode draft.new) }
+pub fn push_dot(draft: &mut Draft) -> Made<u32>
+    ensures { Makes IsNode result draft.old draft.new made.push_dot }
 {
     let symbol = draft.dot_name()?;
     push(draft, symbol, false, None)
 }
 
 /// The pop of a call.
-pub fn pop_call(draft: &mut Draft) -> Result<u32, Stop>
-    ensures gives { Gives result draft.new (made.pop_call draft.old) }
-    ensures grows { Grows draft.old draft.new }
-    ensures inside { IfOk result (IsNode draft.new) }
+pub fn pop_call(draft: &mut Draft) -> Made<u32>
+    ensures { Makes IsNode result draft.old draft.new made.pop_call }
 {
     let symbol = draft.call_name()?;
     draft.node(
@@ -117,51 +101,43 @@ fn digit(j: usize) -> Option<&'static str>
 }
 
 /// The decimal numeral of a place among arguments, as a name for the next node.
-fn numeral(alloc: Global, draft: &mut Draft, j: usize) -> Result<Name, AllocError>
+fn numeral(draft: &mut Draft, j: usize) -> Result<Name, AllocError>
     ensures value { IfOk result (λ name. name ≡ decimal j) }
     ensures same { draft.new ≡ draft.old }
 {
     if let Some(text) = digit(j) {
-        return draft.name(alloc, text);
+        return draft.name(text);
     }
-    let text = format!(in alloc; "{j}")?;
-    draft.name(alloc, text.as_str())
+    let text = format!(in draft.alloc(); "{j}")?;
+    draft.name(text.as_str())
 }
 
 /// The pop of an argument's place.
-pub fn pop_number(alloc: Global, draft: &mut Draft, j: usize) -> Result<u32, Stop>
-    ensures gives { Gives result draft.new (made.pop_number j draft.old) }
-    ensures grows { Grows draft.old draft.new }
-    ensures inside { IfOk result (IsNode draft.new) }
+pub fn pop_number(draft: &mut Draft, j: usize) -> Made<u32>
+    ensures { Makes IsNode result draft.old draft.new (made.pop_number j) }
 {
-    let symbol = numeral(alloc, draft, j)?;
+    let symbol = numeral(draft, j)?;
     pop(draft, symbol, false, None)
 }
 
 /// The push of a parameter's place.
-pub fn push_number(alloc: Global, draft: &mut Draft, j: usize) -> Result<u32, Stop>
-    ensures gives { Gives result draft.new (made.push_number j draft.old) }
-    ensures grows { Grows draft.old draft.new }
-    ensures inside { IfOk result (IsNode draft.new) }
+pub fn push_number(draft: &mut Draft, j: usize) -> Made<u32>
+    ensures { Makes IsNode result draft.old draft.new (made.push_number j) }
 {
-    let symbol = numeral(alloc, draft, j)?;
+    let symbol = numeral(draft, j)?;
     push(draft, symbol, false, None)
 }
 
 /// A scope of the file's own.
-pub fn scope(draft: &mut Draft) -> Result<u32, Stop>
-    ensures gives { Gives result draft.new (made.scope draft.old) }
-    ensures grows { Grows draft.old draft.new }
-    ensures inside { IfOk result (IsNode draft.new) }
+pub fn scope(draft: &mut Draft) -> Made<u32>
+    ensures { Makes IsNode result draft.old draft.new made.scope }
 {
     draft.node(NodeKind::Scope { exported: false }, None)
 }
 
 /// A node that empties the scope stack.
-pub fn drops(draft: &mut Draft) -> Result<u32, Stop>
-    ensures gives { Gives result draft.new (made.drops draft.old) }
-    ensures grows { Grows draft.old draft.new }
-    ensures inside { IfOk result (IsNode draft.new) }
+pub fn drops(draft: &mut Draft) -> Made<u32>
+    ensures { Makes IsNode result draft.old draft.new made.drops }
 {
     draft.node(NodeKind::Drops, None)
 }

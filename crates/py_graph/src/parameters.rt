@@ -1,29 +1,21 @@
 //! The parameters of functions.
 
-ghost use Rattle.py_graph.specs.{Inside.{Grows, ArePairIf}, Gives.{Gives}};
+ghost use Rattle.py_graph.specs.{Inside.{ArePairIf}, Gives.{Does}};
 ghost use Rattle.py_graph.specs.Functions as row;
 ghost use Rattle.std.specs.Prelude.{◌<◌, length};
 
-use crate::draft::{Draft, Stop};
+use crate::draft::{Draft, Made};
 use crate::nodes::{definition, drops, pop_dot, push_number};
 use graph_nodes::Place;
 use py_subset::Word;
-use std::alloc::Global;
 
 /// The first parameter of a method, in the scope of its block. It leads to the class's members.
-fn self_parameter(
-    alloc: Global,
-    draft: &mut Draft,
-    s: u32,
-    members: u32,
-    x: &Word,
-) -> Result<(), Stop>
+fn self_parameter(draft: &mut Draft, s: u32, members: u32, x: &Word) -> Made<()>
     requires s { s < length draft.old.nodes }
     requires members { members < length draft.old.nodes }
-    ensures gives { Gives result draft.new (row.self_parameter s members x.now draft.old) }
-    ensures grows { Grows draft.old draft.new }
+    ensures { Does result draft.old draft.new (row.self_parameter s members x.now) }
 {
-    let n = definition(alloc, draft, x)?;
+    let n = definition(draft, x)?;
     let e = drops(draft)?;
     let k = pop_dot(draft)?;
     // Any binding of the block shadows a parameter: theirs have a precedence from 2 on.
@@ -35,13 +27,12 @@ fn self_parameter(
 
 /// A parameter, which leads to the argument at a place.
 #[tactic(auto, using(crate::proofs::Sound::standing))]
-fn parameter(alloc: Global, draft: &mut Draft, s: u32, j: usize, x: &Word) -> Result<(), Stop>
+fn parameter(draft: &mut Draft, s: u32, j: usize, x: &Word) -> Made<()>
     requires s { s < length draft.old.nodes }
-    ensures gives { Gives result draft.new (row.parameter s j x.now draft.old) }
-    ensures grows { Grows draft.old draft.new }
+    ensures { Does result draft.old draft.new (row.parameter s j x.now) }
 {
-    let n = definition(alloc, draft, x)?;
-    let k = push_number(alloc, draft, j)?;
+    let n = definition(draft, x)?;
+    let k = push_number(draft, j)?;
     // Any binding of the block shadows a parameter: theirs have a precedence from 2 on.
     draft.edge(s, n, 1)?;
     draft.link(n, k)?;
@@ -50,37 +41,29 @@ fn parameter(alloc: Global, draft: &mut Draft, s: u32, j: usize, x: &Word) -> Re
 
 /// Parameters whose places count from 0.
 #[tactic(auto, using(crate::proofs::Sound::standing))]
-fn parameters(alloc: Global, draft: &mut Draft, s: u32, xs: &[Word]) -> Result<(), Stop>
+fn parameters(draft: &mut Draft, s: u32, xs: &[Word]) -> Made<()>
     requires s { s < length draft.old.nodes }
-    ensures gives { Gives result draft.new (row.parameters s 0 xs.now draft.old) }
-    ensures grows { Grows draft.old draft.new }
+    ensures { Does result draft.old draft.new (row.parameters s 0 xs.now) }
 {
     for (j, x) in xs.iter().enumerate() {
-        parameter(alloc, draft, s, j, x)?;
+        parameter(draft, s, j, x)?;
     }
     Ok(())
 }
 
 /// The parameters of a function in the block of this class, or of none.
 #[tactic(auto, using(crate::proofs::Sound::standing))]
-pub fn all_parameters(
-    alloc: Global,
-    draft: &mut Draft,
-    class: Option<(u32, u32)>,
-    s: u32,
-    xs: &[Word],
-) -> Result<(), Stop>
+pub fn all_parameters(draft: &mut Draft, class: Option<(u32, u32)>, s: u32, xs: &[Word]) -> Made<()>
     requires s { s < length draft.old.nodes }
     requires class { ArePairIf draft.old class }
-    ensures gives { Gives result draft.new (row.all_parameters class s xs.now draft.old) }
-    ensures grows { Grows draft.old draft.new }
+    ensures { Does result draft.old draft.new (row.all_parameters class s xs.now) }
 {
     match (class, xs) {
-        (None, xs) => parameters(alloc, draft, s, xs),
+        (None, xs) => parameters(draft, s, xs),
         (Some(_), []) => Ok(()),
         (Some((members, _)), [first, rest @ ..]) => {
-            self_parameter(alloc, draft, s, members, first)?;
-            parameters(alloc, draft, s, rest)
+            self_parameter(draft, s, members, first)?;
+            parameters(draft, s, rest)
         }
     }
 }

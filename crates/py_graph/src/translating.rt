@@ -1,10 +1,10 @@
 //! The whole: a module's graph, or its fault.
 
 ghost use Rattle.std.specs.Prelude.{[], map};
-ghost use Rattle.py_graph.specs.{Modules.{Translates, graph_of, limited, table, told, graph_of_named}, Inside.{Grows}, Gives.{Gives}};
+ghost use Rattle.py_graph.specs.{Modules.{Translates, graph_of, limited, table, told, graph_of_named}, Gives.{Does}};
 ghost use Rattle.py_graph.specs.Names as names;
 
-use crate::draft::{Draft, Stop};
+use crate::draft::{Draft, Made, Stop};
 use crate::fault::TransFault;
 use crate::frame::Frame;
 use crate::head::name_nodes;
@@ -17,13 +17,12 @@ use std::alloc::Global;
 
 /// Carries out the whole table.
 #[tactic(auto, using(crate::proofs::Sound::standing))]
-fn whole(alloc: Global, draft: &mut Draft, parts: &[&str], body: &[Stmt]) -> Result<(), Stop>
-    ensures gives { Gives result draft.new (table (map (λ x. x.now) parts.now) body.now draft.old) }
-    ensures grows { Grows draft.old draft.new }
+fn whole(draft: &mut Draft, parts: &[&str], body: &[Stmt]) -> Made<()>
+    ensures { Does result draft.old draft.new (table (map (λ x. x.now) parts.now) body.now) }
 {
     let s = scope(draft)?;
-    name_nodes(alloc, draft, parts, s)?;
-    block(alloc, draft, &Frame::in_module(s), body)
+    name_nodes(draft, parts, s)?;
+    block(draft, &Frame::in_module(s), body)
 }
 
 /// The graph of a module whose name has these parts.
@@ -32,8 +31,8 @@ fn named(alloc: Global, parts: &[&str], body: &[Stmt]) -> Result<FileGraph, Tran
         (told (table (map (λ x. x.now) parts.now) body.now (record { nodes = []; edges = [] }))) }
 {
     let mut draft = Draft::new(alloc)?;
-    match whole(alloc, &mut draft, parts, body) {
-        Ok(()) => draft.finish(alloc),
+    match whole(&mut draft, parts, body) {
+        Ok(()) => draft.finish(),
         Err(Stop::Full) => Err(TransFault::TooManyNodes(16_385)),
         Err(Stop::NoMemory) => Err(TransFault::NoMemory),
     }
