@@ -15,7 +15,7 @@ use Rattle.graph_nodes.specs.declared.node.NodeKind.TheVariants.{Scope, Push, Pu
 use Rattle.graph_nodes.specs.Graph.{is_exported_kind, is_reference_kind, is_definition_kind}
 use Rattle.json_values.specs.Numbers.{only_if, number_between}
 use Rattle.graph_json.specs.Pieces.{is_forward, span_of, optional_span}
-use Rattle.graph_json.specs.Nodes.{scope_in, push_in, push_scoped_in, pop_in, pop_scoped_in, kind_in, node_in}
+use Rattle.graph_json.specs.Nodes.{scope_in, marked_in, push_in, push_scoped_in, pop_in, pop_scoped_in, kind_in, node_in}
 use Rattle.graph_json.specs.Printed.{with_flag, with_value, number_json, name_text, position_json, span_json, kind_text, symbol_of, scope_of, node_json}
 use Rattle.graph_json.specs.PrintSteps.{SpanFits}
 
@@ -98,7 +98,7 @@ with_kind : (kind : NodeKind) (o : Option (Option Span)) (spans : Option Span) �
 with_kind kind o spans e = ap (option_and_then {U = Node} (λ s. Some (record { kind = kind; span = s }))) e
 
 pub node_back : (own : Option Data) (scope : Data) (span : Option Data) (spans : Option Span) → optional_span span ≡ Some spans → (kind : NodeKind) → IsBack own scope span spans kind
-unfolding node_in kind_in scope_in push_in push_scoped_in pop_in pop_scoped_in
+unfolding node_in kind_in scope_in marked_in push_in push_scoped_in pop_in pop_scoped_in
 node_back None scope None spans e (Scope true) = (refl, refl, λ attached h. with_kind (Scope true) (optional_span None) spans e)
 node_back None scope None spans e (Scope false) = (refl, refl, λ attached h. with_kind (Scope false) (optional_span None) spans e)
 node_back None scope None spans e (Push y true) = (refl, refl, λ attached h. with_kind (Push y true) (optional_span None) spans e)

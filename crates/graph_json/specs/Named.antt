@@ -1,5 +1,5 @@
 -- Format 2: nodes have names, and scopes and edges' ends are names.
-use Rattle.std.specs.Prelude.{ℕ, ◌&&◌, ◌||◌, ◌==◌, List, [], ◌∷◌, length, Bool, true, false, not, nat_lt, if◌then◌else◌, Option, None, option_map, option_and_then, unwrap_or, position, is_none, map, codes, Result, ok_or}
+use Rattle.std.specs.Prelude.{ℕ, ◌&&◌, ◌||◌, ◌==◌, List, [], ◌∷◌, length, Bool, true, false, not, nat_lt, if◌then◌else◌, Option, Some, None, option_map, option_and_then, unwrap_or, position, is_none, map, codes, Result, ok_or}
 use Rattle.std.specs.List.{enumerate_from}
 use Rattle.std.specs.Option.{option_map_or, option_or}
 use Rattle.std.specs.Str.{bytes_eq}
@@ -17,7 +17,7 @@ use Rattle.graph_json.specs.Collect.{◌>>=◌, collected, unless}
 use Rattle.graph_json.specs.Nodes.{node_in}
 use Rattle.graph_json.specs.Edges.{edge_in}
 use Rattle.graph_json.specs.Top.{lists_in}
-use Rattle.graph_json.specs.Plain.{shared_place, bad_node, bad_edge}
+use Rattle.graph_json.specs.Plain.{shared_place, node_of, edge_of, bad_node, bad_edge}
 
 -- ---- names
 
@@ -77,6 +77,15 @@ named_place_at names i d =
 -- an edge, among nodes of these names
 abbrev pub named_edge : List (Option (List ℕ)) → Data → Option Edge
 named_edge names d = edge_in (named_place_at names 0 d) (named_place_at names 1 d) d
+
+-- a node and an edge of format 2, among nodes of these names, and of format 1 where there are none
+abbrev pub node_among : Option (List (Option (List ℕ))) → (Data → Option Node)
+node_among (Some names) = named_node names
+node_among None = node_of
+
+abbrev pub edge_among : Option (List (Option (List ℕ))) → (Data → Option Edge)
+edge_among (Some names) = named_edge names
+edge_among None = edge_of
 
 -- ---- faults of names
 

@@ -14,34 +14,30 @@ use Rattle.graph_json.specs.Pieces.{◌>>=◌, flag_in, text_in, optional_span}
 unfoldable pub scope_in : Data → Option NodeKind
 scope_in d = option_map Scope (flag_in (codes "exported") d)
 
+-- a symbol, and the flag of this name
+unfoldable pub marked_in : List ℕ → Data → Option (List ℕ × Bool)
+marked_in name d = do
+  flag ← flag_in name d
+  symbol ← text_in (codes "symbol") d
+  Some (symbol, flag)
+
 -- a `push`: a symbol, and whether it is a reference
 unfoldable pub push_in : Data → Option NodeKind
-push_in d = do
-  reference ← flag_in (codes "reference") d
-  symbol ← text_in (codes "symbol") d
-  Some (Push symbol reference)
+push_in d = option_map (λ m. Push m.0 m.1) (marked_in (codes "reference") d)
 
 -- a `push_scoped`: the same, with the scope that is attached to the symbol
 unfoldable pub push_scoped_in : Option ℕ → Data → Option NodeKind
 push_scoped_in scope d = do
   attached ← scope
-  reference ← flag_in (codes "reference") d
-  symbol ← text_in (codes "symbol") d
-  Some (PushScoped symbol attached reference)
+  option_map (λ m. PushScoped m.0 attached m.1) (marked_in (codes "reference") d)
 
 -- a `pop`: a symbol, and whether it is a definition
 unfoldable pub pop_in : Data → Option NodeKind
-pop_in d = do
-  definition ← flag_in (codes "definition") d
-  symbol ← text_in (codes "symbol") d
-  Some (Pop symbol definition)
+pop_in d = option_map (λ m. Pop m.0 m.1) (marked_in (codes "definition") d)
 
 -- a `pop_scoped`: the same members as those of a `pop`
 unfoldable pub pop_scoped_in : Data → Option NodeKind
-pop_scoped_in d = do
-  definition ← flag_in (codes "definition") d
-  symbol ← text_in (codes "symbol") d
-  Some (PopScoped symbol definition)
+pop_scoped_in d = option_map (λ m. PopScoped m.0 m.1) (marked_in (codes "definition") d)
 
 -- the row for that text in the member `kind`
 unfoldable pub kind_in : List ℕ → Option ℕ → Data → Option NodeKind

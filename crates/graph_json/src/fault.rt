@@ -1,3 +1,6 @@
+ghost use Rattle.std.specs.Prelude.{◌≡◌};
+ghost use Rattle.graph_json.specs.declared.fault.GraphTextFault.TheVariants.{NoMemory};
+
 use graph_nodes::GraphFault;
 use std::alloc::{AllocError, AllocFailed};
 use std::fmt;
@@ -32,9 +35,6 @@ pub enum GraphTextFault {
 }
 
 impl From<AllocError> for GraphTextFault {
-    ghost use Rattle.std.specs.Prelude.{◌≡◌};
-    ghost use Rattle.graph_json.specs.declared.fault.GraphTextFault.TheVariants.{NoMemory};
-
     ghost from_gives = { λ _ e. e ≡ NoMemory };
 
     fn from(_e: AllocError) -> GraphTextFault {
@@ -43,9 +43,6 @@ impl From<AllocError> for GraphTextFault {
 }
 
 impl<T: Drop> From<AllocFailed<T>> for GraphTextFault {
-    ghost use Rattle.std.specs.Prelude.{◌≡◌};
-    ghost use Rattle.graph_json.specs.declared.fault.GraphTextFault.TheVariants.{NoMemory};
-
     ghost from_gives = { λ _ e. e ≡ NoMemory };
 
     fn from(_e: AllocFailed<T>) -> GraphTextFault {

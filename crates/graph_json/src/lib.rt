@@ -8,6 +8,7 @@ mod name_fault;
 mod named;
 mod names;
 mod node;
+mod parts;
 mod pieces;
 mod plain;
 mod print;

@@ -1,13 +1,14 @@
-ghost use Rattle.std.specs.{Prelude.{◌≡◌, ◌^◌, ◌<◌, length, vec_len, map, option_map, option_and_then, position, codes, IfOk, IfSome}, List.{enumerate_from}};
+ghost use Rattle.std.specs.Prelude.{◌≡◌, ◌^◌, ◌<◌, length, vec_len, map, option_map, option_and_then, codes, IfOk, IfSome};
 ghost use Rattle.serde_json.specs.{Find.{get}, View.{view}};
 ghost use Rattle.json_values.specs.Numbers.{u32_of};
-ghost use Rattle.graph_json.specs.{Pieces.{HasShortLists}, Collect.{TextGives, collected}, Plain.{bad_node, bad_edge}, Named.{name_in, number_of, named_node, place_called, named_place_at, named_edge, has_format_2, named_lists, named_parts}};
+ghost use Rattle.graph_json.specs.{Pieces.{HasShortLists}, Collect.{TextGives}, Named.{name_in, number_of, named_node, place_called, named_place_at, named_edge, has_format_2, named_lists, named_parts}};
 
 use crate::edge::{edge_between, shared};
 use crate::fault::{GraphTextFault, Part};
 use crate::name_fault::name_fault;
 use crate::names::{Names, may_be_name, member_name};
 use crate::node::node;
+use crate::parts::{all_edges, all_nodes};
 use crate::top::lists;
 use graph_nodes::{Edge, Node, Place};
 use json_values::u32_of;
@@ -17,14 +18,15 @@ use std::alloc::{AllocError, Global};
 fn scope_number(v: &Value, names: &Names) -> Option<u32>
     ensures { result ≡ option_map (number_of names.now) (name_in (codes "scope") (view v.now)) }
 {
-    match member_name(v, "scope") {
-        Some(name) => Some(names.number(name)),
-        None => None,
-    }
+    Some(names.number(member_name(v, "scope")?))
 }
 
 /// A node of format 2, among nodes of these names.
-fn node_among(alloc: Global, v: &Value, names: &Names) -> Result<Option<Node>, AllocError>
+pub(crate) fn named_node(
+    alloc: Global,
+    v: &Value,
+    names: &Names,
+) -> Result<Option<Node>, AllocError>
     ensures { IfOk result (λ n. n ≡ named_node names.now (view v.now)) }
 {
     if member_name(v, "name").is_none() {
@@ -50,42 +52,10 @@ fn place_among(v: &Value, i: usize, names: &Names) -> Option<Place>
 }
 
 /// An edge of format 2, among nodes of these names.
-fn edge_among(v: &Value, names: &Names) -> Option<Edge>
+pub(crate) fn named_edge(v: &Value, names: &Names) -> Option<Edge>
     ensures { result ≡ named_edge names.now (view v.now) }
 {
     edge_between(v, place_among(v, 0, names), place_among(v, 1, names))
-}
-
-fn named_nodes(alloc: Global, values: &[Value], names: &Names) -> Result<Vec<Node>, GraphTextFault>
-    requires { length values.now < 2 ^ 32 }
-    ensures gives { TextGives (λ v. v.items) result (collected bad_node
-        (map (named_node names.now) (map view values.now))) }
-    ensures short { IfOk result (λ v. vec_len v < 2 ^ 32) }
-{
-    let mut nodes = Vec::new(alloc);
-    for (i, value) in values.iter().enumerate() {
-        match node_among(alloc, value, names)? {
-            Some(node) => nodes.push(node)?,
-            None => return Err(GraphTextFault::BadShape(Part::Node(i as u32))),
-        }
-    }
-    Ok(nodes)
-}
-
-fn named_edges(alloc: Global, values: &[Value], names: &Names) -> Result<Vec<Edge>, GraphTextFault>
-    requires { length values.now < 2 ^ 32 }
-    ensures gives { TextGives (λ v. v.items) result (collected bad_edge
-        (map (named_edge names.now) (map view values.now))) }
-    ensures short { IfOk result (λ v. vec_len v < 2 ^ 32) }
-{
-    let mut edges = Vec::new(alloc);
-    for (i, value) in values.iter().enumerate() {
-        match edge_among(value, names) {
-            Some(edge) => edges.push(edge)?,
-            None => return Err(GraphTextFault::BadShape(Part::Edge(i as u32))),
-        }
-    }
-    Ok(edges)
 }
 
 fn format(v: &Value) -> Option<u32>
@@ -128,8 +98,9 @@ pub(crate) fn named_graph(
         return Err(GraphTextFault::BadShape(Part::Top));
     };
     let names = Names::of(alloc, nodes)?;
-    let found_nodes = named_nodes(alloc, nodes, &names)?;
-    let found_edges = named_edges(alloc, edges, &names)?;
+    let among = Some(&names);
+    let found_nodes = all_nodes(alloc, nodes, among)?;
+    let found_edges = all_edges(alloc, edges, among)?;
     // Behind the shapes, which come first, so the nodes and edges are made before it is known whether they serve.
     match name_fault(&names, nodes, edges) {
         Some(fault) => Err(fault),

@@ -1,7 +1,7 @@
 ghost use Rattle.std.specs.Prelude.{◌≡◌, codes, IfOk};
 ghost use Rattle.serde_json.specs.{Find.{get}, View.{view}};
 ghost use Rattle.json_values.specs.Members.{has_only};
-ghost use Rattle.graph_json.specs.{Pieces.{text_in}, Nodes.{scope_in, push_in, push_scoped_in, pop_in, pop_scoped_in, kind_in, takes, may_have, node_in}, Plain.{node_of, scope_at}};
+ghost use Rattle.graph_json.specs.{Pieces.{text_in}, Nodes.{scope_in, marked_in, push_in, push_scoped_in, pop_in, pop_scoped_in, kind_in, takes, may_have, node_in}, Plain.{node_of, scope_at}};
 
 use crate::pieces::{flag, node_span};
 use graph_nodes::{Name, Node, NodeKind};
@@ -26,17 +26,23 @@ fn scope(v: &Value) -> Option<NodeKind>
     Some(NodeKind::Scope { exported })
 }
 
+/// The symbol, and the flag of this name.
+#[tactic(auto, unfolding(crate::specs::Nodes::marked_in))]
+fn marked(alloc: Global, v: &Value, name: &str) -> Result<Option<(Name, bool)>, AllocError>
+    ensures { IfOk result (λ m. m ≡ marked_in name.now (view v.now)) }
+{
+    let Some(flag) = flag(v, name) else {
+        return Ok(None);
+    };
+    Ok(symbol(alloc, v)?.map(|symbol| (symbol, flag)))
+}
+
 #[tactic(auto, unfolding(crate::specs::Nodes::push_in))]
 fn push(alloc: Global, v: &Value) -> Result<Option<NodeKind>, AllocError>
     ensures { IfOk result (λ k. k ≡ push_in (view v.now)) }
 {
-    let Some(reference) = flag(v, "reference") else {
-        return Ok(None);
-    };
-    let Some(symbol) = symbol(alloc, v)? else {
-        return Ok(None);
-    };
-    Ok(Some(NodeKind::Push { symbol, reference }))
+    let found = marked(alloc, v, "reference")?;
+    Ok(found.map(|(symbol, reference)| NodeKind::Push { symbol, reference }))
 }
 
 #[tactic(auto, unfolding(crate::specs::Nodes::push_scoped_in))]
@@ -46,13 +52,8 @@ fn push_scoped(alloc: Global, v: &Value, scope: Option<u32>) -> Result<Option<No
     let Some(scope) = scope else {
         return Ok(None);
     };
-    let Some(reference) = flag(v, "reference") else {
-        return Ok(None);
-    };
-    let Some(symbol) = symbol(alloc, v)? else {
-        return Ok(None);
-    };
-    Ok(Some(NodeKind::PushScoped {
+    let found = marked(alloc, v, "reference")?;
+    Ok(found.map(|(symbol, reference)| NodeKind::PushScoped {
         symbol,
         scope,
         reference,
@@ -63,26 +64,16 @@ fn push_scoped(alloc: Global, v: &Value, scope: Option<u32>) -> Result<Option<No
 fn pop(alloc: Global, v: &Value) -> Result<Option<NodeKind>, AllocError>
     ensures { IfOk result (λ k. k ≡ pop_in (view v.now)) }
 {
-    let Some(definition) = flag(v, "definition") else {
-        return Ok(None);
-    };
-    let Some(symbol) = symbol(alloc, v)? else {
-        return Ok(None);
-    };
-    Ok(Some(NodeKind::Pop { symbol, definition }))
+    let found = marked(alloc, v, "definition")?;
+    Ok(found.map(|(symbol, definition)| NodeKind::Pop { symbol, definition }))
 }
 
 #[tactic(auto, unfolding(crate::specs::Nodes::pop_scoped_in))]
 fn pop_scoped(alloc: Global, v: &Value) -> Result<Option<NodeKind>, AllocError>
     ensures { IfOk result (λ k. k ≡ pop_scoped_in (view v.now)) }
 {
-    let Some(definition) = flag(v, "definition") else {
-        return Ok(None);
-    };
-    let Some(symbol) = symbol(alloc, v)? else {
-        return Ok(None);
-    };
-    Ok(Some(NodeKind::PopScoped { symbol, definition }))
+    let found = marked(alloc, v, "definition")?;
+    Ok(found.map(|(symbol, definition)| NodeKind::PopScoped { symbol, definition }))
 }
 
 #[tactic(auto, unfolding(crate::specs::Nodes::kind_in))]

@@ -31,10 +31,7 @@ pub(crate) fn is_array_of(v: &Value, count: usize) -> bool
 fn whole_at(v: &Value, i: usize) -> Option<u32>
     ensures { result ≡ u32_at i (view v.now) }
 {
-    match v.get(i) {
-        Some(item) => u32_of(item),
-        None => None,
-    }
+    u32_of(v.get(i)?)
 }
 
 fn ends_later(span: &Span) -> bool

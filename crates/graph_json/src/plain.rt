@@ -1,49 +1,13 @@
-ghost use Rattle.std.specs.Prelude.{◌≡◌, ◌^◌, ◌<◌, length, vec_len, map, IfOk};
-ghost use Rattle.graph_json.specs.{Pieces.{HasShortLists}, Collect.{TextGives, collected}, Plain.{node_of, edge_of, bad_node, bad_edge, plain_parts}};
+ghost use Rattle.std.specs.Prelude.{◌^◌, ◌<◌, vec_len, IfOk};
+ghost use Rattle.graph_json.specs.{Pieces.{HasShortLists}, Collect.{TextGives}, Plain.{plain_parts}};
 ghost use Rattle.serde_json.specs.View.{view};
 
-use crate::edge::plain_edge;
 use crate::fault::{GraphTextFault, Part};
-use crate::node::plain_node;
+use crate::parts::{all_edges, all_nodes};
 use crate::top::lists;
 use graph_nodes::{Edge, Node};
 use serde_json::Value;
 use std::alloc::Global;
-
-/// The nodes, up to the first that has a wrong form. Positions fit 32 bits, since an array has no more items than its
-/// text has bytes.
-fn plain_nodes(alloc: Global, values: &[Value]) -> Result<Vec<Node>, GraphTextFault>
-    requires { length values.now < 2 ^ 32 }
-    ensures gives { TextGives (λ v. v.items) result
-        (collected bad_node (map node_of (map view values.now))) }
-    ensures short { IfOk result (λ v. vec_len v < 2 ^ 32) }
-{
-    let mut nodes = Vec::new(alloc);
-    for (i, value) in values.iter().enumerate() {
-        match plain_node(alloc, value)? {
-            Some(node) => nodes.push(node)?,
-            None => return Err(GraphTextFault::BadShape(Part::Node(i as u32))),
-        }
-    }
-    Ok(nodes)
-}
-
-/// The edges, likewise.
-fn plain_edges(alloc: Global, values: &[Value]) -> Result<Vec<Edge>, GraphTextFault>
-    requires { length values.now < 2 ^ 32 }
-    ensures gives { TextGives (λ v. v.items) result
-        (collected bad_edge (map edge_of (map view values.now))) }
-    ensures short { IfOk result (λ v. vec_len v < 2 ^ 32) }
-{
-    let mut edges = Vec::new(alloc);
-    for (i, value) in values.iter().enumerate() {
-        match plain_edge(value) {
-            Some(edge) => edges.push(edge)?,
-            None => return Err(GraphTextFault::BadShape(Part::Edge(i as u32))),
-        }
-    }
-    Ok(edges)
-}
 
 /// The nodes and edges of a value in format 1, or its first fault: the top's, then the first node's, then the first
 /// edge's.
@@ -59,7 +23,7 @@ pub(crate) fn plain_graph(
     let Some((nodes, edges)) = lists(v, false) else {
         return Err(GraphTextFault::BadShape(Part::Top));
     };
-    let nodes = plain_nodes(alloc, nodes)?;
-    let edges = plain_edges(alloc, edges)?;
+    let nodes = all_nodes(alloc, nodes, None)?;
+    let edges = all_edges(alloc, edges, None)?;
     Ok((nodes, edges))
 }
