@@ -13,31 +13,23 @@ pub(crate) enum Stands {
     Last,
 }
 
+use Stands::{First, Inside, Last};
+
 /// The reply on a bad file. Members stand in the order of their names' bytes, so a number's place hangs on its name.
 pub fn bad_file_text(alloc: Global, path: &str, fault: &FileError) -> Result<String, AllocError>
     ensures { IfOk result (λ s. string_bytes s ≡ bad_file_text path.now fault.now) }
 {
     match *fault {
         FileError::Kind => fault_alone(alloc, "kind", path),
-        FileError::Large(n) => numbered(alloc, Stands::First, "bytes", n, "large", path),
+        FileError::Large(n) => numbered(alloc, First, "bytes", n, "large", path),
         FileError::Json => fault_alone(alloc, "json", path),
         FileError::Shape(part) => part_text(alloc, "shape", path, part),
-        FileError::TooManyNodes(n) => numbered(
-            alloc,
-            Stands::Inside,
-            "nodes",
-            u64::from(n),
-            "too_many_nodes",
-            path,
-        ),
-        FileError::TooManyEdges(n) => numbered(
-            alloc,
-            Stands::First,
-            "edges",
-            u64::from(n),
-            "too_many_edges",
-            path,
-        ),
+        FileError::TooManyNodes(n) => {
+            numbered(alloc, Inside, "nodes", u64::from(n), "too_many_nodes", path)
+        }
+        FileError::TooManyEdges(n) => {
+            numbered(alloc, First, "edges", u64::from(n), "too_many_edges", path)
+        }
         FileError::BadEnd(n) => part_text(alloc, "bad_end", path, ShapePart::Edge(n)),
         FileError::JumpSource(n) => part_text(alloc, "jump_source", path, ShapePart::Edge(n)),
         FileError::BadScope(n) => part_text(alloc, "bad_scope", path, ShapePart::Node(n)),
@@ -48,7 +40,7 @@ pub fn bad_file_text(alloc: Global, path: &str, fault: &FileError) -> Result<Str
         FileError::Expected(n) => line_text(alloc, "expected", path, n),
         FileError::TooDeep(n) => line_text(alloc, "too_deep", path, n),
         FileError::BadName => fault_alone(alloc, "bad_name", path),
-        FileError::Heavy(n) => numbered(alloc, Stands::Last, "weight", u64::from(n), "heavy", path),
+        FileError::Heavy(n) => numbered(alloc, Last, "weight", u64::from(n), "heavy", path),
         FileError::SameName(n) => part_text(alloc, "same_name", path, ShapePart::Node(n)),
         FileError::UnknownName(part) => part_text(alloc, "unknown_name", path, part),
     }
@@ -60,8 +52,8 @@ fn part_text(alloc: Global, fault: &str, path: &str, part: ShapePart) -> Result<
 {
     match part {
         ShapePart::Top => fault_alone(alloc, fault, path),
-        ShapePart::Node(n) => numbered(alloc, Stands::Inside, "node", u64::from(n), fault, path),
-        ShapePart::Edge(n) => numbered(alloc, Stands::First, "edge", u64::from(n), fault, path),
+        ShapePart::Node(n) => numbered(alloc, Inside, "node", u64::from(n), fault, path),
+        ShapePart::Edge(n) => numbered(alloc, First, "edge", u64::from(n), fault, path),
     }
 }
 
@@ -70,7 +62,7 @@ fn line_text(alloc: Global, fault: &str, path: &str, line: u32) -> Result<String
     ensures { IfOk result (λ s. string_bytes s
         ≡ number_inside (codes "line") line fault.now path.now) }
 {
-    numbered(alloc, Stands::Inside, "line", u64::from(line), fault, path)
+    numbered(alloc, Inside, "line", u64::from(line), fault, path)
 }
 
 /// A fault with no further member.
@@ -94,13 +86,13 @@ fn numbered(
 {
     let path = quoted_text(alloc, path)?;
     match stands {
-        Stands::First => format!(in alloc;
+        First => format!(in alloc;
             "{{\"{name}\":{n},\"error\":\"bad_file\",\"fault\":\"{fault}\",\"path\":{path}}}"
         ),
-        Stands::Inside => format!(in alloc;
+        Inside => format!(in alloc;
             "{{\"error\":\"bad_file\",\"fault\":\"{fault}\",\"{name}\":{n},\"path\":{path}}}"
         ),
-        Stands::Last => format!(in alloc;
+        Last => format!(in alloc;
             "{{\"error\":\"bad_file\",\"fault\":\"{fault}\",\"path\":{path},\"{name}\":{n}}}"
         ),
     }

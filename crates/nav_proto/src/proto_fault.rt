@@ -1,3 +1,6 @@
+ghost use Rattle.std.specs.Prelude.{◌≡◌};
+ghost use Rattle.nav_proto.specs.declared.proto_fault.ProtoFault.TheVariants.{NoMemory};
+
 use crate::ReplyText;
 use std::alloc::{AllocError, AllocFailed};
 use std::fmt;
@@ -24,9 +27,6 @@ impl fmt::Display for ProtoFault {
 }
 
 impl From<AllocError> for ProtoFault {
-    ghost use Rattle.std.specs.Prelude.{◌≡◌};
-    ghost use Rattle.nav_proto.specs.declared.proto_fault.ProtoFault.TheVariants.{NoMemory};
-
     ghost from_gives = { λ _ e. e ≡ NoMemory };
 
     fn from(_e: AllocError) -> ProtoFault {
@@ -35,9 +35,6 @@ impl From<AllocError> for ProtoFault {
 }
 
 impl<T: Drop> From<AllocFailed<T>> for ProtoFault {
-    ghost use Rattle.std.specs.Prelude.{◌≡◌};
-    ghost use Rattle.nav_proto.specs.declared.proto_fault.ProtoFault.TheVariants.{NoMemory};
-
     ghost from_gives = { λ _ e. e ≡ NoMemory };
 
     fn from(_e: AllocFailed<T>) -> ProtoFault {

@@ -1,6 +1,6 @@
 ghost use Rattle.std.specs.Prelude.{◌≡◌, IfOk};
 ghost use Rattle.serde_json.specs.View.{view};
-ghost use Rattle.nav_proto.specs.{Bounded.{IsBounded}, Answers.{LineGives}, Requests.{hello_of, bare_of, commit_of, rule_of, query_of, callers_of, request_of}};
+ghost use Rattle.nav_proto.specs.{Bounded.{IsBounded}, Answers.{LineGives}, Requests.{hello_of, commit_of, callers_of, request_of}};
 
 use crate::fields::{base_field, path_field, user_field};
 use crate::forms::{callers_form, edits_field, point, query, rule};
@@ -22,25 +22,25 @@ pub(crate) fn request(alloc: Global, v: Value) -> Result<Request, ProtoFault>
     if word == "hello" {
         hello(alloc, &v)
     } else if word == "pin" {
-        pin(alloc, &v)
+        only(alloc, &v, Form::Bare).map(|()| Request::Pin)
     } else if word == "commit" {
         commit(alloc, v)
     } else if word == "grant" {
-        grant(alloc, &v)
+        rule(alloc, &v).map(|(user, prefix)| Request::Grant { user, prefix })
     } else if word == "revoke" {
-        revoke(alloc, &v)
+        rule(alloc, &v).map(|(user, prefix)| Request::Revoke { user, prefix })
     } else if word == "deny" {
-        deny(alloc, &v)
+        rule(alloc, &v).map(|(user, prefix)| Request::Deny { user, prefix })
     } else if word == "undeny" {
-        undeny(alloc, &v)
+        rule(alloc, &v).map(|(user, prefix)| Request::Undeny { user, prefix })
     } else if word == "define" {
-        define(alloc, &v)
+        query(alloc, &v).map(|(path, (at, bounds))| Request::Define { path, at, bounds })
     } else if word == "references" {
-        references(alloc, &v)
+        query(alloc, &v).map(|(path, (at, bounds))| Request::References { path, at, bounds })
     } else if word == "callers" {
         callers(alloc, &v)
     } else if word == "quit" {
-        quit(alloc, &v)
+        only(alloc, &v, Form::Bare).map(|()| Request::Quit)
     } else {
         Err(wrong(alloc, "do"))
     }
@@ -58,22 +58,6 @@ fn hello(alloc: Global, v: &Value) -> Result<Request, ProtoFault>
     Ok(Request::Hello { user })
 }
 
-fn pin(alloc: Global, v: &Value) -> Result<Request, ProtoFault>
-    ensures gives { LineGives result (bare_of Request.Pin (view v.now)) }
-    ensures bounded { IfOk result IsBounded }
-{
-    only(alloc, v, Form::Bare)?;
-    Ok(Request::Pin)
-}
-
-fn quit(alloc: Global, v: &Value) -> Result<Request, ProtoFault>
-    ensures gives { LineGives result (bare_of Request.Quit (view v.now)) }
-    ensures bounded { IfOk result IsBounded }
-{
-    only(alloc, v, Form::Bare)?;
-    Ok(Request::Quit)
-}
-
 /// The request `commit`.
 #[tactic(auto, unfolding(crate::specs::Requests::commit_of))]
 fn commit(alloc: Global, v: Value) -> Result<Request, ProtoFault>
@@ -87,54 +71,6 @@ fn commit(alloc: Global, v: Value) -> Result<Request, ProtoFault>
     let edits = edits_field(alloc, v)?;
     alone?;
     Ok(Request::Commit { base, edits })
-}
-
-fn grant(alloc: Global, v: &Value) -> Result<Request, ProtoFault>
-    ensures gives { LineGives result (rule_of Request.Grant (view v.now)) }
-    ensures bounded { IfOk result IsBounded }
-{
-    let (user, prefix) = rule(alloc, v)?;
-    Ok(Request::Grant { user, prefix })
-}
-
-fn revoke(alloc: Global, v: &Value) -> Result<Request, ProtoFault>
-    ensures gives { LineGives result (rule_of Request.Revoke (view v.now)) }
-    ensures bounded { IfOk result IsBounded }
-{
-    let (user, prefix) = rule(alloc, v)?;
-    Ok(Request::Revoke { user, prefix })
-}
-
-fn deny(alloc: Global, v: &Value) -> Result<Request, ProtoFault>
-    ensures gives { LineGives result (rule_of Request.Deny (view v.now)) }
-    ensures bounded { IfOk result IsBounded }
-{
-    let (user, prefix) = rule(alloc, v)?;
-    Ok(Request::Deny { user, prefix })
-}
-
-fn undeny(alloc: Global, v: &Value) -> Result<Request, ProtoFault>
-    ensures gives { LineGives result (rule_of Request.Undeny (view v.now)) }
-    ensures bounded { IfOk result IsBounded }
-{
-    let (user, prefix) = rule(alloc, v)?;
-    Ok(Request::Undeny { user, prefix })
-}
-
-fn define(alloc: Global, v: &Value) -> Result<Request, ProtoFault>
-    ensures gives { LineGives result (query_of Request.Define (view v.now)) }
-    ensures bounded { IfOk result IsBounded }
-{
-    let (path, (at, bounds)) = query(alloc, v)?;
-    Ok(Request::Define { path, at, bounds })
-}
-
-fn references(alloc: Global, v: &Value) -> Result<Request, ProtoFault>
-    ensures gives { LineGives result (query_of Request.References (view v.now)) }
-    ensures bounded { IfOk result IsBounded }
-{
-    let (path, (at, bounds)) = query(alloc, v)?;
-    Ok(Request::References { path, at, bounds })
 }
 
 /// The request `callers`, which has no bounds.
