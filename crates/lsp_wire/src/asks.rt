@@ -70,10 +70,7 @@ fn asks_by(alloc: Global, method: Method, params: Value) -> Result<Asks, AllocEr
 fn or_wrong(asks: Option<Asks>, method: Method) -> Asks
     ensures { result ≡ unwrap_or asks (WrongParams method) }
 {
-    match asks {
-        Some(asks) => asks,
-        None => Asks::WrongParams(method),
-    }
+    asks.unwrap_or(Asks::WrongParams(method))
 }
 
 /// A document is opened. Its URI is copied before its text is taken out of the parameters.
@@ -84,10 +81,7 @@ fn opened(alloc: Global, params: Value) -> Result<Option<Asks>, AllocError>
     let Some(uri) = uri_in(alloc, &params)? else {
         return Ok(None);
     };
-    match document_text(params) {
-        Some(text) => Ok(Some(Asks::DidOpen { uri, text })),
-        None => Ok(None),
-    }
+    Ok(document_text(params).map(|text| Asks::DidOpen { uri, text }))
 }
 
 /// The text of the document in the parameters, moved out of them: it may be megabytes.
@@ -95,10 +89,7 @@ fn document_text(params: Value) -> Option<Text>
     ensures { result ≡ member (codes "textDocument") (member (codes "text") as_str) (view params) }
 {
     let mut params = params;
-    match take_member(&mut params, "textDocument") {
-        Some(document) => take_text(document, "text"),
-        None => None,
-    }
+    take_text(take_member(&mut params, "textDocument")?, "text")
 }
 
 /// A document is changed, by changes of its whole text alone, as the server's capabilities ask for.
@@ -112,10 +103,7 @@ fn changed(alloc: Global, params: Value) -> Result<Option<Asks>, AllocError>
     let Some(changes) = changes_in(params) else {
         return Ok(None);
     };
-    match text_after(changes) {
-        Some(text) => Ok(Some(Asks::DidChange { uri, text })),
-        None => Ok(None),
-    }
+    Ok(text_after(changes).map(|text| Asks::DidChange { uri, text }))
 }
 
 /// The changes in the parameters, moved out of them.
@@ -124,10 +112,7 @@ fn changes_in(params: Value) -> Option<Vec<Value>>
         ≡ member (codes "contentChanges") list_of (view params) }
 {
     let mut params = params;
-    match take_member(&mut params, "contentChanges") {
-        Some(changes) => into_items(changes),
-        None => None,
-    }
+    into_items(take_member(&mut params, "contentChanges")?)
 }
 
 /// The text after these changes, which is that of the last, where each is one; none where there are none, and then the
@@ -137,10 +122,7 @@ fn text_after(changes: Vec<Value>) -> Option<Option<Text>>
 {
     let mut last = None;
     for change in changes {
-        match change_of(change) {
-            Some(text) => last = Some(text),
-            None => return None,
-        }
+        last = Some(change_of(change)?);
     }
     Some(last)
 }
@@ -159,10 +141,7 @@ fn change_of(v: Value) -> Option<Text>
 fn closed(alloc: Global, params: &Value) -> Result<Option<Asks>, AllocError>
     ensures { IfOk result (λ asks. asks ≡ closed (view params.now)) }
 {
-    match uri_in(alloc, params)? {
-        Some(uri) => Ok(Some(Asks::DidClose { uri })),
-        None => Ok(None),
-    }
+    Ok(uri_in(alloc, params)?.map(|uri| Asks::DidClose { uri }))
 }
 
 /// The definitions are asked for.
@@ -173,10 +152,7 @@ fn definition(alloc: Global, params: &Value) -> Result<Option<Asks>, AllocError>
     let Some(uri) = uri_in(alloc, params)? else {
         return Ok(None);
     };
-    match position_in(params) {
-        Some(at) => Ok(Some(Asks::Definition { uri, at })),
-        None => Ok(None),
-    }
+    Ok(position_in(params).map(|at| Asks::Definition { uri, at }))
 }
 
 /// The references are asked for, with the declaration among them or not: the protocol wants that said.
@@ -190,14 +166,11 @@ fn references(alloc: Global, params: &Value) -> Result<Option<Asks>, AllocError>
     let Some(at) = position_in(params) else {
         return Ok(None);
     };
-    match declaration_in(params) {
-        Some(declaration) => Ok(Some(Asks::References {
-            uri,
-            at,
-            declaration,
-        })),
-        None => Ok(None),
-    }
+    Ok(declaration_in(params).map(|declaration| Asks::References {
+        uri,
+        at,
+        declaration,
+    }))
 }
 
 /// The place in the parameters, in lines and UTF-16 code units from 0.

@@ -48,10 +48,7 @@ fn body_of(alloc: Global, v: Value) -> Result<Body, AllocError>
         return Ok(Body::Passed);
     };
     let method = method_named(name);
-    match message(alloc, method, v)? {
-        Some(message) => Ok(Body::Message(message)),
-        None => Ok(Body::Invalid),
-    }
+    Ok(message(alloc, method, v)?.map_or(Body::Invalid, Body::Message))
 }
 
 /// The method that is named, which may be unknown, if the name is a text.
@@ -87,10 +84,7 @@ fn id_in(alloc: Global, v: &Value) -> Result<Option<Option<Id>>, AllocError>
     let Some(found) = v.get("id") else {
         return Ok(Some(None));
     };
-    match id_of(alloc, found)? {
-        Some(id) => Ok(Some(Some(id))),
-        None => Ok(None),
-    }
+    Ok(id_of(alloc, found)?.map(Some))
 }
 
 /// The parameters of the message, moved out of it; `null` where it has none, in which every member is missing.
@@ -98,8 +92,5 @@ fn params_of(v: Value) -> Value
     ensures { view result ≡ params_of (view v) }
 {
     let mut v = v;
-    match take_member(&mut v, "params") {
-        Some(params) => params,
-        None => Value::Null,
-    }
+    take_member(&mut v, "params").unwrap_or(Value::Null)
 }

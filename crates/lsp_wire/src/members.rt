@@ -12,20 +12,14 @@ use std::alloc::{AllocError, Global};
 fn text_of(v: Value) -> Option<Text>
     ensures { result ≡ as_str (view v) }
 {
-    match into_string(v) {
-        Some(text) => Some(Text::from_string(text)),
-        None => None,
-    }
+    Some(Text::from_string(into_string(v)?))
 }
 
 /// The member of this name. It leaves the value without what stood there.
 pub(crate) fn take_member(v: &mut Value, name: &str) -> Option<Value>
     ensures { option_map view result ≡ get name.now (view v.old) }
 {
-    match v.get_mut(name) {
-        Some(found) => Some(found.take()),
-        None => None,
-    }
+    Some(v.get_mut(name)?.take())
 }
 
 /// The text that is the member of this name, whose bytes aren't copied.
@@ -33,10 +27,7 @@ pub(crate) fn take_text(v: Value, name: &str) -> Option<Text>
     ensures { result ≡ member name.now as_str (view v) }
 {
     let mut v = v;
-    match take_member(&mut v, name) {
-        Some(found) => text_of(found),
-        None => None,
-    }
+    text_of(take_member(&mut v, name)?)
 }
 
 /// The same, copied.
@@ -83,10 +74,7 @@ pub(crate) fn id_of(alloc: Global, v: &Value) -> Result<Option<Id>, AllocError>
 fn number_id(v: &Value) -> Option<Id>
     ensures { result ≡ option_map id.Number (i32_of (view v.now)) }
 {
-    match i32_of(v) {
-        Some(n) => Some(Id::Number(n)),
-        None => None,
-    }
+    Some(Id::Number(i32_of(v)?))
 }
 
 /// The value as a whole number of 32 bits with a sign, as the protocol's `integer` is.

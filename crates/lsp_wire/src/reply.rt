@@ -1,5 +1,5 @@
 use crate::{Id, Position, Text};
-use std::marker::Model;
+use item_list::Listed;
 
 /// What a message is answered with.
 #[derive(Debug, Drop)]
@@ -48,34 +48,4 @@ pub struct Location {
 }
 
 /// Parts of documents, in their order. A contract sees them as a list.
-#[derive(Debug, Drop)]
-pub struct Locations {
-    items: Vec<Location>,
-}
-
-impl Model for Locations {
-    ghost use Rattle.std.specs.Prelude.{List};
-    ghost use Rattle.lsp_wire.specs.declared.reply.Location.{Location};
-
-    ghost Value = { List Location };
-
-    ghost view = { λ l. l.items.items };
-}
-
-impl Locations {
-    ghost use Rattle.std.specs.Prelude.{◌≡◌};
-
-    /// The parts in this vector.
-    pub fn of(items: Vec<Location>) -> Locations
-        ensures { result ≡ items.items }
-    {
-        Locations { items }
-    }
-
-    /// The parts.
-    pub fn items(&self) -> &[Location]
-        ensures { result.now ≡ self.now }
-    {
-        self.items.as_slice()
-    }
-}
+pub type Locations = Listed<Location>;
