@@ -4,19 +4,15 @@ use Rattle.std.proofs.lemmas.Bool.{false≢true}
 use Rattle.std.proofs.lemmas.Option.{none-some}
 use Rattle.std.specs.Option.{IfSome, option_map}
 use Rattle.std.specs.Io.KnownBytes.{prepend_known}
-use Rattle.nav_io.specs.Reading.{Reading, ahead}
+use Rattle.nav_io.specs.Reading.{Reading, Finds, ahead}
 use Rattle.nav_io.proofs.ReadingLaws.{ahead-kept, at_end_of}
-use Rattle.nav_io.proofs.ReadingLaws as lines
 use Rattle.lsp_frames.specs.declared.reader.FrameError.{FrameError}
 use Rattle.lsp_frames.specs.declared.reader.FrameError.TheVariants.{ReadFault, Broken, TooLong, NoMemory}
 use Rattle.lsp_frames.specs.declared.front.Place.{Place}
 use Rattle.lsp_frames.specs.Frames.{Cut, Nothing, Malformed, Large, Unfinished, Frame, cut, is_short, body_of, rest_of, body_max}
 use Rattle.lsp_frames.specs.Reading.{is_settled, AfterFrame, AfterFrameError}
-use Rattle.lsp_frames.specs.Inside.{Finds, IsBodyAt, IsWhy, body_at, behind}
+use Rattle.lsp_frames.specs.Inside.{IsBodyAt, IsWhy, body_at, behind}
 use Rattle.lsp_frames.proofs.Cuts.{grown, cut-append, cut-body_at, cut-frame}
-
-as_lines : (old mid : Reading) (left left' : Option (List ℕ)) → Finds old mid left left' → lines.Finds old mid left left'
-as_lines old mid left left' found = record { kept = found.kept; past_end = found.past_end; at_end = found.at_end }
 
 -- what is short isn't settled before the end
 pub unsettled : (front : List ℕ) (ended : Bool) → is_short (cut front) ≡ true → ended ≡ false
@@ -44,7 +40,7 @@ told_by front false (Some bytes) end = by (is_short (cut front)) refl
 told : (old mid : Reading) (left left' : Option (List ℕ)) → Finds old mid left left' → (is_short (cut mid.front) ≡ true → mid.ended ≡ true)
     → IfSome (ahead old left) (λ text. body_of (cut text) ≡ body_of (cut mid.front))
 told old mid left left' found end =
-    rw (← ahead-kept old mid left left' (as_lines old mid left left' found)) (told_by mid.front mid.ended left' end)
+    rw (← ahead-kept old mid left left' found) (told_by mid.front mid.ended left' end)
 
 pub told_as : (old mid : Reading) (left left' : Option (List ℕ)) (r : Result (Option (List ℕ)) FrameError) → Finds old mid left left'
     → (is_short (cut mid.front) ≡ true → mid.ended ≡ true) → body_of (cut mid.front) ≡ r
@@ -84,32 +80,33 @@ pub after_frame : (old mid : Reading) (found : Option Place) (rest : List ℕ) (
     → IsFound found mid → next ≡ body_at found mid.front → rest ≡ behind found mid.front
     → AfterFrame old (record { front = rest; ended = mid.ended }) left left' next
 after_frame old mid None rest left left' next found is e after = rw (e, after) (record {
-  rest = none_by mid.front mid.ended left' is.0 is.1 ∙ ap (λ known. option_map (λ text. rest_of (cut text)) known) (ahead-kept old mid left left' (as_lines old mid left left' found));
+  rest = none_by mid.front mid.ended left' is.0 is.1 ∙ ap (λ known. option_map (λ text. rest_of (cut text)) known) (ahead-kept old mid left left' found);
   kept = found.kept;
   none = λ _. is;
-  at_end = at_end_of old mid left left' (as_lines old mid left left' found);
+  at_end = at_end_of old mid left left' found;
 })
 after_frame old mid (Some place) rest left left' next found is e after = rw (e, after) (record {
   rest = rest_by mid.front (take (place.to - place.from) (drop place.from mid.front)) (drop place.to mid.front) mid.ended left' (cut-body_at mid.front place is)
-      ∙ ap (λ known. option_map (λ text. rest_of (cut text)) known) (ahead-kept old mid left left' (as_lines old mid left left' found));
+      ∙ ap (λ known. option_map (λ text. rest_of (cut text)) known) (ahead-kept old mid left left' found);
   kept = (
     take place.to mid.front,
     cut-frame mid.front place is,
     ap (λ bytes. prepend_known bytes left') (take-append-drop place.to mid.front) ∙ found.kept,
   );
   none = λ none. absurd (none-some _ (sym none));
-  at_end = at_end_of old mid left left' (as_lines old mid left left' found);
+  at_end = at_end_of old mid left left' found;
 })
 
 pub after_error : (old mid : Reading) (left left' : Option (List ℕ)) (error : FrameError) → Finds old mid left left' → IsWhy error mid
     → AfterFrameError old mid left left' error
-after_error old mid left left' error found why = by error why
-  where
-    by : (e : FrameError) → IsWhy e mid → AfterFrameError old mid left left' e
-    by ReadFault why = record { kept = found.kept; at_end = at_end_of old mid left left' (as_lines old mid left left' found); fault = λ _. why; memory = λ e. cc; broken = λ e. cc; too_long = λ e. cc }
-    by Broken why = record { kept = found.kept; at_end = at_end_of old mid left left' (as_lines old mid left left' found); fault = λ e. cc; memory = λ e. cc; broken = λ _. (why.0, λ un. why.1 (ap is_short un)); too_long = λ e. cc }
-    by TooLong why = record { kept = found.kept; at_end = at_end_of old mid left left' (as_lines old mid left left' found); fault = λ e. cc; memory = λ e. cc; broken = λ e. cc; too_long = λ _. why }
-    by NoMemory why = record { kept = found.kept; at_end = at_end_of old mid left left' (as_lines old mid left left' found); fault = λ e. cc; memory = λ _. why; broken = λ e. cc; too_long = λ e. cc }
+after_error old mid left left' error found why = record {
+  kept = found.kept;
+  at_end = at_end_of old mid left left' found;
+  fault = λ is. let here = rw is at why in here;
+  memory = λ is. let here = rw is at why in here;
+  broken = λ is. let here = rw is at why in (here.0, λ un. here.1 (ap is_short un));
+  too_long = λ is. let here = rw is at why in here;
+}
 
 -- what an error that was answered says of the text ahead
 pub broken_ahead : (old mid : Reading) (left left' : Option (List ℕ)) (error : FrameError) → Finds old mid left left' → IsWhy error mid → error ≡ Broken

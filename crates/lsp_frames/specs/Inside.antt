@@ -1,9 +1,8 @@
 -- What the parts of the reader answer. No public clause cites it.
-use Rattle.std.specs.Prelude.{◌≡◌, ◌⊎◌, ℕ, ◌-◌, ◌<◌, ◌≤◌, Bool, true, false, List, [], ◌∷◌, ◌++◌, length, take, drop, Option, None, Some, MatchOption, Result, Ok, Err, MatchResult}
-use Rattle.std.specs.Io.KnownBytes.{prepend_known, IsAtEnd}
+use Rattle.std.specs.Prelude.{◌≡◌, ℕ, ◌-◌, ◌<◌, ◌≤◌, Bool, true, false, List, [], ◌∷◌, ◌++◌, length, take, drop, Option, None, Some, MatchOption, Result, Ok, Err, MatchResult}
 use Rattle.std.specs.Option.{option_map}
 use Rattle.lsp_frames.specs.Blocks.{block_len, lines_from, only_one, stated_length}
-use Rattle.nav_io.specs.Reading.{Reading}
+use Rattle.nav_io.specs.Reading.{Reading, Finds}
 use Rattle.nav_io.specs.declared.taking.TakeError.{TakeError}
 use Rattle.nav_io.specs.declared.taking.TakeError.TheVariants.{ReadFault as take_fault, NoMemory as take_memory}
 use Rattle.lsp_frames.specs.Frames.{body_max, Malformed, Large, cut, is_short, body_of}
@@ -80,15 +79,6 @@ body_at found input =
 abbrev pub behind : Option Place → List ℕ → List ℕ
 behind None input = input
 behind (Some place) input = drop place.to input
-
--- What a search of the first frame leaves of a reader, where left became left':
-pub record Finds (old mid : Reading) (left left' : Option (List ℕ)) : Type 0 where
-  -- no byte is lost
-  pub kept : prepend_known mid.front left' ≡ prepend_known old.front left
-  -- behind the end nothing is read
-  pub past_end : old.ended ≡ true → (mid.front ≡ old.front) × (left' ≡ left) × (mid.ended ≡ true)
-  -- the end was met before, or the source has nothing left
-  pub at_end : mid.ended ≡ true → (old.ended ≡ true) ⊎ IsAtEnd left'
 
 -- a fault of the source or want of memory came where no whole frame was taken and the end wasn't met
 abbrev pub IsCutOff : FrameError → Reading → Type 0

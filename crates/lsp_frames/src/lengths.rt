@@ -135,10 +135,7 @@ fn spaces_len(value: &[u8]) -> usize
     ensures is { result ≡ position_or_len is_no_space value.now }
     ensures within { result ≤ length value.now }
 {
-    match text_in(value) {
-        Some(n) => n,
-        None => value.len(),
-    }
+    text_in(value).unwrap_or(value.len())
 }
 
 #[tactic(auto, using(crate::proofs::Numbers::places))]
@@ -146,10 +143,7 @@ fn digits_len(value: &[u8]) -> usize
     ensures is { result ≡ position_or_len is_no_digit value.now }
     ensures within { result ≤ length value.now }
 {
-    match other_in(value) {
-        Some(n) => n,
-        None => value.len(),
-    }
+    other_in(value).unwrap_or(value.len())
 }
 
 /// Where the first byte is that isn't a space.

@@ -1,7 +1,7 @@
 //! Reading a source frame by frame.
 ghost use Rattle.std.specs.{Prelude.{◌≡◌, ◌≤◌, [], true, false, length, IfOk, IfSome, Ok, Err, MatchResult}, Option.{option_copied}};
 ghost use Rattle.nav_io.specs.{Faults.{HasRisen}, Reading.{ahead}};
-ghost use Rattle.lsp_frames.specs.Frames.{body_max, cut, body_of};
+ghost use Rattle.lsp_frames.specs.{Frames.{body_max, cut, body_of}, Inside.{frame_error_of}};
 
 use crate::front::{Front, Place, front_of};
 use crate::held::{fill, place_of, take_body};
@@ -26,8 +26,6 @@ pub enum FrameError {
 }
 
 impl From<TakeError> for FrameError {
-    ghost use Rattle.lsp_frames.specs.Inside.{frame_error_of};
-
     ghost from_gives = { λ t e. e ≡ frame_error_of t };
 
     fn from(error: TakeError) -> Self {

@@ -26,10 +26,7 @@ impl OpenTexts {
     pub fn at(&self, path: &str) -> Option<&OpenText>
         ensures { option_copied result ≡ texts_in self.now path.now }
     {
-        match self.rooms.get(path) {
-            Some(room) => room.as_ref(),
-            None => None,
-        }
+        self.rooms.get(path)?.as_ref()
     }
 
     /// Makes room for a text at the path, so that putting one there needs no memory. The texts stay as they are, also

@@ -6,9 +6,9 @@ use Rattle.std.proofs.lemmas.Option.{none-some}
 use Rattle.std.specs.Option.{IfSome, option_map, option_to_list}
 use Rattle.std.specs.Io.KnownBytes.{prepend_known}
 use Rattle.nav_io.specs.Lines.{line_len, after_line, line_at_front, lines}
-use Rattle.nav_io.specs.Reading.{Reading, ahead, is_whole, whole_line, past_whole_line, bytes_at_front, bytes_or_none, AfterBytes}
+use Rattle.nav_io.specs.Reading.{Reading, ahead, Finds, is_whole, whole_line, past_whole_line, bytes_at_front, bytes_or_none, AfterBytes}
 use Rattle.nav_io.proofs.CutLaws.{lines-cut, first_line-newline-after_line}
-use Rattle.nav_io.proofs.ReadingLaws.{Finds, ahead-kept, at_end_of}
+use Rattle.nav_io.proofs.ReadingLaws.{ahead-kept, at_end_of}
 
 -- the reader with these bytes in front
 abbrev pub reading : List ℕ → Bool → Reading

@@ -9,14 +9,9 @@ use Rattle.nav_io.specs.declared.lines.LineError.{LineError}
 use Rattle.nav_io.specs.declared.lines.LineError.TheVariants.{ReadFault, NoMemory, TooLong}
 use Rattle.nav_io.specs.Lines.{line_max, line_len, after_line, line_at_front, lines}
 use Rattle.nav_io.specs.Reading.{Reading, ahead, AfterLine, AfterError}
+pub use Rattle.nav_io.specs.Reading.{Finds}
 use Rattle.nav_io.proofs.Cuts.{line_len-le, line_len-append-le}
 use Rattle.nav_io.proofs.CutLaws.{line_at_front-append, after_line-append, lines-cut, first_line-newline-after_line}
-
--- what a search for the first line leaves of a reader
-pub record Finds (old mid : Reading) (left left' : Option (List ℕ)) : Type 0 where
-  pub kept : prepend_known mid.front left' ≡ prepend_known old.front left
-  pub past_end : old.ended ≡ true → (mid.front ≡ old.front) × (left' ≡ left) × (mid.ended ≡ true)
-  pub at_end : mid.ended ≡ true → (old.ended ≡ true) ⊎ IsAtEnd left'
 
 ahead-kept_by : (front front' : List ℕ) (ended ended' : Bool) (left left' : Option (List ℕ)) →
     prepend_known front' left' ≡ prepend_known front left →

@@ -1,5 +1,5 @@
 -- What is seen of a line reader, and what a call of it says of the text ahead.
-use Rattle.std.specs.Prelude.{◌≡◌, ℕ, ◌<◌, ◌≤◌, ◌⊎◌, Bool, ◌||◌, false, IsTrue, if◌then◌else◌, nat_lt, nat_le, List, [], ◌∷◌, ◌++◌, length, take, drop, Option, None, Some, IfSome, MatchOption}
+use Rattle.std.specs.Prelude.{◌≡◌, ℕ, ◌<◌, ◌≤◌, ◌⊎◌, Bool, ◌||◌, true, false, IsTrue, if◌then◌else◌, nat_lt, nat_le, List, [], ◌∷◌, ◌++◌, length, take, drop, Option, None, Some, IfSome, MatchOption}
 use Rattle.std.specs.Option.{option_map}
 use Rattle.std.specs.Io.KnownBytes.{prepend_known, IsAtEnd}
 use Rattle.nav_io.specs.declared.lines.LineError.{LineError}
@@ -11,10 +11,23 @@ pub record Reading : Type 0 where
   pub front : List ℕ
   pub ended : Bool
 
+-- one that holds these bytes, of which those before start are answered
+abbrev pub reading_of : ℕ → List ℕ → Bool → Reading
+reading_of start held ended = record { front = drop start held; ended = ended }
+
 -- The text ahead, where the source tells what it has left: the bytes in front, and then those left, which a reader that met the end doesn't ask for.
 abbrev pub ahead : Reading → Option (List ℕ) → Option (List ℕ)
 ahead reader left =
     option_map (λ bytes. if reader.ended then reader.front else reader.front ++ bytes) left
+
+-- What a search for what is wanted leaves of a reader, where left became left':
+pub record Finds (old mid : Reading) (left left' : Option (List ℕ)) : Type 0 where
+  -- no byte is lost
+  pub kept : prepend_known mid.front left' ≡ prepend_known old.front left
+  -- behind the end nothing is read
+  pub past_end : old.ended ≡ true → (mid.front ≡ old.front) × (left' ≡ left) × (mid.ended ≡ true)
+  -- the end was met before, or the source has nothing left
+  pub at_end : mid.ended ≡ true → (old.ended ≡ true) ⊎ IsAtEnd left'
 
 -- After a line or at the end, where next is the line and left became left':
 pub record AfterLine (old new : Reading) (left left' next : Option (List ℕ)) : Type 0 where

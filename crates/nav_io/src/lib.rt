@@ -23,7 +23,7 @@ pub use mem::{Lent, MemDoor, MemHouse, MemSink, MemSource};
 pub use notices::{Cut, NoNotices, Notices};
 pub use sink::{Sink, SinkError};
 pub use source::{Failed, Source};
-pub use std_io::{StdSink, StdSource};
+pub use std_io::{Std, StdSink, StdSource};
 pub use taking::{CHUNK, TakeError, let_go, take_chunk, take_until};
 pub use tcp::{TcpDoor, TcpHouse};
 pub use write::{WriteError, write_all};

@@ -1,6 +1,6 @@
 //! Reading a source line by line, and bytes that are pushed in.
 ghost use Rattle.std.specs.{Prelude.{◌≡◌, ◌≢◌, ◌<◌, ◌≤◌, [], ◌∷◌, ◌++◌, ◌⊎◌, true, false, length, IfOk, IfErr, IfSome, OnOk, OnErr, IsTrue, MatchResult}, Option.{option_copied, option_to_list}};
-ghost use Rattle.nav_io.specs.{declared.lines.LineError.TheVariants.{ReadFault, NoMemory, TooLong}, Faults.{HasRisen}, Lines.{line_max, line_len, line_at_front, after_line, lines, HasNoNewline}};
+ghost use Rattle.nav_io.specs.{declared.lines.LineError.TheVariants.{ReadFault, NoMemory, TooLong}, Faults.{HasRisen}, Lines.{line_max, line_len, line_at_front, after_line, lines, HasNoNewline}, Taking.{line_error_of}};
 
 mod held;
 mod search;
@@ -28,8 +28,6 @@ pub enum LineError {
 }
 
 impl From<TakeError> for LineError {
-    ghost use Rattle.nav_io.specs.Taking.{line_error_of};
-
     ghost from_gives = { λ t e. e ≡ line_error_of t };
 
     fn from(error: TakeError) -> Self {

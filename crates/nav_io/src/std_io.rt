@@ -7,36 +7,42 @@ use crate::{Failed, Sink, SinkError, Source};
 use std::io::{Read, Write};
 use std::marker::Model;
 
-/// A source over a reader.
+/// A reader or a writer, and how many of its calls failed.
 #[derive(Drop)]
-pub struct StdSource<R> {
-    reader: R,
+pub struct Std<T> {
+    inner: T,
     faults: u64,
 }
 
-impl<R> Model for StdSource<R> {
-    ghost Value = { Over R };
+/// A source over a reader.
+pub type StdSource<R> = Std<R>;
 
-    ghost view = { λ source. record { inner = source.reader; faults = source.faults } };
+/// A sink over a writer.
+pub type StdSink<W> = Std<W>;
+
+impl<T> Model for Std<T> {
+    ghost Value = { Over T };
+
+    ghost view = { λ std. record { inner = std.inner; faults = std.faults } };
 }
 
-impl<R: Read> StdSource<R> {
-    /// A source with no fault yet.
-    pub fn new(reader: R) -> StdSource<R>
-        ensures { result ≡ record { inner = reader; faults = 0 } }
+impl<T> Std<T> {
+    /// A source or a sink with no fault yet.
+    pub fn new(inner: T) -> Std<T>
+        ensures { result ≡ record { inner = inner; faults = 0 } }
     {
-        StdSource { reader, faults: 0 }
+        Std { inner, faults: 0 }
     }
 
-    /// The reader that it stands over.
-    pub fn reader(&self) -> &R
+    /// The reader or writer that it stands over.
+    pub fn inner(&self) -> &T
         ensures { result.now ≡ self.now.inner }
     {
-        &self.reader
+        &self.inner
     }
 }
 
-impl<R: Read> Source for StdSource<R> {
+impl<R: Read> Source for Std<R> {
     ghost left = { λ _. None };
 
     ghost faults = { λ source. source.faults };
@@ -53,7 +59,7 @@ impl<R: Read> Source for StdSource<R> {
         ensures ok { OnOk result (self.new.faults ≡ self.old.faults) }
         ensures err { OnErr result (self.new.faults ≡ counted self.old.faults) }
     {
-        match self.reader.read(buf) {
+        match self.inner.read(buf) {
             Ok(n) => Ok(n),
             Err(_) => {
                 self.faults = self.faults.saturating_add(1);
@@ -63,29 +69,7 @@ impl<R: Read> Source for StdSource<R> {
     }
 }
 
-/// A sink over a writer.
-#[derive(Drop)]
-pub struct StdSink<W> {
-    writer: W,
-    faults: u64,
-}
-
-impl<W> Model for StdSink<W> {
-    ghost Value = { Over W };
-
-    ghost view = { λ sink. record { inner = sink.writer; faults = sink.faults } };
-}
-
-impl<W: Write> StdSink<W> {
-    /// A sink with no fault yet.
-    pub fn new(writer: W) -> StdSink<W>
-        ensures { result ≡ record { inner = writer; faults = 0 } }
-    {
-        StdSink { writer, faults: 0 }
-    }
-}
-
-impl<W: Write> Sink for StdSink<W> {
+impl<W: Write> Sink for Std<W> {
     ghost held = { λ _. None };
 
     ghost faults = { λ sink. sink.faults };
@@ -103,7 +87,7 @@ impl<W: Write> Sink for StdSink<W> {
         ensures ok { OnOk result (self.new.faults ≡ self.old.faults) }
         ensures err { OnErr result (self.new.faults ≡ counted self.old.faults) }
     {
-        match self.writer.write(bytes) {
+        match self.inner.write(bytes) {
             // A writer that takes nothing would be asked for ever.
             Ok(n) if n > 0 || bytes.is_empty() => Ok(n),
             _ => {

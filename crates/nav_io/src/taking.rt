@@ -3,7 +3,6 @@
 ghost use Rattle.std.specs.{Prelude.{◌≡◌, ℕ, ◌+◌, ◌<◌, ◌≤◌, List, ◌++◌, length, vec_len, vec_capacity, drop, IfOk, OnOk, OnErr, true, false}, Io.KnownBytes.{prepend_known, IsAtEnd}};
 ghost use Rattle.nav_io.specs.{declared.taking.TakeError.TheVariants.{ReadFault, NoMemory}, Faults.{HasRisen}};
 
-use crate::settling::Ballast;
 use crate::{Failed, Source};
 use std::alloc::AllocError;
 
@@ -48,8 +47,8 @@ const LARGE: usize = 1_048_576;
 
 /// Lets go of the bytes before `start`. Where they are more than those behind, as after a long line, it takes time that
 /// follows the number of those behind: std's `drain` turns all that is held round. After a very long line its room is
-/// given back, and what its answer took with it.
-pub fn let_go(held: &mut Vec<u8>, start: &mut usize)
+/// given back, and what its answer took with it; it answers whether that was so.
+pub fn let_go(held: &mut Vec<u8>, start: &mut usize) -> bool
     requires { start.old ≤ vec_len held.old }
     ensures items { held.new.items ≡ drop start.old held.old.items }
     ensures start { start.new ≡ 0 }
@@ -59,19 +58,7 @@ pub fn let_go(held: &mut Vec<u8>, start: &mut usize)
     if was_large {
         give_back(held);
     }
-}
-
-/// As `let_go`; after a very long line what its answer left is given back too.
-pub(crate) fn settle(held: &mut Vec<u8>, start: &mut usize, ballast: &mut Ballast)
-    requires { start.old ≤ vec_len held.old }
-    ensures items { held.new.items ≡ drop start.old held.old.items }
-    ensures start { start.new ≡ 0 }
-{
-    let was_large = is_large(*start);
-    let_go(held, start);
-    if was_large {
-        ballast.give_back();
-    }
+    was_large
 }
 
 /// Whether what was answered of what is held is so long that its room is given back before more is waited for.

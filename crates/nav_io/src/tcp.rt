@@ -65,7 +65,7 @@ impl<'r, R: Net, N: Notices> Door for TcpDoor<'r, R, N> {
         ensures same { self.new ≡ self.old }
         ensures count { self.old ≤ self.new }
     {
-        if let Some(cut) = source.reader().cut() {
+        if let Some(cut) = source.inner().cut() {
             self.notices.cut(self.number, cut);
         }
         drop(source);

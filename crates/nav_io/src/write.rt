@@ -14,8 +14,6 @@ pub enum WriteError {
 }
 
 impl From<SinkError> for WriteError {
-    ghost use Rattle.nav_io.specs.Write.{write_error_of};
-
     ghost from_gives = { λ s e. e ≡ write_error_of s };
 
     fn from(error: SinkError) -> Self {

@@ -1,12 +1,12 @@
 //! The bytes that a line reader holds: taking what is wanting of a line, and lending it.
-ghost use Rattle.std.specs.{Prelude.{◌≡◌, ◌≢◌, ◌+◌, ◌<◌, ◌≤◌, ◌++◌, length, vec_len, drop, IfOk, IfErr, OnOk, OnErr, MatchOption, ◌⊎◌, true, false}, Io.KnownBytes.{prepend_known, IsAtEnd}, Option.{option_copied}};
-ghost use Rattle.nav_io.specs.{Faults.{HasRisen}, Lines.{line_max, line_len, line_at_front, after_line}, Reading.{is_whole, has_bytes, bytes_at_front}};
+ghost use Rattle.std.specs.{Prelude.{◌≡◌, ◌≢◌, ◌+◌, ◌<◌, ◌≤◌, ◌++◌, length, vec_len, drop, IfOk, IfErr, OnOk, OnErr, MatchOption, true, false}, Io.KnownBytes.{prepend_known, IsAtEnd}, Option.{option_copied}};
+ghost use Rattle.nav_io.specs.{Faults.{HasRisen}, Lines.{line_max, line_len, line_at_front, after_line}, Reading.{reading_of, Finds, is_whole, has_bytes, bytes_at_front}};
 
 use super::search::{find_newline, newline_after, within_limit};
 use super::{LINE_MAX, LineError, NoMemory};
 use crate::Source;
 use crate::settling::Ballast;
-use crate::taking::{CHUNK, LONG, let_go, settle, take_chunk, take_until};
+use crate::taking::{CHUNK, LONG, let_go, take_chunk, take_until};
 
 /// Lets go of the bytes before `start` where they are more than half, so that all calls together move no more
 /// bytes than they let go.
@@ -33,10 +33,7 @@ pub(super) fn put_behind(
     ensures err { OnErr result (drop start.new held.new.items ≡ drop start.old held.old.items) }
 {
     compact_large(held, start);
-    match held.extend_from_slice(bytes) {
-        Ok(()) => Ok(()),
-        Err(_) => Err(NoMemory),
-    }
+    held.extend_from_slice(bytes).map_err(|_| NoMemory)
 }
 
 /// Takes chunks until a newline is held or the source is at its end, and answers the length of the first line. It takes
@@ -96,15 +93,10 @@ pub(super) fn find_line<S: Source>(
     requires searched { searched.old ≤ line_len (drop start.old held.old.items) }
     ensures within { start.new ≤ vec_len held.new }
     ensures searched { searched.new ≤ line_len (drop start.new held.new.items) }
-    ensures unread { is_whole
-        (record { front = drop start.old held.old.items; ended = ended.old }) ≡ true
+    ensures unread { is_whole (reading_of start.old held.old.items ended.old) ≡ true
         → source.new ≡ source.old }
-    ensures kept { prepend_known (drop start.new held.new.items) (S.left source.new)
-        ≡ prepend_known (drop start.old held.old.items) (S.left source.old) }
-    ensures past_end { ended.old ≡ true
-        → (drop start.new held.new.items ≡ drop start.old held.old.items)
-        × (S.left source.new ≡ S.left source.old) × (ended.new ≡ true) }
-    ensures at_end { ended.new ≡ true → (ended.old ≡ true) ⊎ IsAtEnd (S.left source.new) }
+    ensures finds { Finds (reading_of start.old held.old.items ended.old)
+        (reading_of start.new held.new.items ended.new) (S.left source.old) (S.left source.new) }
 
     ensures ok { IfOk result
         (λ n. (line_len (drop start.new held.new.items) ≡ n) × (n ≤ line_max)) }
@@ -125,8 +117,11 @@ pub(super) fn find_line<S: Source>(
     if let Some(len) = find_newline(held, *start, searched) {
         return Ok(within_limit(len)?);
     }
-    // Room is taken for what is unanswered alone, and behind a line that was answered there is mostly little.
-    settle(held, start, ballast);
+    // Room is taken for what is unanswered alone, and behind a line that was answered there is mostly little. After a very
+    // long line what its answer left is given back too.
+    if let_go(held, start) {
+        ballast.give_back();
+    }
     if *ended {
         return Ok(within_limit(held.len())?);
     }
@@ -166,14 +161,9 @@ pub(super) fn find_bytes<S: Source>(
     requires room { CHUNK ≤ length chunk.old }
     requires within { start.old ≤ vec_len held.old }
     ensures within { start.new ≤ vec_len held.new }
-    ensures kept { prepend_known (drop start.new held.new.items) (S.left source.new)
-        ≡ prepend_known (drop start.old held.old.items) (S.left source.old) }
-    ensures past_end { ended.old ≡ true
-        → (drop start.new held.new.items ≡ drop start.old held.old.items)
-        × (S.left source.new ≡ S.left source.old) × (ended.new ≡ true) }
-    ensures at_end { ended.new ≡ true → (ended.old ≡ true) ⊎ IsAtEnd (S.left source.new) }
-    ensures unread { has_bytes n
-        (record { front = drop start.old held.old.items; ended = ended.old }) ≡ true
+    ensures finds { Finds (reading_of start.old held.old.items ended.old)
+        (reading_of start.new held.new.items ended.new) (S.left source.old) (S.left source.new) }
+    ensures unread { has_bytes n (reading_of start.old held.old.items ended.old) ≡ true
         → source.new ≡ source.old }
 
     ensures ok { OnOk result (length (drop start.new held.new.items) < n → ended.new ≡ true) }
