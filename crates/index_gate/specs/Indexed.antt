@@ -32,37 +32,23 @@ HasFault doc fault = (graph_of_doc doc ≡ Err fault) ⊎ ((fault ≡ Heavy (max
 -- whether a fault tells of want of memory; no fault of a document does
 abbrev pub is_graph_memory : GraphFault → Bool
 is_graph_memory graph.NoMemory = true
-is_graph_memory (graph.TooManyNodes n) = false
-is_graph_memory (graph.TooManyEdges n) = false
-is_graph_memory (graph.BadEnd n) = false
-is_graph_memory (graph.JumpSource n) = false
-is_graph_memory (graph.BadScope n) = false
+is_graph_memory _ = false
 
 -- the same of a fault of a graph's text
 abbrev pub is_text_memory : GraphTextFault → Bool
 is_text_memory text.NoMemory = true
 is_text_memory (text.Graph fault) = is_graph_memory fault
-is_text_memory text.BadJson = false
-is_text_memory (text.BadShape part) = false
-is_text_memory (text.SameName n) = false
-is_text_memory (text.UnknownName part) = false
+is_text_memory _ = false
 
 -- the same of a fault of a Python text
 abbrev pub is_python_memory : PyFault → Bool
 is_python_memory python.NoMemory = true
-is_python_memory (python.NotAscii n) = false
-is_python_memory (python.BadIndent n) = false
-is_python_memory (python.BadToken n) = false
-is_python_memory (python.Unsupported n) = false
-is_python_memory (python.Expected n) = false
-is_python_memory (python.TooDeep n) = false
+is_python_memory _ = false
 
 -- the same of a fault of a translation
 abbrev pub is_table_memory : TransFault → Bool
 is_table_memory table.NoMemory = true
-is_table_memory table.BadName = false
-is_table_memory (table.TooManyNodes n) = false
-is_table_memory (table.TooManyEdges n) = false
+is_table_memory _ = false
 
 -- the same of any fault of a file
 abbrev pub is_memory : FileFault → Bool

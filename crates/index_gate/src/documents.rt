@@ -1,9 +1,9 @@
-ghost use Rattle.std.specs.Prelude.{◌≡◌, ◌<◌, ◌≤◌, ◌^◌, ◌||◌, true, false, length, Ok, Err};
+ghost use Rattle.std.specs.Prelude.{◌≡◌, ◌<◌, ◌≤◌, ◌^◌, length, Ok, Err};
 ghost use Rattle.graph_json.specs.Reading.{graph_from};
 ghost use Rattle.py_subset.specs.Whole.{parse_of};
 ghost use Rattle.py_graph.specs.Modules.{graph_of};
 ghost use Rattle.path_store.specs.Documents.{doc_of};
-ghost use Rattle.index_gate.specs.{Limits.{max_bytes}, Graphs.{from_text, from_table, from_module, graph_of_kind, graph_of_doc}, Indexed.{is_text_memory, is_python_memory, is_table_memory}, Reading.{IsReading, text_fault, module_fault, table_fault}};
+ghost use Rattle.index_gate.specs.{Limits.{max_bytes}, Graphs.{from_text, from_table, from_module, graph_of_kind, graph_of_doc}, Reading.{IsReading, text_fault, module_fault, table_fault}};
 
 use crate::fault::{FileFault, MAX_BYTES, ReadFault};
 use crate::kind::{DocumentKind, kind_of};
@@ -62,21 +62,11 @@ fn read_text(alloc: Global, bytes: &[u8]) -> Result<FileGraph, ReadFault>
 fn text_fault(fault: GraphTextFault) -> ReadFault
     ensures { result ≡ text_fault fault }
 {
-    if is_text_memory(fault) {
-        ReadFault::NoMemory
-    } else {
-        ReadFault::File(FileFault::Text(fault))
+    match fault {
+        GraphTextFault::NoMemory | GraphTextFault::Graph(GraphFault::NoMemory) =>
+            ReadFault::NoMemory,
+        fault => ReadFault::File(FileFault::Text(fault)),
     }
-}
-
-// Whether the fault tells of want of memory.
-fn is_text_memory(fault: GraphTextFault) -> bool
-    ensures { result ≡ is_text_memory fault }
-{
-    matches!(
-        fault,
-        GraphTextFault::NoMemory | GraphTextFault::Graph(GraphFault::NoMemory)
-    )
 }
 
 // The graph of a module at this path.
@@ -95,18 +85,10 @@ fn read_module(alloc: Global, path: &str, text: &[u8]) -> Result<FileGraph, Read
 fn module_fault(fault: PyFault) -> ReadFault
     ensures { result ≡ module_fault fault }
 {
-    if is_python_memory(fault) {
-        ReadFault::NoMemory
-    } else {
-        ReadFault::File(FileFault::Python(fault))
+    match fault {
+        PyFault::NoMemory => ReadFault::NoMemory,
+        fault => ReadFault::File(FileFault::Python(fault)),
     }
-}
-
-// Whether the fault tells of want of memory.
-fn is_python_memory(fault: PyFault) -> bool
-    ensures { result ≡ is_python_memory fault }
-{
-    matches!(fault, PyFault::NoMemory)
 }
 
 // The graph that the table makes of a module at this path.
@@ -124,16 +106,8 @@ fn read_table(alloc: Global, path: &str, tree: &Module) -> Result<FileGraph, Rea
 fn table_fault(fault: TransFault) -> ReadFault
     ensures { result ≡ table_fault fault }
 {
-    if is_table_memory(fault) {
-        ReadFault::NoMemory
-    } else {
-        ReadFault::File(FileFault::Named(fault))
+    match fault {
+        TransFault::NoMemory => ReadFault::NoMemory,
+        fault => ReadFault::File(FileFault::Named(fault)),
     }
-}
-
-// Whether the fault tells of want of memory.
-fn is_table_memory(fault: TransFault) -> bool
-    ensures { result ≡ is_table_memory fault }
-{
-    matches!(fault, TransFault::NoMemory)
 }
