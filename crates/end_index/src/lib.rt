@@ -13,6 +13,7 @@ mod side;
 mod source;
 
 pub use index::EndIndex;
+pub use nodes::file_in;
 pub use place::EndPlace;
 pub use runs::EndRuns;
 pub use source::{EndLook, EndSource};

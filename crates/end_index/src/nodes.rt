@@ -9,7 +9,7 @@ use stacks_vars::NodeAt;
 use version_tree::View;
 
 /// The paths of the file with that number; None where there is none.
-pub(crate) fn file_in(view: &View, file: usize) -> Option<&FilePaths>
+pub fn file_in(view: &View, file: usize) -> Option<&FilePaths>
     ensures value { option_copied result ≡ slice_get (files_of view.now) file }
     ensures small { IfSome result (λ _. file < 2 ^ 32) }
 {

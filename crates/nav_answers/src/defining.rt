@@ -10,7 +10,7 @@ use crate::found::{AskFault, At, ask_fault};
 use crate::meaning::{Asked, meant};
 use crate::rows::rows_of;
 use crate::source::ViewSource;
-use crate::viewed::file_in;
+use end_index::file_in;
 use graph_nodes::Span;
 use partial_path::Bounds;
 use root_index::RootIndex;

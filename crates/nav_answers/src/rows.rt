@@ -3,7 +3,7 @@ ghost use Rattle.shadowing.specs.Shadow.{unshadowed};
 ghost use Rattle.whole_search.specs.{declared.found.Hit.{Hit}, Answers.{IsRising, path_of, precedence_of, step_of}};
 ghost use Rattle.nav_answers.specs.{Kept.{HasEdges, IsEdgeOf, are_by, ends_of, is_by, is_next, run_paths}, Replies.{hit_of}, Sources.{graphs_seen}};
 
-use crate::viewed::file_in;
+use end_index::file_in;
 use partial_path::EdgeAt;
 use shadowing::{EdgeList, EdgeNo, EdgeStep, unshadowed};
 use stacks_vars::NodeAt;

@@ -7,7 +7,8 @@ ghost use Rattle.root_index.specs.Offers as roots;
 ghost use Rattle.nav_answers.specs.Sources.{offers_left};
 
 use crate::in_file::{next_inside, offers_inside, path_inside};
-use crate::viewed::{FileTable, are_sources, file_in};
+use crate::viewed::{FileTable, are_sources};
+use end_index::file_in;
 use partial_path::{FilePaths, ListOffers, PathSource, Spot, Start, StoredPath};
 use root_index::{RootIndex, RootOffers, SeenFiles};
 use stacks_vars::{LentStack, NodeAt, Symbol};
