@@ -2,7 +2,8 @@
 use Rattle.std.proofs.Common.{◌≡◌, ◌≤◌, ◌<◌, refl, sym, ap, ◌∙◌, subst, ℕ, suc, ◌+◌, ◌-◌, List, [], ◌∷◌, ◌++◌, map, filter, length, Bool, true, false, Some, arith, length-append, append_assoc, append-nil, ◌⊎◌, inl, inr}
 use Rattle.std.specs.Prelude.{All, IsTrue, Contains, ◌↔◌, ◌&&◌}
 use Rattle.std.specs.Option.{option_map}
-use Rattle.std.proofs.lemmas.Bool.{and_parts, and_from}
+use Rattle.std.specs.List.{AllByRecursion}
+use Rattle.std.proofs.lemmas.Bool.{false≢true, and_parts, and_from}
 use Rattle.std.proofs.lemmas.Option.{none-some, option_and_then_some}
 use Rattle.std.proofs.lemmas.List.{length-map}
 use Rattle.graph_nodes.specs.Whole.{is_definition_of}
@@ -15,7 +16,7 @@ use Rattle.partial_path.specs.declared.config.Spot.{Spot}
 use Rattle.partial_path.specs.declared.config.Spot.TheVariants.{At}
 use Rattle.partial_path.specs.declared.rule.Start.{Start}
 use Rattle.partial_path.specs.declared.rule.Start.TheVariants.{Before, After}
-use Rattle.partial_path.specs.Rules.{Rule}
+use Rattle.partial_path.specs.Rules.{Rule, start_spot}
 use Rattle.partial_path.specs.Apply.{apply, after_fixed, match_items, rests_of}
 use Rattle.partial_path.specs.Walks.{walk_of}
 use Rattle.partial_path.specs.PathSets.{FileRules}
@@ -25,12 +26,13 @@ use Rattle.list_facts.specs.Members.{IsIn}
 use Rattle.list_facts.specs.Apart.{IsApart}
 use Rattle.list_facts.proofs.Members.{IsIn-flat_map, IsIn-flat_map_from, IsIn-from_Contains, Contains-from_IsIn}
 use Rattle.list_facts.proofs.Apart.{IsApart-append_left}
+use Rattle.list_facts.proofs.Each.{all-append, all-left, all-middle, all_passed}
 use Rattle.list_facts.proofs.Tests.{filter-short}
 use Rattle.back_stitch.specs.Lists.{most_lists, at_start, LeadTo, IsBackList, HasMany, BeginsList}
 use Rattle.back_stitch.specs.Sources.{AreEnds}
 use Rattle.back_stitch.specs.Joined.{is_after, is_none}
 use Rattle.back_stitch.specs.Paths.{IsBackPath}
-use Rattle.back_stitch.specs.Held.{IsBack, IsHeld, AreHeld, begun_at, begun, AreThose, in_front, HasExtended, IsOverfull, HasGone, IsPast, AreListed, goes_on}
+use Rattle.back_stitch.specs.Held.{IsBack, IsHeld, AreHeld, begun_at, begun, AreThose, in_front, HasExtended, HasTried, IsOverfull, IsTriedPast, IsOpen, goes_on}
 use Rattle.back_stitch.proofs.Matched.{least, least_item, met_many}
 use Rattle.back_stitch.proofs.Applied.{applied_by}
 use Rattle.back_stitch.proofs.Stood.{leads_chain, stands_least, leads_of, list_of, paths_of, rest_of, nil_is, fit, IsFit}
@@ -116,6 +118,14 @@ asks_nothing j c next applied empty =
     and_from (is_none j.pre.symbols) (is_none j.pre.scopes.fixed) (symbols_none j.pre.symbols (omega (arith, n, z)))
     (fixed_none j.pre.scopes.fixed c.stacks.scopes front met (ap (λ (s : Stacks). s.scopes) empty)))
 
+-- each of the rules goes on
+abbrev pub GoOn : List Rule → Type 0
+GoOn rules = AllByRecursion (λ (j : Rule). goes_on j ≡ true) rules
+
+after_spot : (start : Start) → is_after start ≡ true → start ≡ After (start_spot start)
+after_spot (Before r) h = absurd (false≢true h)
+after_spot (After x) h = refl
+
 module _ (files : List FileRules) (d : NodeAt) (sources : All IsSourceFile files) (at : IsTrue (is_definition_of (graphs_of files) d.file d.node)) where
   begins_by : (paths : List P) (j : Rule) (r : NodeAt) → IsHeld files d paths j → IsIn r (begun j) → BeginsList (graphs_of files) d r
   begins_by paths j r held here =
@@ -159,13 +169,14 @@ module _ (files : List FileRules) (d : NodeAt) (sources : All IsSourceFile files
           let here = begun_in j.start (is_none j.pre.symbols && is_none j.pre.scopes.fixed) r (start_same files d h.paths j (Before r) held h.back) nothing in
           Contains-from_IsIn rows r (subst (λ (xs : List NodeAt). IsIn r xs) (sym s.told) (IsIn-flat_map begun j r rules in_rules here))
 
-  -- what the search knows, and the rules that it has still to go on from
+  -- what the search knows, and the rules that it has still to go on from, none of which begins before a reference
   pub record IsGoing (work : List Rule) (count : ℕ) (rows : List NodeAt) : Type 0 where
     pub opens : List (List P)
     pub noted : List (List P)
     pub rules : List Rule
     pub searched : IsSearched files d sources opens noted rules count rows
     pub held : AreHeld files d opens work
+    pub onward : GoOn work
 
   -- a rule that begins before a reference has nothing in front
   none_before : (paths : List P) (j : Rule) (r : NodeAt) → IsHeld files d paths j → j.start ≡ Before r → (p : P) → IsBack files d (p ∷ paths) → ⊥
@@ -220,51 +231,41 @@ module _ (files : List FileRules) (d : NodeAt) (sources : All IsSourceFile files
         rules = rules;
         searched = o.searched;
         held = subst (AreHeld files d o.opens) (sym w) o.held;
+        onward = subst GoOn (sym w) (all_passed goes_on rules);
       }
 
-  ends_past : (work : List Rule) (count new : ℕ) (rows after : List NodeAt) (more : List Rule) → IsGoing work count rows → (new ≡ count) × (after ≡ rows) × (more ≡ work) → IsGoing more new after
-  ends_past work count new rows after more g (a, b, c) =
-      subst (λ (n : ℕ). IsGoing more n after) (sym a) (subst (λ (xs : List NodeAt). IsGoing more count xs) (sym b) (subst (λ (js : List Rule). IsGoing js count rows) (sym c) g))
+  -- the rule that is gone on from begins behind the spot
+  start_last : (rest : List Rule) (j : Rule) (x : Spot) (count : ℕ) (rows : List NodeAt) → IsGoing (rest ++ j ∷ []) count rows → x ≡ start_spot j.start → j.start ≡ After x
+  start_last rest j x count rows g is = after_spot j.start (all-middle (λ (r : Rule). goes_on r ≡ true) j rest [] g.onward) ∙ ap After (sym is)
 
-  pub going_on : (listed : List P) (rest more : List Rule) (j : Rule) (count new : ℕ) (rows after : List NodeAt)
-      → AreListed files j.pre.symbols listed j.start → IsGoing (rest ++ j ∷ []) count rows
-      → ((paths : List P) → IsHeld files d paths j → HasGone files d paths listed j.start count new rows after rest more) → IsGoing more new after
-  going_on listed rest more j count new rows after ends g gone =
+  pub going_on : (rest more : List Rule) (j : Rule) (x : Spot) (count new : ℕ) (rows after : List NodeAt) → IsGoing (rest ++ j ∷ []) count rows → x ≡ start_spot j.start
+      → HasTried files x (Some j) count new rows after rest more → IsGoing more new after
+  going_on rest more j x count new rows after g is t =
       let l = last_of files d g.opens rest j g.held in
       let s = subst (λ (os : List (List P)). IsSearched files d sources os g.noted g.rules count rows) l.is g.searched in
-      by l.before l.paths l.held l.last s j.start refl ends (gone l.paths l.last)
+      let start = start_last rest j x count rows g is in
+      let (added, rules, e, w) = t.extended d l.paths at (l.last, start) in
+      let searched = searched_more files d sources l.before g.noted g.rules rules count new rows after l.paths added t.listed s
+      (listed_apart files d sources x j.pre.symbols t.listed t.ends) (behind l.paths l.last start) e in
+      let o = put_aside l.before (made files d sources l.paths added) (g.noted ++ made files d sources l.paths added) rules (g.rules ++ rules) new after e.held searched in record {
+        opens = l.before ++ o.opens;
+        noted = g.noted ++ made files d sources l.paths added;
+        rules = g.rules ++ rules;
+        searched = o.searched;
+        held = subst (AreHeld files d (l.before ++ o.opens)) (sym w) (held-append files d l.before o.opens rest (filter goes_on rules) l.held o.held);
+        onward = subst GoOn (sym w)
+            (all-append (λ (r : Rule). goes_on r ≡ true) rest (filter goes_on rules) (all-left (λ (r : Rule). goes_on r ≡ true) rest (j ∷ []) g.onward) (all_passed goes_on rules));
+      }
     where
-      behind : (paths : List P) (s : Spot) → IsHeld files d paths j → j.start ≡ After s → AreEnds files s j.pre.symbols listed → (p : P) → IsBack files d (p ∷ paths) → IsIn p listed
-      behind [] s held start ends p back = absurd held.joined.begins
-      behind (q ∷ paths) s held start ends p back = lists_behind files d sources s listed j q paths ends (sym start ∙ held.joined.begins) held p back
+      behind : (paths : List P) → IsHeld files d paths j → j.start ≡ After x → (p : P) → IsBack files d (p ∷ paths) → IsIn p t.listed
+      behind [] held start p back = absurd held.joined.begins
+      behind (q ∷ paths) held start p back = lists_behind files d sources x t.listed j q paths t.ends (sym start ∙ held.joined.begins) held p back
 
-      by : (before : List (List P)) (paths : List P) → AreHeld files d before rest → IsHeld files d paths j → IsSearched files d sources (before ++ paths ∷ []) g.noted g.rules count rows
-          → (start : Start) → j.start ≡ start → AreListed files j.pre.symbols listed start → HasGone files d paths listed start count new rows after rest more → IsGoing more new after
-      by before paths held last s (Before r) start ends done =
-          ends_past rest count new rows after more
-          record {
-            opens = before;
-            noted = g.noted;
-            rules = g.rules;
-            searched = subst (λ (os : List (List P)). IsSearched files d sources os g.noted g.rules count rows) (append-nil before)
-                (searched_past files d sources before [] g.noted g.rules count rows paths s (none_before paths j r last start));
-            held = held;
-          }
-          done
-      by before paths held last s (After x) start ends (added, rules, e, w) =
-          let more = searched_more files d sources before g.noted g.rules rules count new rows after paths added listed s (listed_apart files d sources x j.pre.symbols listed ends)
-          (behind paths x last start ends) e in
-          let o = put_aside before (made files d sources paths added) (g.noted ++ made files d sources paths added) rules (g.rules ++ rules) new after e.held more in record {
-            opens = before ++ o.opens;
-            noted = g.noted ++ made files d sources paths added;
-            rules = g.rules ++ rules;
-            searched = o.searched;
-            held = subst (AreHeld files d (before ++ o.opens)) (sym w) (held-append files d before o.opens rest (filter goes_on rules) held o.held);
-          }
-
-  -- the rule that is gone on from is within the bounds
-  pub open_last : (rest : List Rule) (j : Rule) (count : ℕ) (rows : List NodeAt) → IsGoing (rest ++ j ∷ []) count rows → IsFit (graphs_of files) j
-  open_last rest j count rows g = fit (graphs_of files) j (last_of files d g.opens rest j g.held).last.kept
+  -- and is within the bounds
+  pub open_last : (rest : List Rule) (j : Rule) (count : ℕ) (rows : List NodeAt) → IsGoing (rest ++ j ∷ []) count rows → IsOpen j
+  open_last rest j count rows g =
+      let fits = fit (graphs_of files) j (last_of files d g.opens rest j g.held).last.kept in
+      record { after = all-middle (λ (r : Rule). goes_on r ≡ true) j rest [] g.onward; short = fits.short; low = fits.low }
 
   -- what is left to do falls
   held_long : (all : List (List P)) (rules : List Rule) → AreHeld files d all rules → length rules ≡ length all
@@ -283,24 +284,15 @@ module _ (files : List FileRules) (d : NodeAt) (sources : All IsSourceFile files
       let i : length (made files d sources paths added) ≡ length added = length-map added (in_front paths) in
       omega (arith, n, m, s, k, i)
 
-  gone_long : (paths listed : List P) (start : Start) (old new : ℕ) (before after : List NodeAt) (work more : List Rule)
-      → HasGone files d paths listed start old new before after work more → old + length more ≤ new + length work
-  gone_long paths listed (Before r) old new before after work more (n, rows, w) = let m : length more ≡ length work = ap length w in omega (arith, n, m)
-  gone_long paths listed (After at) old new before after work more h = extended_long paths listed old new before after work more h
-
-  pub falls : (listed : List P) (rest more : List Rule) (j : Rule) (count new : ℕ) (rows after : List NodeAt) → IsGoing (rest ++ j ∷ []) count rows
-      → ((paths : List P) → IsHeld files d paths j → HasGone files d paths listed j.start count new rows after rest more) → new ≤ most_lists
-      → (most_lists - new) + length more < (most_lists - count) + length (rest ++ j ∷ [])
-  falls listed rest more j count new rows after g gone few =
+  pub falls : (rest more : List Rule) (j : Rule) (x : Spot) (count new : ℕ) (rows after : List NodeAt) → IsGoing (rest ++ j ∷ []) count rows → x ≡ start_spot j.start
+      → HasTried files x (Some j) count new rows after rest more → new ≤ most_lists → (most_lists - new) + length more < (most_lists - count) + length (rest ++ j ∷ [])
+  falls rest more j x count new rows after g is t few =
       let l = last_of files d g.opens rest j g.held in
-      let n : count + length more ≤ new + length rest = gone_long l.paths listed j.start count new rows after rest more (gone l.paths l.last) in
+      let h = t.extended d l.paths at (l.last, start_last rest j x count rows g is) in
+      let n : count + length more ≤ new + length rest = extended_long l.paths t.listed count new rows after rest more h in
       let m : length (rest ++ j ∷ []) ≡ length rest + 1 = length-append rest (j ∷ []) in
-      let k : count ≤ new = grows l.paths j.start (gone l.paths l.last) in
+      let k : new ≡ count + length h.0 = h.2.count in
       omega (arith, n, m, few, k)
-    where
-      grows : (paths : List P) (start : Start) → HasGone files d paths listed start count new rows after rest more → count ≤ new
-      grows paths (Before r) (is, rows, others) = omega (arith, is)
-      grows paths (After at) (added, rules, e, w) = let is : new ≡ count + length added = e.count in omega (arith, is)
 
   -- one too many
 
@@ -328,27 +320,22 @@ module _ (files : List FileRules) (d : NodeAt) (sources : All IsSourceFile files
       let full : 0 + length o.added ≡ most_lists = o.full in
       many files d sources (made files d sources [] added) (made_each files d sources [] added (o.part ++ o.next ∷ []) those) (made_apart files d sources [] added apart) (omega (arith, n, m, full))
 
-  pub many_on : (listed : List P) (rest : List Rule) (j : Rule) (count : ℕ) (rows : List NodeAt) → AreListed files j.pre.symbols listed j.start
-      → IsGoing (rest ++ j ∷ []) count rows → ((paths : List P) → IsHeld files d paths j → IsPast files d paths listed j.start count) → HasMany (graphs_of files) d
-  many_on listed rest j count rows ends g past =
+  pub many_on : (rest : List Rule) (j : Rule) (x : Spot) (count : ℕ) (rows : List NodeAt) → IsGoing (rest ++ j ∷ []) count rows → x ≡ start_spot j.start
+      → IsTriedPast files x (Some j) count → HasMany (graphs_of files) d
+  many_on rest j x count rows g is t =
       let l = last_of files d g.opens rest j g.held in
       let s = subst (λ (os : List (List P)). IsSearched files d sources os g.noted g.rules count rows) l.is g.searched in
-      by l.before l.paths s j.start ends (past l.paths l.last)
-    where
-      by : (before : List (List P)) (paths : List P) → IsSearched files d sources (before ++ paths ∷ []) g.noted g.rules count rows
-          → (start : Start) → AreListed files j.pre.symbols listed start → IsPast files d paths listed start count → HasMany (graphs_of files) d
-      by before paths s (Before r) ends past = absurd past
-      by before paths s (After x) ends o =
-          let those = those_more files d paths o.part o.added (o.next ∷ []) (o.next ∷ []) o.those (one_those paths o.next o.back) in
-          let added : List P = o.added ++ o.next ∷ [] in
-          let both = known_more files d sources before g.noted g.rules count rows paths added (o.part ++ o.next ∷ []) s
-          (part_apart o.part o.rest o.next listed o.whole (listed_apart files d sources x j.pre.symbols listed ends)) those in
-          let n : length added ≡ length o.added + 1 = length-append o.added (o.next ∷ []) in
-          let m : length (made files d sources paths added) ≡ length added = made_long paths added in
-          let k : length (g.noted ++ made files d sources paths added) ≡ length g.noted + length (made files d sources paths added) = length-append g.noted (made files d sources paths added) in
-          let c : count ≡ length g.noted = s.counted in
-          let full : count + length o.added ≡ most_lists = o.full in
-          many files d sources (g.noted ++ made files d sources paths added) both.0 both.1 (omega (arith, n, m, k, c, full))
+      let o = t.past d l.paths at (l.last, start_last rest j x count rows g is) in
+      let those = those_more files d l.paths o.part o.added (o.next ∷ []) (o.next ∷ []) o.those (one_those l.paths o.next o.back) in
+      let added : List P = o.added ++ o.next ∷ [] in
+      let both = known_more files d sources l.before g.noted g.rules count rows l.paths added (o.part ++ o.next ∷ []) s
+      (part_apart o.part o.rest o.next t.listed o.whole (listed_apart files d sources x j.pre.symbols t.listed t.ends)) those in
+      let n : length added ≡ length o.added + 1 = length-append o.added (o.next ∷ []) in
+      let m : length (made files d sources l.paths added) ≡ length added = made_long l.paths added in
+      let k : length (g.noted ++ made files d sources l.paths added) ≡ length g.noted + length (made files d sources l.paths added) = length-append g.noted (made files d sources l.paths added) in
+      let c : count ≡ length g.noted = s.counted in
+      let full : count + length o.added ≡ most_lists = o.full in
+      many files d sources (g.noted ++ made files d sources l.paths added) both.0 both.1 (omega (arith, n, m, k, c, full))
 
   -- in the end no rule is left to be gone on from
   none_left : (work : List Rule) (count : ℕ) (rows : List NodeAt) → work ≡ [] → IsGoing work count rows → (noted : List (List P)) × (rules : List Rule) × IsSearched files d sources [] noted rules count rows

@@ -110,35 +110,6 @@ pub record IsTriedPast (files : List FileRules) (at : Spot) (behind : Option Rul
   pub past : (d : NodeAt) (paths : List (ℕ × Rule)) → IsTrue (is_definition_of (graphs_of files) d.file d.node) → IsBehind files d paths at behind
       → IsOverfull files d paths listed old
 
--- what comes of what is listed in front of a rule with this start: before a reference nothing is
-abbrev pub HasGone : List FileRules → NodeAt → List (ℕ × Rule) → List (ℕ × Rule) → Start → ℕ → ℕ → List NodeAt → List NodeAt → List Rule → List Rule → Type 0
-HasGone files d paths listed (Before r) old new before after work more = (new ≡ old) × (after ≡ before) × (more ≡ work)
-HasGone files d paths listed (After at) old new before after work more = HasExtended files d paths listed old new before after work more
-
--- the paths are listed that may end where this start begins behind a spot, of those that agree with these symbols all
-abbrev pub AreListed : List FileRules → List SymPat → List (ℕ × Rule) → Start → Type 0
-AreListed files symbols listed (Before r) = ⊤
-AreListed files symbols listed (After at) = AreEnds files at symbols listed
-
--- the next path is one too many
-abbrev pub IsPast : List FileRules → NodeAt → List (ℕ × Rule) → List (ℕ × Rule) → Start → ℕ → Type 0
-IsPast files d paths listed (Before r) old = ⊥
-IsPast files d paths listed (After at) old = IsOverfull files d paths listed old
-
--- the rule was gone on from, with what a look-up gave, and this came of it
-pub record HasGoneOn (files : List FileRules) (j : Rule) (old new : ℕ) (before after : List NodeAt) (work more : List Rule) : Type 0 where
-  pub listed : List (ℕ × Rule)
-  pub ends : AreListed files j.pre.symbols listed j.start
-  pub gone : (d : NodeAt) (paths : List (ℕ × Rule)) → IsTrue (is_definition_of (graphs_of files) d.file d.node) → IsHeld files d paths j
-      → HasGone files d paths listed j.start old new before after work more
-
--- one of what a look-up in front of the rule gave is one too many
-pub record IsGonePast (files : List FileRules) (j : Rule) (old : ℕ) : Type 0 where
-  pub listed : List (ℕ × Rule)
-  pub ends : AreListed files j.pre.symbols listed j.start
-  pub past : (d : NodeAt) (paths : List (ℕ × Rule)) → IsTrue (is_definition_of (graphs_of files) d.file d.node) → IsHeld files d paths j
-      → IsPast files d paths listed j.start old
-
 -- a path behind which others are joined: it begins behind a spot and is within the bounds
 pub record IsOpen (j : Rule) : Type 0 where
   pub after : is_after j.start ≡ true

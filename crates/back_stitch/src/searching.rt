@@ -1,10 +1,10 @@
 //! Joining backward from a definition.
-ghost use Rattle.std.specs.Prelude.{◌≡◌, ◌≤◌, ◌↔◌, ℕ, List, length, All, Err, IfOk, OnOk, IsTrue, Contains};
+ghost use Rattle.std.specs.Prelude.{◌≡◌, ◌↔◌, All, Err, IfOk, OnOk, IsTrue, Contains};
 ghost use Rattle.graph_nodes.specs.Whole.{is_definition_of};
 ghost use Rattle.stacks_vars.specs.declared.scopes.NodeAt.{NodeAt};
 ghost use Rattle.list_facts.specs.Apart.{Pairs};
-ghost use Rattle.partial_path.specs.{Spots.{node_at}, Sources.{IsSourceFile, graphs_of}};
-ghost use Rattle.back_stitch.specs.{Lists.{most_lists, most_edges, most_depth, HasMany, BeginsList, ComesBefore, AreThoseThatReach}, Held.{HasGoneOn, IsGonePast}};
+ghost use Rattle.partial_path.specs.{Spots.{node_at}, Rules.{start_spot}, Sources.{IsSourceFile, graphs_of}};
+ghost use Rattle.back_stitch.specs.Lists.{HasMany, BeginsList, ComesBefore, AreThoseThatReach};
 
 use crate::extend::extend;
 use crate::fault::BackFault;
@@ -75,7 +75,8 @@ fn search<P: BackSource>(alloc: Global, source: &P, definition: NodeAt) -> Resul
         &mut tally,
     )?;
     while let Some(path) = work.pop() {
-        go_on(alloc, source, &path, &mut work, &mut tally)?;
+        let spot = begin_of(&path);
+        extend(alloc, source, spot, Some(&path), &mut work, &mut tally)?;
     }
     Ok(tally)
 }
@@ -87,29 +88,12 @@ fn are_sources<P: BackSource>(source: &P, at: Spot)
     source.ends(&at, &[]);
 }
 
-/// Joins each path in front of this one that may end where it begins and make what it asks for; none where it begins
-/// before a reference.
-fn go_on<P: BackSource>(
-    alloc: Global,
-    source: &P,
-    path: &PartialPath,
-    work: &mut Vec<PartialPath>,
-    tally: &mut Tally,
-) -> Result<(), BackFault>
-    requires sources { All IsSourceFile (P.files source.now) }
-    requires short { length path.now.edges ≤ most_edges }
-    requires low { path.now.peak ≤ most_depth }
-    requires few { tally.old.count ≤ most_lists }
-    ensures gone { OnOk result
-        (HasGoneOn
-        (P.files source.now) path.now tally.old.count tally.new.count
-        tally.old.rows.items tally.new.rows.items work.old.items work.new.items) }
-    ensures few { OnOk result (tally.new.count ≤ most_lists) }
-    ensures many { result ≡ Err BackFault.Many
-        → IsGonePast (P.files source.now) path.now tally.old.count }
+/// The spot at which the path begins.
+fn begin_of(path: &PartialPath) -> Spot
+    ensures { result ≡ start_spot path.now.start }
 {
     match path.start() {
-        Start::Before(_) => Ok(()),
-        Start::After(spot) => extend(alloc, source, spot, Some(path), work, tally),
+        Start::Before(node) => Spot::At(node),
+        Start::After(spot) => spot,
     }
 }

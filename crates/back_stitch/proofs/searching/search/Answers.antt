@@ -38,55 +38,45 @@ loop-path-init g c =
           (t.extended d [] at (refl, refl)))));
     }
 
-pub go_on-requires-clause-short : goal.go_on-requires-clause-short
-go_on-requires-clause-short g c =
+pub extend-requires-in-Some-clause-open : goal.extend-requires-in-Some-clause-open
+extend-requires-in-Some-clause-open g c =
     let files = g.P.BackSource.files c.args.source.now in
     let d = c.args.definition in
-    let going = c.loop-path.invariant.going c.are_sources.ensures c.requires.definition in
-    (open_last files d c.are_sources.ensures c.requires.definition c.pop.new.self.items c.in-Some.path c.loop-path.tally.count c.loop-path.tally.rows.items
-    (subst (λ (w : List Rule). IsGoing files d c.are_sources.ensures c.requires.definition w c.loop-path.tally.count c.loop-path.tally.rows.items) c.in-Some.ensures.items going)).short
-
-pub go_on-requires-clause-low : goal.go_on-requires-clause-low
-go_on-requires-clause-low g c =
-    let files = g.P.BackSource.files c.args.source.now in
-    let d = c.args.definition in
-    let going = c.loop-path.invariant.going c.are_sources.ensures c.requires.definition in
-    (open_last files d c.are_sources.ensures c.requires.definition c.pop.new.self.items c.in-Some.path c.loop-path.tally.count c.loop-path.tally.rows.items
-    (subst (λ (w : List Rule). IsGoing files d c.are_sources.ensures c.requires.definition w c.loop-path.tally.count c.loop-path.tally.rows.items) c.in-Some.ensures.items going)).low
+    open_last files d c.are_sources.ensures c.requires.definition c.pop.new.self.items c.in-Some.path c.loop-path.tally.count c.loop-path.tally.rows.items
+    (subst (λ (w : List Rule). IsGoing files d c.are_sources.ensures c.requires.definition w c.loop-path.tally.count c.loop-path.tally.rows.items) c.in-Some.ensures.items
+    (c.loop-path.invariant.going c.are_sources.ensures c.requires.definition))
 
 pub loop-path-smaller : goal.loop-path-smaller
 loop-path-smaller g c =
     let files = g.P.BackSource.files c.args.source.now in
     let d = c.args.definition in
-    let going = c.loop-path.invariant.going c.are_sources.ensures c.requires.definition in
-    subst (λ (w : List Rule). (most_lists - c.go_on.new.tally.count) + length c.go_on.new.work.items < (most_lists - c.loop-path.tally.count) + length w) (sym c.in-Some.ensures.items)
-    (falls files d c.are_sources.ensures c.requires.definition c.in_ok-go_on.ensures.gone.listed c.pop.new.self.items c.go_on.new.work.items c.in-Some.path c.loop-path.tally.count c.go_on.new.tally.count c.loop-path.tally.rows.items c.go_on.new.tally.rows.items
-    (subst (λ (w : List Rule). IsGoing files d c.are_sources.ensures c.requires.definition w c.loop-path.tally.count c.loop-path.tally.rows.items) c.in-Some.ensures.items going)
-    (λ paths held. c.in_ok-go_on.ensures.gone.gone d paths c.requires.definition held) c.in_ok-go_on.ensures.few)
+    subst (λ (w : List Rule). (most_lists - c.extend-in-Some.new.tally.count) + length c.extend-in-Some.new.work.items < (most_lists - c.loop-path.tally.count) + length w) (sym c.in-Some.ensures.items)
+    (falls files d c.are_sources.ensures c.requires.definition c.pop.new.self.items c.extend-in-Some.new.work.items c.in-Some.path c.begin_of-spot.result c.loop-path.tally.count c.extend-in-Some.new.tally.count c.loop-path.tally.rows.items c.extend-in-Some.new.tally.rows.items
+    (subst (λ (w : List Rule). IsGoing files d c.are_sources.ensures c.requires.definition w c.loop-path.tally.count c.loop-path.tally.rows.items) c.in-Some.ensures.items
+    (c.loop-path.invariant.going c.are_sources.ensures c.requires.definition))
+    c.begin_of-spot.ensures c.in_ok-extend-2.ensures.tried c.in_ok-extend-2.ensures.few)
 
 pub loop-path-preserved : goal.loop-path-preserved
 loop-path-preserved g c =
     let files = g.P.BackSource.files c.args.source.now in
     let d = c.args.definition in record {
-      few = c.in_ok-go_on.ensures.few;
+      few = c.in_ok-extend-2.ensures.few;
       going = λ sources at.
-          going_on files d sources at c.in_ok-go_on.ensures.gone.listed c.pop.new.self.items c.go_on.new.work.items c.in-Some.path c.loop-path.tally.count c.go_on.new.tally.count c.loop-path.tally.rows.items c.go_on.new.tally.rows.items
-          c.in_ok-go_on.ensures.gone.ends
+          going_on files d sources at c.pop.new.self.items c.extend-in-Some.new.work.items c.in-Some.path c.begin_of-spot.result c.loop-path.tally.count c.extend-in-Some.new.tally.count c.loop-path.tally.rows.items c.extend-in-Some.new.tally.rows.items
           (subst (λ (w : List Rule). IsGoing files d sources at w c.loop-path.tally.count c.loop-path.tally.rows.items) c.in-Some.ensures.items (c.loop-path.invariant.going sources at))
-          (λ paths held. c.in_ok-go_on.ensures.gone.gone d paths at held);
+          c.begin_of-spot.ensures c.in_ok-extend-2.ensures.tried;
     }
 
-pub returns-in_err-go_on-clause-many : goal.returns-in_err-go_on-clause-many
-returns-in_err-go_on-clause-many g c h =
+pub returns-in_err-extend-2-clause-many : goal.returns-in_err-extend-2-clause-many
+returns-in_err-extend-2-clause-many g c h =
     let files = g.P.BackSource.files c.args.source.now in
     let d = c.args.definition in
-    let fault = err_from_is_err_and c.from_residual-in_err-go_on.result c.from_residual-in_err-go_on.ensures.1 in
-    let was : c.go_on.result ≡ Err Many = cc (fault.1, fault.2, c.in_err-go_on.was, h) in
-    let t = c.go_on.ensures.many was in
-    many_on files d c.are_sources.ensures c.requires.definition t.listed c.pop.new.self.items c.in-Some.path c.loop-path.tally.count c.loop-path.tally.rows.items
-    t.ends
-    (subst (λ (w : List Rule). IsGoing files d c.are_sources.ensures c.requires.definition w c.loop-path.tally.count c.loop-path.tally.rows.items) c.in-Some.ensures.items (c.loop-path.invariant.going c.are_sources.ensures c.requires.definition))
-    (λ paths held. t.past d paths c.requires.definition held)
+    let fault = err_from_is_err_and c.from_residual-in_err-extend-2.result c.from_residual-in_err-extend-2.ensures.1 in
+    let was : c.extend-in-Some.result ≡ Err Many = cc (fault.1, fault.2, c.in_err-extend-2.was, h) in
+    many_on files d c.are_sources.ensures c.requires.definition c.pop.new.self.items c.in-Some.path c.begin_of-spot.result c.loop-path.tally.count c.loop-path.tally.rows.items
+    (subst (λ (w : List Rule). IsGoing files d c.are_sources.ensures c.requires.definition w c.loop-path.tally.count c.loop-path.tally.rows.items) c.in-Some.ensures.items
+    (c.loop-path.invariant.going c.are_sources.ensures c.requires.definition))
+    c.begin_of-spot.ensures (c.extend-in-Some.ensures.many was)
 
 pub returns-clause-begin : goal.returns-clause-begin
 returns-clause-begin g c =
