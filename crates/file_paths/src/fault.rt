@@ -1,7 +1,7 @@
 ghost use Rattle.std.specs.Prelude.{◌≡◌};
 ghost use Rattle.file_paths.specs.declared.fault.PathsFault.TheVariants.{NoMemory};
 
-use std::alloc::{AllocError, AllocFailed};
+use std::alloc::AllocError;
 use std::fmt;
 
 /// Why the paths of a file aren't stored.
@@ -29,14 +29,6 @@ impl From<AllocError> for PathsFault {
     ghost from_gives = { λ _ fault. fault ≡ NoMemory };
 
     fn from(_: AllocError) -> PathsFault {
-        PathsFault::NoMemory
-    }
-}
-
-impl<T: Drop> From<AllocFailed<T>> for PathsFault {
-    ghost from_gives = { λ _ fault. fault ≡ NoMemory };
-
-    fn from(_: AllocFailed<T>) -> PathsFault {
         PathsFault::NoMemory
     }
 }

@@ -2,7 +2,7 @@ ghost use Rattle.std.specs.Prelude.{◌≡◌};
 ghost use Rattle.stitcher.specs.declared.found.StitchFault.TheVariants.{NoMemory};
 
 use crate::complete::CompleteRun;
-use std::alloc::{AllocError, AllocFailed};
+use std::alloc::AllocError;
 use std::fmt;
 
 /// The bounded complete runs of a reference, each once, and whether a counted run was left out for its length or
@@ -35,14 +35,6 @@ impl From<AllocError> for StitchFault {
     ghost from_gives = { λ _ fault. fault ≡ NoMemory };
 
     fn from(_: AllocError) -> StitchFault {
-        StitchFault::NoMemory
-    }
-}
-
-impl<T: Drop> From<AllocFailed<T>> for StitchFault {
-    ghost from_gives = { λ _ fault. fault ≡ NoMemory };
-
-    fn from(_: AllocFailed<T>) -> StitchFault {
         StitchFault::NoMemory
     }
 }

@@ -135,7 +135,8 @@ fn advance<'a, P: PathSource>(
     let depth = from.depth;
     let edges = from.edges;
     cut_back(room, trail, depth);
-    trail.push(from.level)?;
+    trail.reserve(1)?;
+    trail.push_reserved(from.level);
     let at = &trail[depth].at;
     let begin = Start::After(at.spot());
     let here = Standing {

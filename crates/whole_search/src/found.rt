@@ -2,7 +2,7 @@ ghost use Rattle.std.specs.Prelude.{◌≡◌};
 ghost use Rattle.whole_search.specs.declared.found.SearchFault.TheVariants.{NoMemory};
 
 use stacks_vars::Listed;
-use std::alloc::{AllocError, AllocFailed};
+use std::alloc::AllocError;
 use std::fmt;
 
 /// A node that answers a query: its file's place in the list of files, and its position in that file.
@@ -44,14 +44,6 @@ impl From<AllocError> for SearchFault {
     ghost from_gives = { λ _ fault. fault ≡ NoMemory };
 
     fn from(_: AllocError) -> SearchFault {
-        SearchFault::NoMemory
-    }
-}
-
-impl<T: Drop> From<AllocFailed<T>> for SearchFault {
-    ghost from_gives = { λ _ fault. fault ≡ NoMemory };
-
-    fn from(_: AllocFailed<T>) -> SearchFault {
         SearchFault::NoMemory
     }
 }

@@ -20,3 +20,4 @@ mod watch;
 pub use answer::{is_reference, search};
 pub use found::{Found, Hit, Hits, SearchFault};
 pub use partial_path::Bounds;
+pub use rows::in_order;

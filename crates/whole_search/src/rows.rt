@@ -29,7 +29,7 @@ pub fn rows_of(
 }
 
 /// These rows in file order, each once.
-fn in_order(rows: Vec<Hit>) -> Vec<Hit>
+pub fn in_order(rows: Vec<Hit>) -> Vec<Hit>
     ensures rising { IsRising result.items }
     ensures exact { (hit : Hit) → Contains result.items hit ↔ Contains rows.items hit }
 {

@@ -65,7 +65,8 @@ impl Tally {
         if !complete {
             return Ok(());
         }
-        self.runs.push(reached.run.copy(alloc)?)?;
+        self.runs.reserve(1)?;
+        self.runs.push_reserved(reached.run.copy(alloc)?);
         Ok(())
     }
 }

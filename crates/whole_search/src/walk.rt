@@ -24,7 +24,8 @@ pub fn walk(alloc: Global, query: &Query) -> Result<Tally, SearchFault>
     ensures crowded { result ≡ Err SearchFault.Crowded → MAX_RUNS < length (counted_met query.now) }
 {
     let mut stack = Vec::new(alloc);
-    stack.push(Open::first(alloc, query.bounds, query.start)?)?;
+    stack.reserve(1)?;
+    stack.push_reserved(Open::first(alloc, query.bounds, query.start)?);
     let mut tally = Tally::new(alloc);
     let mut watch = Watch::new(alloc);
     while let Some(reached) = stack.pop() {

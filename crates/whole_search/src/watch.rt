@@ -97,8 +97,8 @@ impl Watch {
         self.fruitless <= PATIENCE
     }
 
-    /// Looks for dead ends among the places all of whose runs were met, now that so many runs are open and
-    /// so many have counted.
+    /// Keeps those of the places that are dead ends, of which all runs were met and none counted, now that so many runs
+    /// are open and so many have counted.
     pub fn settle(
         &mut self,
         alloc: Global,
@@ -113,7 +113,12 @@ impl Watch {
             (All (IsDeadEnd query.now.files.now) self.new.dead_ends.kept.items) }
     {
         while let Some(place) = self.pop_met(open) {
-            self.close(alloc, query, place, counted)?;
+            // Where a run from here counted, it leads somewhere: the edges needn't be tried.
+            if place.counted == counted
+                && leads_nowhere(alloc, query, &self.dead_ends, &place.at)?
+            {
+                self.dead_ends.keep(alloc, place.at, place.weight)?;
+            }
         }
         Ok(())
     }
@@ -139,31 +144,6 @@ impl Watch {
             Some(place) => open < place.open,
             None => false,
         }
-    }
-
-    /// Keeps the place where it is a dead end and none of its runs counted.
-    fn close(
-        &mut self,
-        alloc: Global,
-        query: &Query,
-        place: Place,
-        counted: usize,
-    ) -> Result<(), AllocError>
-        requires files { length query.now.files.now < 2 ^ 32 }
-        requires live { IsLive (live_at query.now.leads.now) query.now.files.now }
-        requires dead_ends { All (IsDeadEnd query.now.files.now) self.old.dead_ends.kept.items }
-        ensures dead_ends { OnOk result
-            (All (IsDeadEnd query.now.files.now) self.new.dead_ends.kept.items) }
-        ensures places { OnOk result (self.new.places.items ≡ self.old.places.items) }
-    {
-        // A run from here counted, so it leads somewhere: the edges needn't be tried.
-        if place.counted != counted {
-            return Ok(());
-        }
-        if !leads_nowhere(alloc, query, &self.dead_ends, &place.at)? {
-            return Ok(());
-        }
-        self.dead_ends.keep(alloc, place.at, place.weight)
     }
 }
 

@@ -10,6 +10,6 @@ use Rattle.stitcher.proofs.stitching.advance.Goals as goal
 pub extend-requires : goal.extend-requires
 extend-requires g c =
     let levels : c.deref.result.now ≡ levels_of c.args.trail.now.items c.args.from =
-    c.deref.ensures.value ∙ (c.in_ok-push.ensures.items ∙ ap (λ (ls : List Level). ls ++ c.args.from.level ∷ []) c.cut_back.ensures) in
-    let last = last_level c.args.trail.now.items c.args.from c.index.result.now c.push.new.self.items c.requires.open.depth (sym c.deref.ensures.value ∙ levels) c.index.ensures in
+    c.deref.ensures.value ∙ (c.push_reserved.ensures.items ∙ ap (λ (ls : List Level). ls ++ c.args.from.level ∷ []) (c.in_ok-reserve.ensures.items ∙ c.cut_back.ensures)) in
+    let last = last_level c.args.trail.now.items c.args.from c.index.result.now c.push_reserved.new.self.items c.requires.open.depth (sym c.deref.ensures.value ∙ levels) c.index.ensures in
     record { here = stands_open c.args.search.now c.requires.asked _ c.args.trail.now.items c.args.from c.requires.open levels (ap landed_at last) (ap After c.spot.ensures) refl }
