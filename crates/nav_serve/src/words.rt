@@ -71,7 +71,8 @@ fn or_status(found: Result<Option<Command>, AllocError>) -> Result<Command, u8>
 
 /// No command, unless memory was refused: then nothing is known of the words.
 fn refused(kind: ErrorKind) -> Result<Option<Command>, AllocError>
-    ensures { IfOk result (λ command. (command ≡ None) × (kind ≡ ErrorKind.OutOfMemory → ⊥)) }
+    ensures { IfOk result
+        (λ command. (command ≡ None) × (kind ≡ ErrorKind.OutOfMemory → ⊥)) }
 {
     match kind {
         ErrorKind::OutOfMemory => Err(AllocError),

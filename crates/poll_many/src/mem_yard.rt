@@ -84,7 +84,8 @@ impl Yard for MemYard {
         ensures back { Some self.new.back ≡ Some self.old.back }
         ensures no_more_back { HasOut (Some self.new.gave) (Some self.new.back) 0 }
         ensures count { self.old.faults ≤ self.new.faults }
-        ensures cause { result ≡ Err HouseFault.Failed → HasRisen self.old.faults self.new.faults }
+        ensures cause { result ≡ Err HouseFault.Failed
+            → HasRisen self.old.faults self.new.faults }
 
         // It gives the port that it was made with, once, and fails as it was told to, or where it gave it before.
         ensures first { IfOk result (λ given. self.old.held ≡ Some given) }
