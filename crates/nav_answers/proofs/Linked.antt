@@ -1,16 +1,15 @@
 -- Links in their order: how they come into it, and that those to one definition stand together.
-use Rattle.std.proofs.Common.{◌≡◌, refl, sym, ◌∙◌, ap, subst, ℕ, ◌+◌, ◌<◌, List, [], ◌∷◌, ◌++◌, take, drop, length, get_or, Bool, true, eqb, eqb-true, ◌&&◌, Contains, ◌↔◌, arith, append_assoc, inl, inr, ◌⊎◌, map}
+use Rattle.std.proofs.Common.{◌≡◌, refl, sym, ◌∙◌, ap, subst, ℕ, ◌+◌, ◌<◌, List, [], ◌∷◌, ◌++◌, take, drop, length, get_or, Bool, true, ◌&&◌, Contains, ◌↔◌, append_assoc, inl, inr, ◌⊎◌, map}
 use Rattle.std.specs.Global.{Vec}
 use Rattle.std.specs.Prelude.{filter, false}
 use Rattle.std.specs.List.{AllByRecursion, dedup, prefix_len}
 use Rattle.std.specs.List.Sorted.{IsStrictlySortedBy, IsSorted, IsPermutation, IsNonDecreasingBy, IsPartitionedBy}
 use Rattle.std.specs.Cmp.{IsTotalOrder, IsEquivalence, tied_then}
-use Rattle.std.specs.Ordering.{nat_cmp, ordering_then, ordering_reverse, ordering_index, eq_by_cmp, is_lt, is_eq}
+use Rattle.std.specs.Ordering.{ordering_then, ordering_reverse, ordering_index, eq_by_cmp, is_lt, is_eq}
 use Rattle.std.specs.declared.cmp.Ordering.{Ordering}
 use Rattle.std.specs.declared.cmp.Ordering.TheVariants.{Less, Equal, Greater}
 use Rattle.std.proofs.lemmas.Bool.{and_parts}
-use Rattle.std.proofs.lemmas.Bool.Decides.{nat_tests}
-use Rattle.std.proofs.lemmas.Cmp.{then_total, on_total, on_equiv, and_equiv, nat_eq_equiv, nat_cmp_total, tied_itself}
+use Rattle.std.proofs.lemmas.Cmp.{then_total, on_total, on_equiv, and_equiv, tied_itself}
 use Rattle.std.proofs.lemmas.List.{take_more, append-nil, map-append}
 use Rattle.std.proofs.lemmas.List.Concat.{flat_map-append}
 use Rattle.std.proofs.lemmas.List.Elements.{filter-append}
@@ -23,56 +22,32 @@ use Rattle.list_facts.proofs.Pairs.{Pairs-filter, Pairs-adjacent}
 use Rattle.partial_path.proofs.Halved.{parted_before, parted_there, there_is}
 use Rattle.whole_search.specs.declared.found.Hit.{Hit}
 use Rattle.whole_search.specs.Answers.{IsRising}
-use Rattle.whole_search.proofs.InOrder.{IsRising-from_sorted}
+use Rattle.whole_search.proofs.InOrder.{IsRising-from_sorted, by_place_total, same_place, same_place_equiv, same_place_ties, same_place_is}
 use Rattle.nav_answers.specs.declared.links.Link.{Link}
 use Rattle.nav_answers.specs.Links.{link_of, by_hit, by_link, link_side, is_before, is_link_to, links_in, references_among, rows_of_one, rows_of_any, links_to_one, links_to_any}
 
--- the orders of nodes and links
-by_hit_total : IsTotalOrder by_hit
-by_hit_total = then_total (on_total (λ (h : Hit). h.file) nat_cmp_total) (on_total (λ (h : Hit). h.node) nat_cmp_total)
-
+-- the order of links
 by_link_total : IsTotalOrder by_link
-by_link_total = then_total (on_total (λ (l : Link). l.definition) by_hit_total) (on_total (λ (l : Link). l.reference) by_hit_total)
+by_link_total = then_total (on_total (λ (l : Link). l.definition) by_place_total) (on_total (λ (l : Link). l.reference) by_place_total)
 
 -- whether two are the same
-abbrev pub same_node : Hit → Hit → Bool
-same_node a b = eqb a.file b.file && eqb a.node b.node
-
 abbrev pub same_link : Link → Link → Bool
-same_link a b = same_node a.definition b.definition && same_node a.reference b.reference
-
-same_node_equiv : IsEquivalence same_node
-same_node_equiv = and_equiv (on_equiv (λ (h : Hit). h.file) nat_eq_equiv) (on_equiv (λ (h : Hit). h.node) nat_eq_equiv)
+same_link a b = same_place a.definition b.definition && same_place a.reference b.reference
 
 same_link_equiv : IsEquivalence same_link
-same_link_equiv = and_equiv (on_equiv (λ (l : Link). l.definition) same_node_equiv) (on_equiv (λ (l : Link). l.reference) same_node_equiv)
-
-eqb_ties : (a b : ℕ) → eqb a b ≡ is_eq (nat_cmp a b)
-eqb_ties a b = grind (arith, nat_tests)
-
-same_node_ties : (a b : Hit) → same_node a b ≡ is_eq (by_hit a b)
-same_node_ties a b =
-    ap (λ x. x && eqb a.node b.node) (eqb_ties a.file b.file)
-    ∙ (ap (λ x. is_eq (nat_cmp a.file b.file) && x) (eqb_ties a.node b.node) ∙ tied_then (nat_cmp a.file b.file) (nat_cmp a.node b.node))
+same_link_equiv = and_equiv (on_equiv (λ (l : Link). l.definition) same_place_equiv) (on_equiv (λ (l : Link). l.reference) same_place_equiv)
 
 same_link_ties : (a b : Link) → same_link a b ≡ eq_by_cmp by_link a b
 same_link_ties a b =
-    ap (λ x. x && same_node a.reference b.reference) (same_node_ties a.definition b.definition)
-    ∙ (ap (λ x. is_eq (by_hit a.definition b.definition) && x) (same_node_ties a.reference b.reference)
+    ap (λ x. x && same_place a.reference b.reference) (same_place_ties a.definition b.definition)
+    ∙ (ap (λ x. is_eq (by_hit a.definition b.definition) && x) (same_place_ties a.reference b.reference)
     ∙ tied_then (by_hit a.definition b.definition) (by_hit a.reference b.reference))
-
-same_node_is : (a b : Hit) → same_node a b ≡ true → a ≡ b
-same_node_is a b t =
-    let p = and_parts (eqb a.file b.file) (eqb a.node b.node) t in
-    let f = eqb-true a.file b.file p.0 in
-    let n = eqb-true a.node b.node p.1 in
-    λ i. record { file = f i; node = n i }
 
 same_link_is : (a b : Link) → same_link a b ≡ true → a ≡ b
 same_link_is a b t =
-    let p = and_parts (same_node a.definition b.definition) (same_node a.reference b.reference) t in
-    let d = same_node_is a.definition b.definition p.0 in
-    let r = same_node_is a.reference b.reference p.1 in
+    let p = and_parts (same_place a.definition b.definition) (same_place a.reference b.reference) t in
+    let d = same_place_is a.definition b.definition p.0 in
+    let r = same_place_is a.reference b.reference p.1 in
     λ i. record { definition = d i; reference = r i }
 
 -- sorted links, each once, are in order, and are the links that they were
@@ -88,10 +63,10 @@ same_links list sorted kept moved is link = (
 
 -- whether a link is to a definition
 pub to_it : (definition : Hit) (link : Link) → is_link_to definition link ≡ true → link.definition ≡ definition
-to_it definition link t = same_node_is link.definition definition (same_node_ties link.definition definition ∙ t)
+to_it definition link t = same_place_is link.definition definition (same_place_ties link.definition definition ∙ t)
 
 pub is_to_it : (definition : Hit) (link : Link) → link.definition ≡ definition → is_link_to definition link ≡ true
-is_to_it definition link e = ap (λ (d : Hit). is_eq (by_hit d definition)) e ∙ ap is_eq (tied_itself by_hit_total definition)
+is_to_it definition link e = ap (λ (d : Hit). is_eq (by_hit d definition)) e ∙ ap is_eq (tied_itself by_place_total definition)
 
 -- each two of them, the one before the other
 abbrev IsBelow : Link → Link → Type 0
@@ -109,12 +84,12 @@ not_behind Greater p e = cc
 
 definitions_rise : (a b : Link) → IsBelow a b → is_lt (by_hit b.definition a.definition) ≡ false
 definitions_rise a b h =
-    ap is_lt (by_hit_total.antisymm b.definition a.definition) ∙ not_behind (by_hit a.definition b.definition) (by_hit a.reference b.reference) h
+    ap is_lt (by_place_total.antisymm b.definition a.definition) ∙ not_behind (by_hit a.definition b.definition) (by_hit a.reference b.reference) h
 
 module _ (list : List Link) (order : IsStrictlySortedBy by_link list) (definition : Hit) where
   sides_rise : IsNonDecreasingBy (λ (link : Link). ordering_index (by_hit link.definition definition)) list
   sides_rise =
-      searchable_from_sorted by_hit_total (λ (link : Link). link.definition) list definition
+      searchable_from_sorted by_place_total (λ (link : Link). link.definition) list definition
       (λ k d low lt. definitions_rise (get_or list k d) (get_or list (k + 1) d) (Pairs-adjacent IsBelow list (in_pairs list order) k d lt))
 
   pub first_parted : IsPartitionedBy (is_before definition) list
@@ -183,7 +158,7 @@ put_there a (b ∷ bs) = by (by_hit a b) refl (put_there a bs)
   where
     by : (o : Ordering) → by_hit a b ≡ o → IsIn a (put a bs) → IsIn a (put_by o a b bs (put a bs))
     by Less e m = inl refl
-    by Equal e m = inl (same_node_is a b (same_node_ties a b ∙ ap is_eq e))
+    by Equal e m = inl (same_place_is a b (same_place_ties a b ∙ ap is_eq e))
     by Greater e m = inr m
 
 put_keeps : (a x : Hit) (bs : List Hit) → IsIn x bs → IsIn x (put a bs)
@@ -203,10 +178,10 @@ put_rises a [] h = (tt, tt)
 put_rises a (b ∷ bs) h = by (by_hit a b) refl (put_rises a bs h.1)
   where
     after : by_hit a b ≡ Less → (y : Hit) → IsIn y bs → by_hit a y ≡ Less
-    after e y m = by_hit_total.trans a b y e (at_member (λ (y : Hit). by_hit b y ≡ Less) y bs h.0 m)
+    after e y m = by_place_total.trans a b y e (at_member (λ (y : Hit). by_hit b y ≡ Less) y bs h.0 m)
 
     below : by_hit a b ≡ Greater → (y : Hit) → (y ≡ a) ⊎ IsIn y bs → by_hit b y ≡ Less
-    below e y (inl same) = ap (by_hit b) same ∙ by_hit_total.antisymm b a ∙ ap ordering_reverse e
+    below e y (inl same) = ap (by_hit b) same ∙ by_place_total.antisymm b a ∙ ap ordering_reverse e
     below e y (inr m) = at_member (λ (y : Hit). by_hit b y ≡ Less) y bs h.0 m
 
     by : (o : Ordering) → by_hit a b ≡ o → IsStrictlySortedBy by_hit (put a bs) → IsStrictlySortedBy by_hit (put_by o a b bs (put a bs))

@@ -14,7 +14,7 @@ use crate::meaning::{Asked, meant};
 use crate::over::Over;
 use crate::parts::Parts;
 use crate::referring::{MOST_LINKS, references_to};
-use crate::rows::{hit_of, in_order};
+use crate::rows::hit_of;
 use crate::sharing::ask_all;
 use crate::source::{ForMany, ViewSource};
 use back_stitch::BackFault;
@@ -25,7 +25,7 @@ use stacks_vars::NodeAt;
 use std::alloc::{AllocError, Global};
 use std::thread::Threads;
 use version_tree::{Rows, View};
-use whole_search::Hit;
+use whole_search::{Hit, in_order};
 
 /// How many references for each file pay for tables of the files. Counted in instructions, the table of numbers takes for
 /// a file what it saves for four to seven references.

@@ -12,7 +12,7 @@ use crate::listing::all_references;
 use crate::meaning::{Asked, meant};
 use crate::over::Over;
 use crate::parts::Parts;
-use crate::rows::{hit_of, in_order};
+use crate::rows::hit_of;
 use crate::sharing::ask_all;
 use crate::source::{ForMany, ViewSource};
 use nav_io::Gate;
@@ -22,7 +22,7 @@ use std::alloc::{AllocError, Global};
 use std::thread::Threads;
 use stitcher::StitchFault;
 use version_tree::{Answer, View};
-use whole_search::{Found, Hit, Hits};
+use whole_search::{Found, Hit, Hits, in_order};
 
 /// How many links there may be to definitions that aren't meant. A link has 16 bytes, so these have 32 MB.
 pub const MOST_LINKS: usize = 2_097_152;

@@ -10,7 +10,7 @@ use stacks_vars::NodeAt;
 use std::alloc::{AllocError, Global};
 use stitcher::CompleteRun;
 use version_tree::View;
-use whole_search::Hit;
+use whole_search::{Hit, in_order};
 
 /// The nodes at which those of the runs end that no other of them shadows, each once in file order; the one error
 /// is want of memory.
@@ -40,17 +40,6 @@ fn ends_alone(alloc: Global, _view: &View, runs: &[CompleteRun<'_>]) -> Result<V
         rows.push(hit_of(run.end()))?;
     }
     Ok(rows)
-}
-
-/// These rows in file order, each once.
-pub fn in_order(rows: Vec<Hit>) -> Vec<Hit>
-    ensures rising { IsRising result.items }
-    ensures exact { (hit : Hit) → Contains result.items hit ↔ Contains rows.items hit }
-{
-    let mut rows = rows;
-    rows.sort_unstable();
-    rows.dedup();
-    rows
 }
 
 /// The nodes at which those of the runs end that are kept; the kept ones stand in the order of the runs.

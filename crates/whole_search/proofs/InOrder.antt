@@ -50,18 +50,18 @@ exact_along rows ends others e h =
 abbrev pub same_place : Hit → Hit → Bool
 same_place a b = eqb a.file b.file && eqb a.node b.node
 
-same_place_equiv : IsEquivalence same_place
+pub same_place_equiv : IsEquivalence same_place
 same_place_equiv = and_equiv (on_equiv (λ (h : Hit). h.file) nat_eq_equiv) (on_equiv (λ (h : Hit). h.node) nat_eq_equiv)
 
 eqb_ties : (a b : ℕ) → eqb a b ≡ is_eq (nat_cmp a b)
 eqb_ties a b = grind (arith, nat_tests)
 
-same_place_ties : (a b : Hit) → same_place a b ≡ eq_by_cmp by_place a b
+pub same_place_ties : (a b : Hit) → same_place a b ≡ eq_by_cmp by_place a b
 same_place_ties a b =
     ap (λ x. x && eqb a.node b.node) (eqb_ties a.file b.file)
     ∙ (ap (λ x. is_eq (nat_cmp a.file b.file) && x) (eqb_ties a.node b.node) ∙ tied_then (nat_cmp a.file b.file) (nat_cmp a.node b.node))
 
-same_place_is : (a b : Hit) → same_place a b ≡ true → a ≡ b
+pub same_place_is : (a b : Hit) → same_place a b ≡ true → a ≡ b
 same_place_is a b t =
     let p = and_parts (eqb a.file b.file) (eqb a.node b.node) t in
     let f = eqb-true a.file b.file p.0 in
