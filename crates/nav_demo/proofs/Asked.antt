@@ -12,6 +12,7 @@ use Rattle.nav_proto.specs.declared.reply.Reply.{Reply}
 use Rattle.nav_session.specs.Sessions.{Session, opened, IsAnswered}
 use Rattle.nav_session.specs.Desks.{Moment, session_of, session_at, HasItsView, GoesOn, Replies}
 use Rattle.nav_session.proofs.CallerLemmas.{answered_later}
+use Rattle.nav_session.proofs.Chains.{chain_by, chain_more}
 use Rattle.nav_demo.specs.declared.totals.Totals.{Totals}
 use Rattle.nav_demo.specs.MadeTree.{made_commit, made_commits, committing, query, queries}
 use Rattle.nav_demo.specs.Summary.{AreAnswered, IsSummary, nothing, totals_with, totals_after, summary_text}
@@ -20,23 +21,9 @@ use Rattle.nav_demo.specs.Inside.{Answered, Totalled}
 -- what is replied over a log is replied over each longer one
 all_later : (seat : ℕ) (log log' : List Entry) (before : Session) (requests : List Request) (replies : List Reply) (after : Session)
     → Begins log log' → AreAnswered seat log before requests replies after → AreAnswered seat log' before requests replies after
-all_later seat log log' before [] [] after b h = h
-all_later seat log log' before [] (reply ∷ replies) after b h = h
-all_later seat log log' before (request ∷ requests) [] after b h = h
-all_later seat log log' before (request ∷ requests) (reply ∷ replies) after b h =
-    (h.0, answered_later seat log log' before request reply h.0 b h.1, all_later seat log log' h.0 requests replies after b h.2)
-
--- one reply more
-one_more : (seat : ℕ) (log : List Entry) (before : Session) (requests : List Request) (replies : List Reply) (mid : Session)
-    (request : Request) (reply : Reply) (after : Session)
-    → AreAnswered seat log before requests replies mid → IsAnswered seat log mid request reply after
-    → AreAnswered seat log before (requests ++ request ∷ []) (replies ++ reply ∷ []) after
-one_more seat log before [] [] mid request reply after h one =
-    (after, subst (λ (s : Session). IsAnswered seat log s request reply after) h one, refl)
-one_more seat log before [] (r ∷ replies) mid request reply after h one = absurd h
-one_more seat log before (q ∷ requests) [] mid request reply after h one = absurd h
-one_more seat log before (q ∷ requests) (r ∷ replies) mid request reply after h one =
-    (h.0, h.1, one_more seat log h.0 requests replies mid request reply after h.2 one)
+all_later seat log log' before requests replies after b h =
+    chain_by (IsAnswered seat log) (IsAnswered seat log') (λ was request reply is one. answered_later seat log log' was request reply is b one)
+    before requests replies after h
 
 -- that reply at a later moment
 abbrev pub RepliesTo : Request → Moment → Moment → Reply → Type 0
@@ -46,7 +33,7 @@ more_each : (requests : List Request) (request : Request) (replies : List Reply)
     → AreAnswered a.seat b.log (session_of a) requests replies (session_of b) → GoesOn a b → GoesOn b c → RepliesTo request b c reply
     → AreAnswered a.seat c.log (session_of a) (requests ++ request ∷ []) (replies ++ reply ∷ []) (session_of c)
 more_each requests request replies reply a b c each g h r =
-    one_more a.seat c.log (session_of a) requests replies (session_of b) request reply (session_of c)
+    chain_more (IsAnswered a.seat c.log) (session_of a) requests replies (session_of b) request reply (session_of c)
     (all_later a.seat b.log c.log (session_of a) requests replies (session_of b) h.begins each)
     (subst (λ (n : ℕ). IsAnswered n c.log (session_of b) request reply (session_of c)) g.seat r.due)
 

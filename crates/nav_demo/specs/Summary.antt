@@ -10,10 +10,11 @@ use Rattle.nav_io.specs.Faults.{counted}
 use Rattle.nav_io.specs.Write.{HoldsPrefix}
 use Rattle.nav_proto.specs.declared.request.Request.{Request}
 use Rattle.nav_proto.specs.declared.reply.Reply.{Reply}
-use Rattle.nav_proto.specs.declared.reply.Reply.TheVariants.{Version, Done, Rows, Callers, Plain, BadRequest, Stale, Twice, AbsentFile, AbsentGrant, TooManyFiles, TooHeavy, BadFile}
+use Rattle.nav_proto.specs.declared.reply.Reply.TheVariants.{Rows, Callers, Plain}
 use Rattle.nav_proto.specs.declared.reply.PlainError.{PlainError}
-use Rattle.nav_proto.specs.declared.reply.PlainError.TheVariants.{BadJson, NoUser, Forbidden, Spent, NoFile, NoReference, NoDefinition, Crowded}
+use Rattle.nav_proto.specs.declared.reply.PlainError.TheVariants.{Crowded}
 use Rattle.nav_session.specs.Sessions.{Session, opened, IsAnswered}
+use Rattle.nav_session.specs.Chains.{IsChain}
 use Rattle.nav_session.specs.Transcripts.{with_newline}
 use Rattle.nav_demo.specs.declared.totals.Totals.{Totals}
 use Rattle.nav_demo.specs.MadeTree.{made_path, committing, queries}
@@ -22,62 +23,24 @@ use Rattle.nav_demo.specs.MadeTree.{made_path, committing, queries}
 
 -- whether it says that the reference is crowded
 abbrev pub is_crowded_error : PlainError → Bool
-is_crowded_error BadJson = false
-is_crowded_error NoUser = false
-is_crowded_error Forbidden = false
-is_crowded_error Spent = false
-is_crowded_error NoFile = false
-is_crowded_error NoReference = false
-is_crowded_error NoDefinition = false
 is_crowded_error Crowded = true
+is_crowded_error _ = false
 
 -- whether a reply is that error
 abbrev pub is_crowded : Reply → Bool
-is_crowded (Version n) = false
-is_crowded Done = false
-is_crowded (Rows answer) = false
-is_crowded (Callers rows) = false
 is_crowded (Plain error) = is_crowded_error error
-is_crowded (BadRequest field) = false
-is_crowded (Stale head) = false
-is_crowded (Twice path) = false
-is_crowded (AbsentFile path) = false
-is_crowded (AbsentGrant user prefix) = false
-is_crowded (TooManyFiles files) = false
-is_crowded (TooHeavy weight) = false
-is_crowded (BadFile path fault) = false
+is_crowded _ = false
 
 -- whether it says that a run was left out for its length or depth
 abbrev pub is_limited : Reply → Bool
-is_limited (Version n) = false
-is_limited Done = false
 is_limited (Rows answer) = answer.limit
-is_limited (Callers rows) = false
-is_limited (Plain error) = false
-is_limited (BadRequest field) = false
-is_limited (Stale head) = false
-is_limited (Twice path) = false
-is_limited (AbsentFile path) = false
-is_limited (AbsentGrant user prefix) = false
-is_limited (TooManyFiles files) = false
-is_limited (TooHeavy weight) = false
-is_limited (BadFile path fault) = false
+is_limited _ = false
 
 -- the rows that it answers with
 abbrev pub rows_of : Reply → List Row
-rows_of (Version n) = []
-rows_of Done = []
 rows_of (Rows answer) = answer.rows
 rows_of (Callers rows) = rows
-rows_of (Plain error) = []
-rows_of (BadRequest field) = []
-rows_of (Stale head) = []
-rows_of (Twice path) = []
-rows_of (AbsentFile path) = []
-rows_of (AbsentGrant user prefix) = []
-rows_of (TooManyFiles files) = []
-rows_of (TooHeavy weight) = []
-rows_of (BadFile path fault) = []
+rows_of _ = []
 
 -- ---- which file a row stands in
 
@@ -144,11 +107,7 @@ summary_text files t =
 
 -- the replies to requests, one after the other
 abbrev pub AreAnswered : ℕ → List Entry → Session → List Request → List Reply → Session → Type 0
-AreAnswered seat log before [] [] after = after ≡ before
-AreAnswered seat log before [] (reply ∷ replies) after = ⊥
-AreAnswered seat log before (request ∷ requests) [] after = ⊥
-AreAnswered seat log before (request ∷ requests) (reply ∷ replies) after =
-    (next : Session) × IsAnswered seat log before request reply next × AreAnswered seat log next requests replies after
+AreAnswered seat log = IsChain (IsAnswered seat log)
 
 -- The text is the summary of the made tree of so many files, drawn from that start: a session of the seat, opened with so
 -- many entries seen, was asked to commit the tree and then each query, and these are the totals of the replies to the
